@@ -214,7 +214,7 @@ module _ {D : Type 0} {tells : D → Option (List ℕ)} {clock : D → ℕ} {ima
 
   pub crashes_begin : (recorded : (records : RecordsOf last [] vault.ties.items) × (records.failed ≡ 0))
       (room : ℕ) (first : Number) (r : RuntimeState)
-      → r ≡ begun settled.decls settled.state r.stands.opening r.stands.slots settled.save settled.store room first
+      → r ≡ begun settled.decls settled.state r.stands settled.save settled.store room first
       → settled.saved.epoch ≡ epoch → epoch ≡ recovered.epoch → state ≡ recovered.state
       → CrashesNow clock image_at (parts_of vault)
       → AreLogs tells clock image_at (λ worker. []) (λ worker. []) r vault
@@ -222,7 +222,7 @@ module _ {D : Type 0} {tells : D → Option (List ℕ)} {clock : D → ℕ} {ima
       → KeptBefore tells clock image_at from recovers.reading settled.decls last epoch state [] [] (λ w. []) (λ w. []) r
       vault
   crashes_begin recorded room first r begins epoch_is saved_is state_is instant =
-      let start : RuntimeState = begun settled.decls settled.state r.stands.opening r.stands.slots settled.save settled.store room first in
+      let start : RuntimeState = begun settled.decls settled.state r.stands settled.save settled.store room first in
       subst (λ (x : RuntimeState). AreLogs tells clock image_at (λ worker. []) (λ worker. []) x vault
       → AreClosedFiles tells clock image_at (λ worker. []) (λ worker. []) x vault
       → KeptBefore tells clock image_at from recovers.reading settled.decls last epoch state [] [] (λ w. []) (λ w. []) x

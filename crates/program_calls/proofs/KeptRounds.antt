@@ -110,7 +110,7 @@ pub kept_begins : {D : Type 0} {tells : D → Option (List ℕ)} {clock : D → 
     (r : RuntimeState) → SettlesInto tells clock image_at recovered given old new settled
     → AreTold tells (parts_of old) found → (recovers : Recovers found recovered)
     → KeptSnapshots recovered settled
-    → r ≡ begun settled.decls settled.state r.stands.opening r.stands.slots settled.save settled.store room
+    → r ≡ begun settled.decls settled.state r.stands settled.save settled.store room
     (record { epoch = settled.saved.epoch + 1; draw = 1 })
     → AllByRecursion IsWhole settled.store.pages
     → AllByRecursion (AllByRecursion (λ w. w < 2 ^ 64)) (words_of settled.store.pages)
@@ -159,7 +159,7 @@ kept_begins {tells = tells} {clock = clock} {image_at = image_at} {recovered = r
       whole = whole;
       fit = fit;
     } in
-    let b : RuntimeState = begun settled.decls settled.state r.stands.opening r.stands.slots settled.save settled.store room
+    let b : RuntimeState = begun settled.decls settled.state r.stands settled.save settled.store room
     (record { epoch = saved + 1; draw = 1 }) in
     subst (λ (x : RuntimeState). AreLogs tells clock image_at (λ worker. []) (λ worker. []) x new
     → AreClosedFiles tells clock image_at (λ worker. []) (λ worker. []) x new

@@ -454,7 +454,7 @@ module _ {D : Type 0} {tells : D → Option Bytes} {clock : D → ℕ} {image_at
   pub begins_run : (is : Vault D) (settled : Settled) (runtime : RuntimeState) → SettlingLeaves tells clock image_at between r is
       → SettlesInto tells clock image_at r decls between is settled → KeptSnapshots r settled → AreQuiet faults between is
       → SettleRecords r true between is → IfSome r.saved (IsWithin r snap) → (IsStoreDue r → sequence_of r.save.newest ≡ last_sequence → ⊥)
-      → runtime ≡ begun settled.decls settled.state runtime.stands.opening runtime.stands.slots settled.save settled.store snap (clock_after settled.saved.epoch)
+      → runtime ≡ begun settled.decls settled.state runtime.stands settled.save settled.store snap (clock_after settled.saved.epoch)
       → (SharesWords runtime.stands → runtime.stands.slots ≡ slots)
       → AllByRecursion IsWholePage settled.store.pages → AllByRecursion (AllByRecursion (λ w. w < 2 ^ 64)) (words_of settled.store.pages)
       → StandsOn tells clock image_at runtime is
@@ -503,7 +503,7 @@ module _ {D : Type 0} {tells : D → Option Bytes} {clock : D → ℕ} {image_at
   -- the same over a vault that a call left as it was
   pub begins_over : (is now : Vault D) (settled : Settled) (runtime : RuntimeState) → SettlingLeaves tells clock image_at between r is → now ≡ is → SettlesInto tells clock image_at r decls between is settled → KeptSnapshots r settled → AreQuiet faults between is
       → SettleRecords r true between is → IfSome r.saved (IsWithin r snap) → (IsStoreDue r → sequence_of r.save.newest ≡ last_sequence → ⊥)
-      → runtime ≡ begun settled.decls settled.state runtime.stands.opening runtime.stands.slots settled.save settled.store snap (clock_after settled.saved.epoch)
+      → runtime ≡ begun settled.decls settled.state runtime.stands settled.save settled.store snap (clock_after settled.saved.epoch)
       → (SharesWords runtime.stands → runtime.stands.slots ≡ slots)
       → AllByRecursion IsWholePage settled.store.pages → AllByRecursion (AllByRecursion (λ w. w < 2 ^ 64)) (words_of settled.store.pages)
       → StandsOn tells clock image_at runtime now

@@ -480,7 +480,7 @@ module _ {D : Type 0} (tells : D → Option Bytes) (clock : D → ℕ) (image_at
       let begins : BeginsAt opening = λ found told.
       may_begin snap script.decls found b.recovered opening stored.0 (b.recovers found told) b.up.saved b.has b.fits b.sequence
       b.settles.state b.settles.epoch stored.1 stored.2 in
-      let start : RuntimeState = begun settled.decls settled.state r.stands.opening r.stands.slots settled.save settled.store snap (clock_after settled.saved.epoch) in
+      let start : RuntimeState = begun settled.decls settled.state r.stands settled.save settled.store snap (clock_after settled.saved.epoch) in
       let kept = λ (found : Images) (told : AreTold tells (parts_of was) found).
       let logs = b.logs_told found told in
       kept_begins found snap start b.settles (b.told found told) (b.recovers found told) b.snapshots refl b.pages_whole b.pages_fit

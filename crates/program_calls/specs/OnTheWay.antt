@@ -242,7 +242,7 @@ pub record BeginsRun {D : Type 0} (tells : D → Option Bytes) (clock : D → �
   pub sequence : IsStoreDue recovered → sequence_of recovered.save.newest ≡ last_sequence → ⊥
   pub settles : SettlesInto tells clock image_at recovered decls between is settled
   pub snapshots : KeptSnapshots recovered settled
-  pub begins : r ≡ begun settled.decls settled.state r.stands.opening r.stands.slots settled.save settled.store snap
+  pub begins : r ≡ begun settled.decls settled.state r.stands settled.save settled.store snap
       (clock_after settled.saved.epoch)
   pub slots_are : SharesWords r.stands → r.stands.slots ≡ slots
   pub pages_whole : AllByRecursion IsWholePage settled.store.pages

@@ -70,7 +70,7 @@ HaveSlots slots decls s rans = (storages : List Decl) × SameDecls decls storage
     × (are_arrays storages s ≡ true → AllByRecursion (λ ran. ran.beside.slots ≡ slots) rans)
 
 -- in the first of these rounds each try in conflict at a record met a line of another worker of its round; of one in
--- conflict at a pointer or a slot nobody is told
+-- conflict at a pointer or a slot nobody is told; and a line that found no slot may change some key
 abbrev pub AllMet : List Ran → List Round → Type 0
 AllMet [] rounds = ⊤
 AllMet (ran ∷ rans) (round ∷ rounds) = AreMet ran round × AllMet rans rounds
@@ -80,8 +80,8 @@ AllMet (ran ∷ rans) [] = ⊥
 -- of the savepoints, the marks of the workers, how often a line may be tried, and how many slots there are, which these
 -- causes speak of. Each number of a round was drawn for one of its commits, or for a try that was refused behind its
 -- draw. A try in conflict at a record met a line of another worker of its round, at a key that it touches and that one
--- may change; of one in conflict at a pointer or a slot nobody is told. Where a tree is declared nobody is in a line's
--- way.
+-- may change; of one in conflict at a pointer or a slot nobody is told. A line that found no slot may change some key.
+-- Where a tree is declared nobody is in a line's way.
 pub record AreRoundsCaused (slots tries : ℕ) (decls : List Decl) (rounds : List Round) (opening : Opening)
     (rans : List Ran) : Type 0 where
   pub caused : AllByRecursion AllCaused rans

@@ -30,7 +30,7 @@ use Rattle.worker_logs.specs.Saves.{CountsOf}
 use Rattle.worker_logs.specs.declared.savepoints.Side.TheVariants.{Even}
 use Rattle.round_engine.specs.Begun.{begun}
 use Rattle.round_engine.specs.Logs.{AreClosedFiles, AreLogs}
-use Rattle.round_engine.specs.Standing.{IsMarkBefore, StandsOn}
+use Rattle.round_engine.specs.Standing.{IsMarkBefore, IsPublished, Standing, StandsOn}
 
 -- what stands in a list of one thing
 pub replicate_at : {X : Type 0} (n i : ℕ) (x y : X) → slice_get (replicate n x) i ≡ Some y → x ≡ y
@@ -80,12 +80,12 @@ pub record IsSettledOn {D : Type 0} (tells : D → Option (List ℕ)) (decls : L
   pub most : room ≤ 65536
 
 module _ {D : Type 0} {tells : D → Option (List ℕ)} {clock : D → ℕ} {image_at : D → ℕ → List ℕ → Type 0} where
-  pub begun_logs : (decls : List Decl) (state : State) (opening : List (Key × Content)) (slots : ℕ) (save : SaveState)
+  pub begun_logs : (decls : List Decl) (state : State) (words : Standing) (save : SaveState)
       (store : StoreState) (room : ℕ) (first : Number) (vault : Vault D) → ((number : ℕ) (bank : D) → disk_in vault (Bank number) ≡ Some bank → tells bank ≡ Some [])
-      → AreLogs tells clock image_at (λ worker. []) (λ worker. []) (begun decls state opening slots save store room first) vault
+      → AreLogs tells clock image_at (λ worker. []) (λ worker. []) (begun decls state words save store room first) vault
       × AreClosedFiles tells clock image_at (λ worker. []) (λ worker. [])
-      (begun decls state opening slots save store room first) vault
-  begun_logs decls state opening slots save store room first vault empty = (
+      (begun decls state words save store room first) vault
+  begun_logs decls state words save store room first vault empty = (
     λ worker log bank at there.
         subst (λ (l : LogState). IsLog tells clock image_at [] [] l bank)
         (replicate_at 8 worker (fresh_log (first.epoch - 1)) log at)
@@ -105,14 +105,15 @@ module _ {D : Type 0} {tells : D → Option (List ℕ)} {clock : D → ℕ} {ima
     },
   )
 
-  pub begun_stands : (decls : List Decl) (state : State) (opening : List (Key × Content)) (slots : ℕ) (save : SaveState)
+  pub begun_stands : (decls : List Decl) (state : State) (words : Standing) (save : SaveState)
       (store : StoreState) (room : ℕ) (saved : Saved) (first : Number) (vault : Vault D) → Some saved ≡ option_map saved_of save.newest
       → first.epoch ≡ saved.epoch + 1 → IsWhole vault → save.down ≡ None
       → IsStored tells clock image_at vault.save save.newest
       → IsSettledOn tells decls store room saved.epoch vault.snaps
+      → IsPublished (begun decls state words save store room first)
       → (AlwaysTells tells → (number : ℕ) (bank : D) → disk_in vault (Bank number) ≡ Some bank → tells bank ≡ Some [])
-      → StandsOn tells clock image_at (begun decls state opening slots save store room first) vault
-  begun_stands decls state opening slots save store room saved first vault known next whole up stored settled empty =
+      → StandsOn tells clock image_at (begun decls state words save store room first) vault
+  begun_stands decls state words save store room saved first vault known next whole up stored settled published empty =
       let before : first.epoch - 1 ≡ saved.epoch = omega (arith, next) in
       record {
         whole = whole;
@@ -145,12 +146,13 @@ module _ {D : Type 0} {tells : D → Option (List ℕ)} {clock : D → ℕ} {ima
           up_to = omega (arith, settled.up_to, before);
           earlier = λ some. absurd (let no = some in cc);
           let_in = settled.let_in;
+          published = published;
         };
         reaches = λ worker log bank at there.
             subst (λ (l : LogState). IfTold (tells bank) (λ file. l.journal.durable ≤ length file))
             (replicate_at 8 worker (fresh_log (first.epoch - 1)) log at) (λ file told. omega arith);
         durable = λ always.
-            let logs = begun_logs decls state opening slots save store room first vault (empty always) in
+            let logs = begun_logs decls state words save store room first vault (empty always) in
             record {
               growing = λ worker log bank at there.
                   record { commits = []; durable = []; is = logs.0 worker log bank at there };

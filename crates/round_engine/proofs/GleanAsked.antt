@@ -141,6 +141,7 @@ module _ {D : Type 0} {tells : D → Option (List ℕ)} {clock : D → ℕ} {ima
           up_to = has.up_to;
           earlier = has.earlier;
           let_in = has.let_in;
+          published = has.published;
         };
     reaches = λ worker log bank at there.
         stands.reaches worker log bank (ap (λ logs. slice_get logs worker) (sym gleans.alone.logs) ∙ at)

@@ -28,7 +28,7 @@ use Rattle.tx_script.specs.Causes.{some_counted}
 use Rattle.worker_logs.specs.Saves.{closed_number}
 use Rattle.worker_logs.specs.declared.savepoints.Side.{Side}
 use Rattle.worker_logs.specs.declared.savepoints.Side.TheVariants.{Even, Odd}
-use Rattle.round_engine.specs.Gleans.{AddsNothing, ComesTo, FailsIn}
+use Rattle.round_engine.specs.Gleans.{AddsNothing, ComesTo, FailsIn, pages_after}
 use Rattle.round_engine.specs.Gleans.{AnswersGlean, closed_of, counted_after, device_of_glean, Gleans, GleansFiles, newest_in}
 use Rattle.round_engine.specs.Keeping.{CanKeep}
 use Rattle.round_engine.specs.Sides.{closed_in, growing_in, is_odd}
@@ -104,13 +104,17 @@ module _ {D : Type 0} {tells : D → Option (List ℕ)} {clock : D → ℕ} {ima
 module _ {D : Type 0} {tells : D → Option (List ℕ)} {clock : D → ℕ} {image_at : D → ℕ → List ℕ → Type 0} (faults : D → ℕ)
     (r : RuntimeState) (store : StoreState) (before now : Vault D) (newest : Newest)
     (ready : CanKeep tells clock image_at r before) (page : newest.page ≡ length r.store.pages)
-    (epoch : newest.epoch ≡ ready.snapshot.contents.epoch) (beside : Option Device) where
+    (epoch : newest.epoch ≡ ready.snapshot.contents.epoch) (beside : Option Device) (pages : List (List ℕ)) where
   abbrev Calls : Result Gleaned (OrMemory GleanFault) → Type 0
   Calls result = GleansFiles tells clock image_at faults r.stands.decls newest (closed_of r) r.room r.store store before.snaps
       now.snaps (closed_in r.side before) (closed_in r.side now) result beside
 
   abbrev after : Result Gleaned (OrMemory GleanFault) → RuntimeState
-  after result = record r { store = store; counted = counted_after result r.counted }
+  after result = record r {
+    stands = record r.stands { pages = pages };
+    store = store;
+    counted = counted_after result r.counted;
+  }
 
   newest_is : newest ≡ newest_in r ready.snapshot.contents
   newest_is = newest_ext newest (length r.store.pages) ready.snapshot.contents.epoch page epoch
@@ -224,8 +228,9 @@ module _ {D : Type 0} {tells : D → Option (List ℕ)} {clock : D → ℕ} {ima
   -- The closed side was gleaned.
   pub called : (result : Result Gleaned (OrMemory GleanFault)) → Calls result → now.save ≡ before.save
       → now.ties ≡ before.ties → now.cuts ≡ before.cuts → growing_in r.side now ≡ growing_in r.side before
+      → (0 < r.stands.slots → pages ≡ pages_after result r.stands.pages (words_of store.pages))
       → Gleans tells clock image_at faults r (after result) before now result beside
-  called result call save ties cuts growing = record {
+  called result call save ties cuts growing are = record {
     alone = record {
       stands = refl;
       save = refl;
@@ -237,6 +242,7 @@ module _ {D : Type 0} {tells : D → Option (List ℕ)} {clock : D → ℕ} {ima
     };
     sized = call.sized;
     grows = call.grows;
+    pages = are;
     save = save;
     ties = ties;
     cuts = cuts;
@@ -276,7 +282,7 @@ module _ {D : Type 0} {tells : D → Option (List ℕ)} {clock : D → ℕ} {ima
 
 module _ {D : Type 0} {tells : D → Option (List ℕ)} {clock : D → ℕ} {image_at : D → ℕ → List ℕ → Type 0} (faults : D → ℕ)
     (r : RuntimeState) (store : StoreState) (before now : Vault D) (newest : Newest) (closed : Closed)
-    (ready : CanKeep tells clock image_at r before) (closed_is : closed ≡ closed_of r) (beside : Option Device) where
+    (ready : CanKeep tells clock image_at r before) (closed_is : closed ≡ closed_of r) (beside : Option Device) (pages : List (List ℕ)) where
   -- what is known of the newest snapshot of a runtime
   pub record NewestKnown (q : RuntimeState) : Type 0 where
     pub page : newest.page ≡ length q.store.pages
@@ -291,22 +297,32 @@ module _ {D : Type 0} {tells : D → Option (List ℕ)} {clock : D → ℕ} {ima
 
   over_same : (result : Result Gleaned (OrMemory GleanFault)) → NewestKnown r → CallKnown r result → now.save ≡ before.save
       → now.ties ≡ before.ties → now.cuts ≡ before.cuts
-      → Gleans tells clock image_at faults r (record r { store = store; counted = counted_after result r.counted }) before now
-      result beside
-  over_same result known calls save ties cuts =
+      → (0 < r.stands.slots → pages ≡ pages_after result r.stands.pages (words_of store.pages))
+      → Gleans tells clock image_at faults r (record r {
+        stands = record r.stands { pages = pages };
+        store = store;
+        counted = counted_after result r.counted;
+      }) before now result beside
+  over_same result known calls save ties cuts are =
       called faults r store before now newest ready known.page
-      (known.epoch ready.snapshot.contents ready.snapshot.stands.here) beside result
+      (known.epoch ready.snapshot.contents ready.snapshot.stands.here) beside pages result
       (subst (λ x. GleansFiles tells clock image_at faults r.stands.decls newest x r.room r.store store before.snaps now.snaps
-      (closed_in r.side before) (closed_in r.side now) result beside) closed_is calls.call) save ties cuts calls.growing
+      (closed_in r.side before) (closed_in r.side now) result beside) closed_is calls.call) save ties cuts calls.growing are
 
   pub called_over : (q : RuntimeState) → q ≡ r → (result : Result Gleaned (OrMemory GleanFault)) → NewestKnown q
       → CallKnown q result → now.save ≡ before.save → now.ties ≡ before.ties → now.cuts ≡ before.cuts
-      → Gleans tells clock image_at faults r (record q { store = store; counted = counted_after result r.counted }) before now
-      result beside
-  called_over q same result known calls save ties cuts =
-      subst (λ x. NewestKnown x → CallKnown x result → Gleans tells clock image_at faults r
-      (record x { store = store; counted = counted_after result r.counted }) before now result beside) (sym same)
-      (λ k c. over_same result k c save ties cuts) known calls
+      → (0 < r.stands.slots → pages ≡ pages_after result r.stands.pages (words_of store.pages))
+      → Gleans tells clock image_at faults r (record q {
+        stands = record r.stands { pages = pages };
+        store = store;
+        counted = counted_after result r.counted;
+      }) before now result beside
+  called_over q same result known calls save ties cuts are =
+      subst (λ x. NewestKnown x → CallKnown x result → Gleans tells clock image_at faults r (record x {
+        stands = record r.stands { pages = pages };
+        store = store;
+        counted = counted_after result r.counted;
+      }) before now result beside) (sym same) (λ k c. over_same result k c save ties cuts are) known calls
 
   can_same : NewestKnown r → r.closed_at < last_epoch → none_counted closed.lengths ≢ true
       → (contents : Contents) × CanGlean (words_of r.store.pages) r.stands.decls newest closed contents

@@ -1,13 +1,14 @@
 -- A line of the maintenance thread that asks for a snapshot.
 use Rattle.std.proofs.Common.{◌≡◌, ◌∙◌, ◌≤◌, ◌<◌, ◌*◌, ◌+◌, ◌++◌, ◌∷◌, inl, inr, sym, ap, subst, refl, ℕ}
-use Rattle.std.proofs.Common.{List, [], length, map, length-append, Bool, true, false, Option, Some, None, arith}
+use Rattle.std.proofs.Common.{List, [], length, map, length-append, Bool, true, false, true≢false, Option, Some, None}
+use Rattle.std.proofs.Common.{arith, ◌⊎◌}
 use Rattle.std.specs.Prelude.{is_some, not, Result, Ok, Err, option_to_list}
 use Rattle.std.specs.List.{AllByRecursion, Contains, list_any}
 use Rattle.std.proofs.lemmas.Bool.{cases_Bool, cases_lt}
-use Rattle.std.proofs.lemmas.List.{length-map}
+use Rattle.std.proofs.lemmas.List.{length-map, map-append}
 use Rattle.std.proofs.lemmas.Option.{same_Some}
 use Rattle.lists.specs.Elements.{in_cases, in_head, in_none}
-use Rattle.lists.specs.Fronts.{front_then, IsFront}
+use Rattle.lists.specs.Fronts.{front_from, front_then, IsFront}
 use Rattle.lists.specs.declared.memory.OrMemory.{OrMemory}
 use Rattle.lists.specs.declared.memory.OrMemory.TheVariants as or
 use Rattle.outside.specs.Disk.{Runs}
@@ -48,7 +49,8 @@ use Rattle.worker_logs.specs.Saves.{closed_number, logs_marks, saved_epoch}
 use Rattle.worker_logs.specs.declared.savepoints.Beside.{Beside}
 use Rattle.worker_logs.specs.declared.savepoints.Side.{Side}
 use Rattle.worker_logs.specs.declared.savepoints.Side.TheVariants.{Even, Odd}
-use Rattle.round_engine.specs.Gleans.{AddsPages, AddsSnapshot, AddsNothing, AnswersGlean, FailsIn, FindsDamage, Gleans}
+use Rattle.round_engine.specs.Gleans.{AddsPages, AddsSnapshot, AddsNothing, AnswersGlean, CanPublish, FailsIn, FindsDamage}
+use Rattle.round_engine.specs.Gleans.{Gleans, has_made, pages_after}
 use Rattle.round_engine.specs.Ends.{first_device}
 use Rattle.round_engine.specs.Gleans.{device_of_glean, devices_of_glean, GleansQuietly, IsFound, LeaveGleans, RoundGleans}
 use Rattle.round_engine.specs.Keeping.{epoch_now, IsSavedBySeen, MarksOf}
@@ -56,7 +58,7 @@ use Rattle.round_engine.specs.Keeping.{CanKeep, glean_answer, glean_refusal, is_
 use Rattle.round_engine.specs.Keeping.{refusal_beside, refusal_told, RestsOn, RunsKeeper, StepsGlean}
 use Rattle.round_engine.specs.Saves.{AreSavedIn, beside_at_end, saves_told}
 use Rattle.round_engine.specs.Sides.{closed_in, is_odd}
-use Rattle.round_engine.specs.Standing.{beside_of, HasSnapshot, RuntimeState, Standing}
+use Rattle.round_engine.specs.Standing.{beside_of, HasSnapshot, IsPublished, RuntimeState, Standing}
 use Rattle.round_engine.specs.declared.report.End.{End}
 use Rattle.round_engine.specs.declared.report.End.TheVariants as ends
 use Rattle.round_engine.proofs.GleanDevices.{damage_beside, device_told, in_option, memory_beside, none_beside, some_beside}
@@ -64,6 +66,7 @@ use Rattle.round_engine.proofs.GleansThen.{no_snap, none_of_zeros}
 use Rattle.round_engine.proofs.KeepingSaves.{some_there}
 use Rattle.round_engine.proofs.PlainLine.{TellsNone}
 use Rattle.round_engine.proofs.Places.{within_of}
+use Rattle.round_engine.proofs.Published.{pages_either, pages_made}
 
 -- ---- pages and their bytes
 
@@ -208,7 +211,8 @@ module _ {D : Type 0} {tells : D → Option (List ℕ)} {clock : D → ℕ} {ima
     needs = needs;
     rise = λ low. (tt, subst (λ e. epoch_of r.save.newest ≤ e) (sym same_now) low);
     later = omega (arith, same_epoch);
-    stands = gleans.alone.stands ∙ ap (λ e. record r.stands { clock = record r.stands.clock { epoch = e } }) (sym same_epoch);
+    stands = gleans.alone.stands
+        ∙ ap (λ e. record r.stands { clock = record r.stands.clock { epoch = e }; pages = new.stands.pages }) (sym same_epoch);
     logs = gleans.alone.logs;
     is_down = gleans.alone.down;
     count = refl;
@@ -238,6 +242,17 @@ module _ {D : Type 0} {tells : D → Option (List ℕ)} {clock : D → ℕ} {ima
       → AdvancesTo r.stands.clock.epoch (answer ∷ []) r.stands.clock.epoch → IsAnswered answer
   answered_plain answer unsaved none stays = record { unsaved = unsaved; none_in = none; stays = stays }
 
+  -- the engine has all pages
+  published_behind : (0 < r.stands.slots
+      → pages_after result r.stands.pages (words_of new.store.pages) ≡ words_of new.store.pages) → IsPublished r
+      → IsPublished new
+  published_behind is was some =
+      let same = gleans.alone.stands in
+      let first : 0 < r.stands.slots = subst (λ n. 0 < n) (ap (λ (s : Standing). s.slots) same) some in (
+        gleans.pages first ∙ is first,
+        ap (λ (s : Standing). s.resident) same ∙ ((was first).1 ∙ sym gleans.alone.room),
+      )
+
   -- the newest snapshot stays
   snapshot_same : AddsNothing r new vault now → HasSnapshot tells r vault.snaps → HasSnapshot tells new now.snaps
   snapshot_same same h = record {
@@ -253,6 +268,8 @@ module _ {D : Type 0} {tells : D → Option (List ℕ)} {clock : D → ℕ} {ima
       gleans.alone.closed_at,
     );
     let_in = omega (arith, h.let_in, gleans.alone.room, ap (λ (s : StoreState). length s.pages) same.store);
+    published = published_behind (λ some. pages_either result r.stands.pages (words_of new.store.pages)
+        ((h.published some).0 ∙ ap (λ (s : StoreState). words_of s.pages) (sym same.store))) h.published;
   }
 
   -- nothing was added
@@ -473,6 +490,8 @@ module _ {D : Type 0} {tells : D → Option (List ℕ)} {clock : D → ℕ} {ima
               up_to = omega (arith, last.epoch_is, gleans.alone.closed_at);
               earlier = λ some. absurd (none_of_zeros new.counted adds.counted some);
               let_in = omega (arith, size, within, gleans.alone.room);
+              published = published_behind (λ some. pages_made result r.stands.pages (words_of new.store.pages)
+                  (ap has_made is)) h.published;
             };
         over = gleans.over;
         quietly = subst (λ d. GleansQuietly tells clock image_at faults r d vault now)
@@ -487,6 +506,45 @@ module _ {D : Type 0} {tells : D → Option (List ℕ)} {clock : D → ℕ} {ima
         rests.gleans_are (Some count) (in_head (Some count) []),
         omega (arith, within, rests.room),
       ))
+
+  -- the pages of a snapshot that was made may be published
+  made_pages : (answer : Result Gleaned (OrMemory GleanFault)) → result ≡ answer → has_made answer ≡ true
+      → 0 < r.stands.slots → CanPublish new.store.pages r.stands
+  made_pages (Ok Empty) is has some = absurd (true≢false (sym has))
+  made_pages (Err fault) is has some = absurd (true≢false (sym has))
+  made_pages (Ok (Snap epoch count)) is has some =
+      let counted : some_counted r.counted ≡ true = by_count (cases_Bool (some_counted r.counted)) in
+      let adds : AddsPages tells clock image_at r new vault now count =
+      (subst (AnswersGlean tells clock image_at faults r new vault now) is (gleans.answers counted)).1 in
+      let added = adds.adds in
+      let size : length new.store.pages ≡ length r.store.pages + count =
+      sym (length-map new.store.pages (λ p. Page.words p)) ∙ gleaned_count added.gleaned
+      ∙ ap (λ n. n + count) (length-map r.store.pages (λ p. Page.words p)) in
+      let within : length r.store.pages + count ≤ r.room =
+      subst (λ n. n + count ≤ r.room) (length-map r.store.pages (λ p. Page.words p)) added.gleaned.within in
+      let h = ready.snapshot in
+      let one : h.contents ≡ added.contents = one_catalogue (length r.store.pages) h.contents added.contents
+      h.stands.here.catalogue added.newest.here.catalogue (sym h.stands.here.words ∙ added.newest.here.words) in
+      let last = gleaned_stands added.contents added.gleaned added.newest.here (h.decls ∙ ap decls_of one) in
+      let known = h.published some in
+      let low = known.1 in
+      record {
+        front = subst (λ (ps : List (List ℕ)). IsFront ps (words_of new.store.pages)) (sym known.0)
+            (front_from (words_of r.store.pages) (words_of gleans.grows.0) (words_of new.store.pages)
+            (sym (ap words_of gleans.grows.1 ∙ map-append (λ p. Page.words p) r.store.pages gleans.grows.0)));
+        contents = last.contents;
+        stands = subst (λ n. SnapshotStands (words_of new.store.pages) n last.contents)
+            (length-map new.store.pages (λ p. Page.words p)) last.stands;
+        decls = sym last.decls_are;
+        room = omega (arith, size, within, low);
+      }
+    where
+      by_count : (some_counted r.counted ≡ true) ⊎ (some_counted r.counted ≡ false) → some_counted r.counted ≡ true
+      by_count (inl there) = there
+      by_count (inr miss) = absurd (let bad = sym is ∙ (gleans.none miss).0 in cc)
+
+  pub can_publish : has_made result ≡ true → 0 < r.stands.slots → CanPublish new.store.pages r.stands
+  can_publish has some = made_pages result refl has some
 
   damaged_line : (device : Device) (at : ℕ) → result ≡ Err (or.Fault (glean_faults.Damaged device at))
       → FindsDamage tells r vault device at → AddsNothing r new vault now → some_counted r.counted ≡ true

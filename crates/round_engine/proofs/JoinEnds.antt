@@ -49,6 +49,7 @@ use Rattle.round_engine.proofs.Saved.{nothing_saved}
 use Rattle.round_engine.proofs.Turned.{SwapLeaves, TurnsBehind, stands_cut, stands_turned, swap_leaves, turned_if, turned_ended}
 use Rattle.round_engine.proofs.Whole.{IsAtRest, below_8}
 use Rattle.round_engine.proofs.Places.{item_at, map_at}
+use Rattle.round_engine.proofs.Published.{published_then}
 
 -- ---- marks and epochs
 
@@ -448,6 +449,12 @@ module _ {D : Type 0} {tells : D → Option (List ℕ)} {clock : D → ℕ} {ima
         facts.snapshot.earlier (ap some_counted (sym (ap (λ (x : RuntimeState). x.counted) facts.runs.alone)) ∙ some),
       );
       let_in = omega (arith, ap (λ (x : RuntimeState). length x.store.pages) facts.runs.alone, ap (λ (x : RuntimeState). x.room) facts.runs.alone, facts.snapshot.let_in);
+      published = published_then r.stands joined.stands r.store.pages joined.store.pages r.room joined.room (record {
+        slots = ap (λ (x : Standing). x.slots) facts.runs.stands;
+        pages = ap (λ (x : Standing). x.pages) facts.runs.stands;
+        resident = ap (λ (x : Standing). x.resident) facts.runs.stands;
+      }) (ap (λ (x : RuntimeState). x.room) facts.runs.alone) (ap (λ (x : RuntimeState). x.store.pages) facts.runs.alone)
+          facts.snapshot.published;
     };
     reaches = λ w log bank at there.
         let below = below_8 joined.logs w log at joined_many in

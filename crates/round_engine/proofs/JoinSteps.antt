@@ -234,6 +234,7 @@ module _ {D : Type 0} (tells : D → Option (List ℕ)) (clock : D → ℕ) (ima
         up_to = snapshot.up_to;
         earlier = snapshot.earlier;
         let_in = snapshot.let_in;
+        published = snapshot.published;
       });
       durable = durable;
     }

@@ -290,7 +290,10 @@ module _ {D : Type 0} {tells : D → Option (List ℕ)} {clock : D → ℕ} {ima
     rise = risen;
     later = omega (arith, first.later, next.later);
     stands = next.stands
-        ∙ ap (λ (s : Standing). record s { clock = record s.clock { epoch = new.stands.clock.epoch } }) first.stands;
+        ∙ ap (λ (s : Standing). record s {
+          clock = record s.clock { epoch = new.stands.clock.epoch };
+          pages = new.stands.pages;
+        }) first.stands;
     logs = next.logs ∙ first.logs;
     is_down = next.is_down ∙ first.is_down;
     count = length-append said told ∙ ap (λ n. n + length told) first.count ∙ ap (λ n. length lines + n) next.count

@@ -9,7 +9,8 @@ pub mod Fronts
 pub mod Loops
 pub mod Places
 pub mod SharesRun
-pub mod RoundCases
+pub mod Published
+mod RoundCases
 pub mod RoundDone
 pub mod RoundStops
 pub mod Saved

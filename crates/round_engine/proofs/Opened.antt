@@ -180,8 +180,8 @@ pub record Starts (pages : List Page) (ss : List Stored) (state : State) (l : La
   pub opens : (k : Key) → content_at l.opening k ≡ stands_in (words_of pages) ss k
   pub state_is : opened l.opening ≡ state
 
-module _ (pages : List Page) (contents : Contents) (state : State) (first : Number) (slots : ℕ) (few : length pages ≤ 65536)
-    (some : 1 ≤ slots) (most : slots ≤ 4096) (declared : AreDecls (decls_of contents))
+module _ (pages : List Page) (contents : Contents) (state : State) (first : Number) (slots room : ℕ)
+    (many : length pages ≤ room) (few : room ≤ 65536) (some : 1 ≤ slots) (most : slots ≤ 4096) (declared : AreDecls (decls_of contents))
     (arrays : are_arrays (decls_of contents) state ≡ true) (number : IsNumber first)
     (is : IsNewestSnapshot (words_of pages) (length pages) (decls_of contents) state (first.epoch - 1) contents) where
   abbrev ps : List (List ℕ)
@@ -191,7 +191,7 @@ module _ (pages : List Page) (contents : Contents) (state : State) (first : Numb
   ss = contents.storages
 
   abbrev start : Layout
-  start = first_layout first (decls_of contents) ss slots pages
+  start = first_layout first (decls_of contents) ss slots room pages
 
   abbrev again : List Stored
   again = storages (decls_of contents) (map root_in ss)
@@ -205,7 +205,7 @@ module _ (pages : List Page) (contents : Contents) (state : State) (first : Numb
     pages = pages;
     are = refl;
     opens = record {
-      few = few;
+      few = omega (arith, many, few);
       declared = declared;
       each = length-map ss root_in ∙ sym (length-map ss stored_decl);
       stand = subst (AllByRecursion (RootStands ps)) (sym (stored_again ss)) is.stands.roots;
@@ -216,7 +216,7 @@ module _ (pages : List Page) (contents : Contents) (state : State) (first : Numb
     some = omega (arith, some);
     slots = most;
     resident = few;
-    within = let long = length-map pages Page.words in omega (arith, long);
+    within = let long = length-map pages Page.words in omega (arith, long, many);
   }
 
   -- each key has the content that the pages have
@@ -246,13 +246,13 @@ module _ (pages : List Page) (contents : Contents) (state : State) (first : Numb
   }
 
 -- so it is for the storages that a state was recovered with
-pub starts : (pages : List Page) (contents : Contents) (decls : List Decl) (state : State) (first : Number) (slots : ℕ)
-    → length pages ≤ 65536 → 1 ≤ slots → slots ≤ 4096 → AreDecls decls → are_arrays decls state ≡ true → IsNumber first
+pub starts : (pages : List Page) (contents : Contents) (decls : List Decl) (state : State) (first : Number)
+    (slots room : ℕ) → length pages ≤ room → room ≤ 65536 → 1 ≤ slots → slots ≤ 4096 → AreDecls decls → are_arrays decls state ≡ true → IsNumber first
     → IsNewestSnapshot (words_of pages) (length pages) decls state (first.epoch - 1) contents
-    → Starts pages contents.storages state (first_layout first decls contents.storages slots pages)
-starts pages contents decls state first slots few some most declared arrays number is =
+    → Starts pages contents.storages state (first_layout first decls contents.storages slots room pages)
+starts pages contents decls state first slots room many few some most declared arrays number is =
     let same : decls ≡ decls_of contents = is.decls_are in
-    subst (λ ds. Starts pages contents.storages state (first_layout first ds contents.storages slots pages)) (sym same)
-    (starts_here pages contents state first slots few some most (subst AreDecls same declared)
+    subst (λ ds. Starts pages contents.storages state (first_layout first ds contents.storages slots room pages)) (sym same)
+    (starts_here pages contents state first slots room many few some most (subst AreDecls same declared)
     (subst (λ ds. are_arrays ds state ≡ true) same arrays) number
     (subst (λ ds. IsNewestSnapshot (words_of pages) (length pages) ds state (first.epoch - 1) contents) same is))

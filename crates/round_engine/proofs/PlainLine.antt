@@ -30,6 +30,7 @@ use Rattle.round_engine.specs.Standing.{beside_of, RuntimeState}
 use Rattle.round_engine.proofs.Beside.{keeps_none}
 use Rattle.round_engine.proofs.GleansThen.{no_snap, snap_in}
 use Rattle.round_engine.proofs.KeeperThen.{where_memory}
+use Rattle.round_engine.proofs.Published.{SamePages, published_then}
 
 -- ---- no glean
 
@@ -37,6 +38,7 @@ use Rattle.round_engine.proofs.KeeperThen.{where_memory}
 pub record Ungleaned {D : Type 0} (old new : RuntimeState) (before now : Vault D) : Type 0 where
   pub store : new.store ≡ old.store
   pub decls : new.stands.decls ≡ old.stands.decls
+  pub pages : SamePages old.stands new.stands
   pub room : new.room ≡ old.room
   pub side : new.side ≡ old.side
   pub counted : new.counted ≡ old.counted
@@ -110,6 +112,8 @@ module _ {D : Type 0} (tells : D → Option (List ℕ)) (clock : D → ℕ) (ima
           up_to = omega (arith, h.up_to, same.closed_at);
           earlier = λ some. omega (arith, h.earlier (subst (λ l. some_counted l ≡ true) same.counted some), same.closed_at);
           let_in = omega (arith, h.let_in, same.room, ap (λ (s : StoreState). length s.pages) same.store);
+          published = published_then old.stands new.stands old.store.pages new.store.pages old.room new.room same.pages same.room
+              (ap (λ (s : StoreState). s.pages) same.store) h.published;
         };
     over = over_none;
     quietly = record {
@@ -159,6 +163,7 @@ module _ {D : Type 0} {tells : D → Option (List ℕ)} {clock : D → ℕ} {ima
       let same : Ungleaned r (at_epoch r epoch) vault vault = record {
         store = refl;
         decls = refl;
+        pages = record { slots = refl; pages = refl; resident = refl };
         room = refl;
         side = refl;
         counted = refl;

@@ -202,6 +202,7 @@ module _ {D : Type 0} {tells : D → Option (List ℕ)} {clock : D → ℕ} {ima
           up_to = has.up_to;
           earlier = has.earlier;
           let_in = has.let_in;
+          published = has.published;
         }));
     reaches = λ w log bank at there.
         let log_at = ap (λ l. slice_get l w) (sym logs_are) ∙ at in

@@ -66,6 +66,7 @@ use Rattle.round_engine.proofs.RoundDone.{start_up}
 use Rattle.round_engine.proofs.Saved.{IsOver, lines_weaker, over_begin, over_end}
 use Rattle.round_engine.proofs.Whole.{below_8}
 use Rattle.round_engine.proofs.Places.{item_at}
+use Rattle.round_engine.proofs.Published.{lines_same, published_then}
 
 -- a mark of this epoch at least, or of an idle worker
 abbrev pub IsAtLeast : ℕ → Option ℕ → Type 0
@@ -385,6 +386,8 @@ module _ {D : Type 0} {tells : D → Option (List ℕ)} {clock : D → ℕ} {ima
         up_to = has.up_to;
         earlier = has.earlier;
         let_in = has.let_in;
+        published = published_then old.stands all.mid.stands old.store.pages old.store.pages old.room old.room
+            (lines_same all.lines.over.runs) refl refl has.published;
       }))
 
   pub kept_snapshot : all.kept.store.sound ≡ true → HasSnapshot tells all.kept all.after.snaps

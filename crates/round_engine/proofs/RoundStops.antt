@@ -59,6 +59,7 @@ use Rattle.round_engine.proofs.JoinEnds.{before_later}
 use Rattle.round_engine.proofs.RoundDone.{idled_up, logs_caused, round_marks, same_closed_in}
 use Rattle.round_engine.proofs.Whole.{LogsTotal, below_8, epochs_at, first_epochs, leaves_vault, round_front}
 use Rattle.round_engine.proofs.Places.{item_at, map_at, within_of}
+use Rattle.round_engine.proofs.Published.{lines_same, published_then}
 
 -- the mark of a worker that ran in part
 pub mark_stopped : (lines : List (List Op)) (was begins log : LogState) (epoch high : ℕ) → 1 ≤ epoch → epoch ≤ high
@@ -336,6 +337,8 @@ module _ {D : Type 0} {tells : D → Option (List ℕ)} {clock : D → ℕ} {ima
           up_to = has.up_to;
           earlier = has.earlier;
           let_in = has.let_in;
+          published = published_then old.stands mid.stands old.store.pages old.store.pages old.room old.room
+              (lines_same runs) refl refl has.published;
         }));
     reaches = λ w log bank at there.
         let below = below_8 mid.logs w log at (part.stops.over.logs_length ∙ start_many) in

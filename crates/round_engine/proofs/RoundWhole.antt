@@ -71,6 +71,7 @@ module _ {D : Type 0} {tells : D → Option (List ℕ)} {clock : D → ℕ} {ima
           up_to = has.up_to;
           earlier = has.earlier;
           let_in = has.let_in;
+          published = has.published;
         };
         durable = λ always. stand_start round old.stands.clock.epoch ready.logs stands.workers start_many idle
             (stands.durable always);

@@ -1,5 +1,5 @@
 -- The phases of a round, put together from its calls.
-use Rattle.std.proofs.Common.{◌≡◌, ◌∙◌, ◌<◌, sym, ap, subst, ℕ, List, length, false, true}
+use Rattle.std.proofs.Common.{◌≡◌, ◌∙◌, ◌<◌, refl, sym, ap, subst, ℕ, List, length, false, true}
 use Rattle.std.proofs.Common.{Option, None, arith}
 use Rattle.std.specs.Prelude.{◌^◌, is_some}
 use Rattle.std.specs.List.{AllByRecursion}
@@ -42,6 +42,7 @@ use Rattle.round_engine.proofs.Saved.{IsOver, over_begin, over_end}
 use Rattle.round_engine.proofs.SharesRun.{same_decls}
 use Rattle.round_engine.proofs.Whole.{below_8}
 use Rattle.round_engine.proofs.Places.{item_at}
+use Rattle.round_engine.proofs.Published.{lines_same, published_then}
 
 pub same_growing_in : {D : Type 0} (side : Side) (old new : Vault D) → RoomAlone old new → growing_in side new ≡ growing_in side old
 same_growing_in Even old new room = ap (λ v. v.items) room.even
@@ -117,6 +118,8 @@ module _ {D : Type 0} {tells : D → Option (List ℕ)} {clock : D → ℕ} {ima
         up_to = ready.snapshot.up_to;
         earlier = ready.snapshot.earlier;
         let_in = ready.snapshot.let_in;
+        published = published_then r.stands mid.stands r.store.pages r.store.pages r.room r.room
+            (lines_same lines.over.runs) refl refl ready.snapshot.published;
       }))
 
   between_whole : IsWhole between

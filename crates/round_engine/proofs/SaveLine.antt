@@ -74,6 +74,7 @@ module _ {D : Type 0} {tells : D → Option (List ℕ)} {clock : D → ℕ} {ima
     ungleaned result saves = record {
       store = refl;
       decls = refl;
+      pages = record { slots = refl; pages = refl; resident = refl };
       room = refl;
       side = refl;
       counted = refl;

@@ -192,6 +192,7 @@ module _ {D : Type 0} {tells : D → Option (List ℕ)} {clock : D → ℕ} {ima
       up_to = omega (arith, has.up_to, since);
       earlier = λ some. omega (arith, has.up_to, since);
       let_in = has.let_in;
+      published = has.published;
     };
     reaches = λ w log bank at there.
         let l = map_at reset_log r.logs w log at in

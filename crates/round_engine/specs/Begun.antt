@@ -1,10 +1,9 @@
 -- How a runtime begins.
-use Rattle.std.specs.Prelude.{◌≡◌, ◌-◌, ℕ, List, [], replicate, false}
+use Rattle.std.specs.Prelude.{◌≡◌, ◌-◌, ◌<◌, ℕ, List, [], replicate, false}
 use Rattle.serial_model.specs.State.{State}
 use Rattle.serial_model.specs.declared.decl.Decl.{Decl}
 use Rattle.serial_model.specs.declared.key.Key.{Key}
 use Rattle.serial_model.specs.declared.number.Number.{Number}
-use Rattle.homes.specs.declared.places.Content.{Content}
 use Rattle.wire_form.specs.Pages.{Contents}
 use Rattle.log_writer.specs.Points.{SaveState}
 use Rattle.snapshot_store.specs.Content.{SnapshotStands}
@@ -17,16 +16,14 @@ use Rattle.round_engine.specs.FirstRecords.{stands_in}
 use Rattle.round_engine.specs.LineEngines.{SharesWords}
 use Rattle.round_engine.specs.Standing.{RuntimeState}
 
--- the engine in a state, with what stood at keys as its words were made, at this number, with so many slots
-abbrev pub begins_at : List Decl → State → List (Key × Content) → Number → ℕ → Standing
-begins_at decls state opening first slots = record {
+-- the engine in a state, at this number, where nothing was run, over words such as these
+abbrev pub begins_at : List Decl → State → Standing → Number → Standing
+begins_at decls state words first = record words {
   decls = decls;
   state = state;
-  opening = opening;
   clock = first;
   mine = [];
   conflicts = 0;
-  slots = slots;
   ended = false;
 }
 
@@ -37,19 +34,20 @@ OpensOn pages number s = SharesWords s → (contents : Contents) → SnapshotSta
     → content_at s.opening key ≡ stands_in pages contents.storages key
 
 -- An engine begins in this state, at this number, and opens with the records of that snapshot. Words that threads share
--- have so many slots.
-pub record Begins (pages : List (List ℕ)) (number : ℕ) (decls : List Decl) (state : State) (first : Number) (slots : ℕ)
-    (s : Standing) : Type 0 where
-  pub stands : s ≡ begins_at decls state s.opening first s.slots
+-- have so many slots, these pages, and room for as many as are let in.
+pub record Begins (pages : List (List ℕ)) (number : ℕ) (decls : List Decl) (state : State) (first : Number)
+    (slots room : ℕ) (s : Standing) : Type 0 where
+  pub stands : s ≡ begins_at decls state s first
   pub opens : OpensOn pages number s
   pub slots_are : SharesWords s → s.slots ≡ slots
+  pub pages_are : 0 < s.slots → (s.pages ≡ pages) × (s.resident ≡ room)
 
--- In a settled state with its stores, at this number, with so many slots, and so many pages let in. All log files are
--- empty: those of even number grow, with empty logs marked at the epoch before, which is also that at which the others
+-- In a settled state with its stores, at this number, over words such as these, and so many pages let in. All log files
+-- are empty: those of even number grow, with empty logs marked at the epoch before, which is also that at which the others
 -- were closed.
-abbrev pub begun : List Decl → State → List (Key × Content) → ℕ → SaveState → StoreState → ℕ → Number → RuntimeState
-begun decls state opening slots save store room first = record {
-  stands = begins_at decls state opening first slots;
+abbrev pub begun : List Decl → State → Standing → SaveState → StoreState → ℕ → Number → RuntimeState
+begun decls state words save store room first = record {
+  stands = begins_at decls state words first;
   save = save;
   store = store;
   room = room;

@@ -1,5 +1,5 @@
 -- What the pages of a snapshot have at keys, and what an engine over them is made from.
-use Rattle.std.specs.Prelude.{◌≡◌, ◌≤◌, ℕ, List, [], ◌∷◌, cond, length, map}
+use Rattle.std.specs.Prelude.{◌≡◌, ℕ, List, [], ◌∷◌, cond, length, map}
 use Rattle.serial_model.specs.Keys.{has_key_of}
 use Rattle.serial_model.specs.declared.decl.Decl.{Decl}
 use Rattle.serial_model.specs.declared.key.Key.{Key}
@@ -24,16 +24,16 @@ stands_in pages (s ∷ more) k =
 abbrev pub root_in : Stored → ℕ
 root_in s = s.root
 
--- an engine over all these pages, for storages with these roots, which gives this number first and has so many slots
-abbrev pub first_layout : Number → List Decl → List Stored → ℕ → List Page → Layout
-first_layout first decls storages slots pages =
-    layout_of first decls (map root_in storages) slots (length pages) (words_of pages)
+-- an engine over all these pages, for storages with these roots, which gives this number first, has so many slots, and
+-- has room for so many pages
+abbrev pub first_layout : Number → List Decl → List Stored → ℕ → ℕ → List Page → Layout
+first_layout first decls storages slots room pages =
+    layout_of first decls (map root_in storages) slots room (words_of pages)
 
 -- What an engine begins with that is made of all pages of a store: the storages are those of the catalogue on the last
 -- page.
-pub record IsOfNewest (first : Number) (decls : List Decl) (slots : ℕ) (pages : List Page) (start : Layout)
+pub record IsOfNewest (first : Number) (decls : List Decl) (slots room : ℕ) (pages : List Page) (start : Layout)
     : Type 0 where
   pub storages : List Stored
   pub are : (contents : Contents) → CatalogueAt (words_of pages) (length pages) contents → storages ≡ contents.storages
-  pub few : length pages ≤ 65536
-  pub start_is : start ≡ first_layout first decls storages slots pages
+  pub start_is : start ≡ first_layout first decls storages slots room pages

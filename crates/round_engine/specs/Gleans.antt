@@ -12,9 +12,10 @@ use Rattle.outside.specs.Reads.{OnlyReads}
 use Rattle.outside.specs.declared.device.Device.{Device}
 use Rattle.outside.specs.declared.device.Device.TheVariants.{Bank, Snaps}
 use Rattle.log_writer.specs.declared.vault.Vault.{Vault}
-use Rattle.wire_form.specs.Pages.{Contents}
+use Rattle.wire_form.specs.Pages.{Contents, decls_of}
 use Rattle.wire_form.specs.declared.page.Page.{Page}
-use Rattle.snapshot_store.specs.Content.{CatalogueAt, words_of}
+use Rattle.lists.specs.Fronts.{IsFront}
+use Rattle.snapshot_store.specs.Content.{CatalogueAt, SnapshotStands, words_of}
 use Rattle.snapshot_store.specs.Store.{bytes_of_pages, HoldsPages, IsWhole, KeepsFront, StoreState}
 use Rattle.serial_model.specs.declared.decl.Decl.{Decl}
 use Rattle.gleaner.specs.Glean.{bank_of, DeviceFailed, FailsBeside, IsDamagedFile, IsGleaned, IsToldBefore}
@@ -32,7 +33,7 @@ use Rattle.tx_script.specs.declared.answer.Answer.TheVariants as answers
 use Rattle.worker_logs.specs.Saves.{closed_number}
 use Rattle.round_engine.specs.Sides.{closed_in, growing_in, is_odd}
 use Rattle.round_engine.specs.Saves.{beside_at_end}
-use Rattle.round_engine.specs.Standing.{beside_of, HasSnapshot, RuntimeState, StandsOn}
+use Rattle.round_engine.specs.Standing.{beside_of, HasSnapshot, RuntimeState, Standing, StandsOn}
 
 -- ---- what a glean goes by
 
@@ -87,9 +88,10 @@ module _ {D : Type 0} (tells : D → Option (List ℕ)) where
 
 -- ---- what it leaves
 
--- nothing of the runtime changed but its pages and what counts of the closed log files
+-- nothing of the runtime changed but its pages, which are published to the engine, and what counts of the closed log
+-- files
 pub record GleansAlone (old new : RuntimeState) : Type 0 where
-  pub stands : new.stands ≡ old.stands
+  pub stands : new.stands ≡ record old.stands { pages = new.stands.pages }
   pub save : new.save ≡ old.save
   pub room : new.room ≡ old.room
   pub side : new.side ≡ old.side
@@ -151,6 +153,11 @@ device_of_glean _ = None
 abbrev pub devices_of_glean : Result Gleaned (OrMemory GleanFault) → Option Device → List Device
 devices_of_glean result beside = option_to_list (device_of_glean result) ++ option_to_list beside
 
+-- the pages that the engine has behind a glean: those of the store, where a snapshot was made
+abbrev pub pages_after : Result Gleaned (OrMemory GleanFault) → List (List ℕ) → List (List ℕ) → List (List ℕ)
+pages_after (Ok (Snap epoch count)) pages made = made
+pages_after _ pages made = pages
+
 module _ {D : Type 0} (tells : D → Option (List ℕ)) (clock : D → ℕ) (image_at : D → ℕ → List ℕ → Type 0)
     (faults : D → ℕ) where
   -- What a glean answers where bytes of the closed log files count: a snapshot of the epoch at which they were closed;
@@ -185,6 +192,8 @@ module _ {D : Type 0} (tells : D → Option (List ℕ)) (clock : D → ℕ) (ima
     pub alone : GleansAlone old new
     pub sized : length (bytes_of_pages old.store.pages) ≤ 512 * length old.store.pages
     pub grows : (more : List Page) × (new.store.pages ≡ old.store.pages ++ more)
+    pub pages : 0 < old.stands.slots
+        → new.stands.pages ≡ pages_after result old.stands.pages (words_of new.store.pages)
     pub save : now.save ≡ before.save
     pub ties : now.ties ≡ before.ties
     pub cuts : now.cuts ≡ before.cuts
@@ -199,6 +208,20 @@ module _ {D : Type 0} (tells : D → Option (List ℕ)) (clock : D → ℕ) (ima
 abbrev pub counted_after : Result Gleaned (OrMemory GleanFault) → List ℕ → List ℕ
 counted_after (Ok (Snap epoch count)) counted = replicate 8 0
 counted_after _ counted = counted
+
+-- a snapshot was made
+abbrev pub has_made : Result Gleaned (OrMemory GleanFault) → Bool
+has_made (Ok (Snap epoch count)) = true
+has_made _ = false
+
+-- Pages of a store may be published to an engine: those that it has are the first of them, the last one is the catalogue
+-- of a snapshot that stands, over the engine's storages, and it has room for them.
+pub record CanPublish (pages : List Page) (s : Standing) : Type 0 where
+  pub front : IsFront s.pages (words_of pages)
+  pub contents : Contents
+  pub stands : SnapshotStands (words_of pages) (length pages) contents
+  pub decls : decls_of contents ≡ s.decls
+  pub room : length pages ≤ s.resident
 
 -- a device that failed ends the run
 abbrev pub ended_if : Bool → RuntimeState → RuntimeState

@@ -167,7 +167,7 @@ pub record NeedCounted (r : RuntimeState) (said : List Answer) (gleans : List (O
   pub device : (device : TheDevice) → Contains broken device → some_counted r.counted ≡ true
 
 -- The lines of the maintenance thread were run and answered, each with its cause. They touch neither the logs nor the
--- engine but for its epoch.
+-- engine but for its epoch and the pages that are published to it.
 pub record RunsKeeper {D : Type 0} (tells : D → Option (List ℕ)) (clock : D → ℕ) (image_at : D → ℕ → List ℕ → Type 0)
     (faults : D → ℕ) (lines : List KeeperLine) (said : List Answer) (refusal : Option End) (old new : RuntimeState)
     (before now : Vault D) : Type 0 where
@@ -191,6 +191,7 @@ pub record RunsKeeper {D : Type 0} (tells : D → Option (List ℕ)) (clock : D 
   pub later : old.stands.clock.epoch ≤ new.stands.clock.epoch
   pub stands : new.stands ≡ record old.stands {
     clock = record old.stands.clock { epoch = new.stands.clock.epoch };
+    pages = new.stands.pages;
   }
   pub logs : new.logs ≡ old.logs
   pub is_down : new.down ≡ old.down

@@ -404,12 +404,12 @@ module _ {D : Type 0} {tells : D → Option (List ℕ)} {clock : D → ℕ} {ima
 
   -- So it is of a runtime that begins so, with empty logs.
   pub known_at_first : (room : ℕ) (first : Number) (r : RuntimeState)
-      → r ≡ begun settled.decls settled.state r.stands.opening r.stands.slots settled.save settled.store room first
+      → r ≡ begun settled.decls settled.state r.stands settled.save settled.store room first
       → AreLogs tells clock image_at (λ worker. []) (λ worker. []) r vault
       → AreClosedFiles tells clock image_at (λ worker. []) (λ worker. []) r vault
       → KnownAtFirst tells clock image_at from recovers.reading epoch state low r vault
   known_at_first room first r begins =
-      let start : RuntimeState = begun settled.decls settled.state r.stands.opening r.stands.slots settled.save settled.store room first in
+      let start : RuntimeState = begun settled.decls settled.state r.stands settled.save settled.store room first in
       subst (λ (x : RuntimeState). AreLogs tells clock image_at (λ worker. []) (λ worker. []) x vault
       → AreClosedFiles tells clock image_at (λ worker. []) (λ worker. []) x vault
       → KnownAtFirst tells clock image_at from recovers.reading epoch state low x vault) (sym begins)
@@ -455,7 +455,7 @@ pub known_settled : {D : Type 0} {tells : D → Option (List ℕ)} {clock : D �
     → RestsSince clock image_at from rest.point rest.pages rest.counted (parts_of between)
     → (recovers : Recovers found recovered) → AllByRecursion IsWholePage settled.store.pages
     → (room : ℕ) (first : Number) (r : RuntimeState)
-    → r ≡ begun settled.decls settled.state r.stands.opening r.stands.slots settled.save settled.store room first
+    → r ≡ begun settled.decls settled.state r.stands settled.save settled.store room first
     → AreLogs tells clock image_at (λ worker. []) (λ worker. []) r vault
     → AreClosedFiles tells clock image_at (λ worker. []) (λ worker. []) r vault
     → KnownAtFirst tells clock image_at from recovers.reading recovered.epoch recovered.state

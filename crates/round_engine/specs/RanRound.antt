@@ -230,9 +230,9 @@ module _ {D : Type 0} (tells : D → Option (List ℕ)) (clock : D → ℕ) (ima
 
 -- A round was run, each line being tried so often at most, and joined. Each number was drawn for a commit, or for a try
 -- that was refused behind its draw. A try in conflict at a record met a line of another worker of the round, at a key
--- that it touches and that one may change. Where nothing ends the run, its last epoch is durable. Where a tree is declared no
--- line is in another's way; on words that threads share the commits are those which came to their history. The runtime
--- is down just where a device failed.
+-- that it touches and that one may change; a line that found no slot may change some key. Where nothing ends the run,
+-- its last epoch is durable. Where a tree is declared no line is in another's way; on words that threads share the
+-- commits are those which came to their history. The runtime is down just where a device failed.
 pub record RanRound (tries : ℕ) (round : Round) (old new : RuntimeState) (report : Report) : Type 0 where
   pub ran : Ran
   pub logged : ℕ → List Commit

@@ -90,9 +90,14 @@ pub record AreClosed (r : RuntimeState) : Type 0 where
   pub counted : AllByRecursion (λ n. n < 2 ^ 40) r.counted
   pub before : r.closed_at < r.stands.clock.epoch
 
+-- Where words that threads share run the lines, which alone have slots, all pages of the store are published to them, and
+-- they have room for as many as are let in.
+abbrev pub IsPublished : RuntimeState → Type 0
+IsPublished r = 0 < r.stands.slots → (r.stands.pages ≡ words_of r.store.pages) × (r.stands.resident ≡ r.room)
+
 -- The last page is the catalogue of a snapshot that stands, which has the storages. It is no later than the epoch at
 -- which the closed log files were closed, and where bytes of these count it is earlier. The device begins with the
--- pages, as far as it tells, and they are within what is let in.
+-- pages, as far as it tells, they are within what is let in, and a running engine has them.
 pub record HasSnapshot {D : Type 0} (tells : D → Option (List ℕ)) (r : RuntimeState) (snaps : D) : Type 0 where
   pub holds : HoldsPages tells snaps r.store.pages
   pub contents : Contents
@@ -101,6 +106,7 @@ pub record HasSnapshot {D : Type 0} (tells : D → Option (List ℕ)) (r : Runti
   pub up_to : contents.epoch ≤ r.closed_at
   pub earlier : some_counted r.counted ≡ true → contents.epoch < r.closed_at
   pub let_in : length r.store.pages ≤ r.room
+  pub published : IsPublished r
 
 -- A runtime has eight logs of their limit, and its clock is above the saved epoch and the marks. The devices are as
 -- its calls left them, as far as they tell their bytes: the save device has the newest savepoint, unless a store

@@ -14,6 +14,7 @@ ghost use Rattle.shared_rounds.specs.Lines.{LinesCome, standing};
 ghost use Rattle.shared_rounds.specs.Rooms.{IsRoomOf};
 ghost use Rattle.shared_rounds.specs.SharedState.{are_arrays};
 ghost use Rattle.round_engine.specs.Begun.{Begins};
+ghost use Rattle.round_engine.specs.Gleans.{CanPublish};
 ghost use Rattle.round_engine.specs.Histories.{KeepsHistory};
 ghost use Rattle.plain_rounds.specs.InTurn.{RunsInTurn};
 ghost use Rattle.plain_rounds.specs.Plainly.{DrewOnce};
@@ -64,8 +65,8 @@ impl Model for Engine {
 }
 
 impl Engine {
-    /// An engine in this state, which gives this number first. Words that threads share have so many slots, and open
-    /// with the records of the newest snapshot.
+    /// An engine in this state, which gives this number first. Words that threads share have so many slots and room for
+    /// so many pages, and open with the records of the newest snapshot.
     pub(crate) fn new(
         alloc: Global,
         store: &SnapStore,
@@ -73,18 +74,21 @@ impl Engine {
         state: State,
         first: Number,
         slots: u32,
+        room: u32,
     ) -> Result<Engine, Memory>
         requires decls { AreDecls decls }
         requires first { IsNumber first }
         requires some_slots { 1 ≤ slots }
         requires most_slots { slots ≤ 4096 }
+        requires within { length store.now.pages ≤ room }
+        requires most_room { room ≤ 65536 }
         requires snapshot { (contents : Contents) × IsNewestSnapshot (words_of store.now.pages)
             (length store.now.pages) decls state (first.epoch - 1) contents }
         ensures { IfOk result
-            (Begins (words_of store.now.pages) (length store.now.pages) decls state first slots) }
+            (Begins (words_of store.now.pages) (length store.now.pages) decls state first slots room) }
     {
         Ok(Engine {
-            line_engine: line_engine_for(alloc, store, decls, state, first, slots)?,
+            line_engine: line_engine_for(alloc, store, decls, state, first, slots, room)?,
             ended: false,
         })
     }
@@ -109,6 +113,18 @@ impl Engine {
         match &mut self.line_engine {
             LineEngine::Plain(engine) => engine.advance(),
             LineEngine::Shared(engine) => engine.advance(),
+        }
+    }
+
+    /// Publishes the pages of the store to words that threads share.
+    pub(crate) fn publish(&mut self, store: &SnapStore)
+        requires can { 0 < self.old.slots → CanPublish store.now.pages self.old }
+        ensures alone { self.new ≡ record self.old { pages = self.new.pages } }
+        ensures published { 0 < self.old.slots → self.new.pages ≡ words_of store.now.pages }
+    {
+        match &mut self.line_engine {
+            LineEngine::Plain(engine) => publish_none(engine),
+            LineEngine::Shared(engine) => publish_shared(engine, store),
         }
     }
 
@@ -192,6 +208,25 @@ impl Engine {
     }
 }
 
+// The map has no pages.
+fn publish_none(engine: &PlainEngine)
+    ensures { engine.now.slots ≡ 0 }
+{
+    // Called for what it promises of the slots.
+    let _ = engine.clock();
+}
+
+// The words get the pages of the store.
+fn publish_shared(engine: &mut SharedEngine, store: &SnapStore)
+    requires can { (ended : Bool) × (0 < engine.old.slots → CanPublish store.now.pages (standing ended engine.old)) }
+    ensures some_slots { 0 < engine.old.slots }
+    ensures publishes { engine.new ≡ record engine.old { pages = words_of store.now.pages } }
+{
+    // Called for what it promises of the slots.
+    let _ = engine.clock();
+    engine.publish(store);
+}
+
 // Lines on the map have no room made for them.
 fn no_rooms<D: Disk + Drop>(engine: &PlainEngine) -> Option<Rooms<D>>
     ensures none { result ≡ None }
@@ -268,18 +303,21 @@ fn line_engine_for(
     state: State,
     first: Number,
     slots: u32,
+    room: u32,
 ) -> Result<LineEngine, Memory>
     requires decls { AreDecls decls }
     requires first { IsNumber first }
     requires some_slots { 1 ≤ slots }
     requires most_slots { slots ≤ 4096 }
+    requires within { length store.now.pages ≤ room }
+    requires most_room { room ≤ 65536 }
     requires snapshot { (contents : Contents) × IsNewestSnapshot (words_of store.now.pages)
         (length store.now.pages) decls state (first.epoch - 1) contents }
     ensures { IfOk result (λ line_engine. Begins (words_of store.now.pages) (length store.now.pages) decls state first
-        slots (standing_of line_engine false)) }
+        slots room (standing_of line_engine false)) }
 {
     if are_arrays(decls.as_slice(), &state) {
-        return shared_lines(alloc, store, decls, state, first, slots);
+        return shared_lines(alloc, store, decls, state, first, slots, room);
     }
     Ok(plain_lines(decls, state, first))
 }
@@ -288,8 +326,8 @@ fn line_engine_for(
 fn plain_lines(decls: Decls, state: State, first: Number) -> LineEngine
     requires first { IsNumber first }
     requires apart { are_arrays decls state ≡ false }
-    ensures { (pages : List (List ℕ)) (number slots : ℕ)
-        → Begins pages number decls state first slots (standing_of result false) }
+    ensures { (pages : List (List ℕ)) (number slots room : ℕ)
+        → Begins pages number decls state first slots room (standing_of result false) }
 {
     LineEngine::Plain(PlainEngine::new(decls, state, first))
 }
@@ -302,20 +340,23 @@ fn shared_lines(
     state: State,
     first: Number,
     slots: u32,
+    room: u32,
 ) -> Result<LineEngine, Memory>
     requires decls { AreDecls decls }
     requires arrays { are_arrays decls state ≡ true }
     requires first { IsNumber first }
     requires some_slots { 1 ≤ slots }
     requires most_slots { slots ≤ 4096 }
+    requires within { length store.now.pages ≤ room }
+    requires most_room { room ≤ 65536 }
     requires snapshot { (contents : Contents) × IsNewestSnapshot (words_of store.now.pages)
         (length store.now.pages) decls state (first.epoch - 1) contents }
     ensures { IfOk result (λ line_engine. Begins (words_of store.now.pages) (length store.now.pages) decls state first
-        slots (standing_of line_engine false)) }
+        slots room (standing_of line_engine false)) }
 {
     drop(state);
     let copy = Sequence::from_slice(alloc, decls.as_slice())?;
-    let start = newest_start(alloc, store, copy, first, slots)?;
+    let start = newest_start(alloc, store, copy, first, slots, room)?;
     let engine = SharedEngine::new(alloc, decls, start)?;
     Ok(LineEngine::Shared(engine))
 }

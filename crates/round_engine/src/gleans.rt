@@ -1,5 +1,5 @@
 // A glean: what the closed log files have becomes the next snapshot.
-ghost use Rattle.std.specs.Prelude.{◌≡◌, ◌≢◌, ◌<◌, ◌≤◌, ◌^◌, false, is_some, length, true, ◌||◌};
+ghost use Rattle.std.specs.Prelude.{◌≡◌, ◌≢◌, ◌<◌, ◌≤◌, ◌^◌, ℕ, List, false, is_some, length, true, ◌||◌};
 ghost use Rattle.log_writer.specs.Vault.{IsWhole};
 ghost use Rattle.wire_form.specs.Pages.{Contents};
 ghost use Rattle.snapshot_store.specs.Content.{CatalogueAt, words_of};
@@ -7,7 +7,7 @@ ghost use Rattle.snapshot_store.specs.Store.{HoldsPages};
 ghost use Rattle.gleaner.specs.Glean.{CanGlean, none_counted};
 ghost use Rattle.round_engine.specs.GleanStops.{CarriesKnown};
 ghost use Rattle.round_engine.specs.Gleans.{Gleans, GleansAsked, GleansFiles, closed_of, counted_after};
-ghost use Rattle.round_engine.specs.Gleans.{device_of_glean, ended_if};
+ghost use Rattle.round_engine.specs.Gleans.{CanPublish, device_of_glean, ended_if, has_made, pages_after};
 ghost use Rattle.round_engine.specs.Keeping.{CanKeep};
 ghost use Rattle.round_engine.specs.Sides.{closed_in, growing_in};
 ghost use Rattle.round_engine.specs.Standing.{StandsOn};
@@ -63,7 +63,8 @@ fn tells_device(answer: &Result<Gleaned, OrMemory<GleanFault>>) -> bool
     matches!(answer, Err(OrMemory::Fault(GleanFault::Device(_))))
 }
 
-/// Makes a snapshot of what counts of the closed log files. Nothing of them counts any more behind it.
+/// Makes a snapshot of what counts of the closed log files, and publishes its pages to the engine. Nothing of the log
+/// files counts any more behind it.
 pub(crate) fn glean_closed<R: Threads + Wait + Sync, D: Disk + Send>(
     rt: &R,
     alloc: Global,
@@ -75,8 +76,32 @@ pub(crate) fn glean_closed<R: Threads + Wait + Sync, D: Disk + Send>(
         result.answer result.beside }
 {
     let gleaned = glean_side(rt, alloc, runtime, vault);
+    publish_made(runtime, &gleaned.answer);
     runtime.counted = counted_behind(&gleaned.answer, runtime.counted);
     gleaned
+}
+
+// Publishes the pages of a snapshot that was made.
+fn publish_made(runtime: &mut Runtime, gleaned: &Result<Gleaned, OrMemory<GleanFault>>)
+    requires can { has_made gleaned.now ≡ true → 0 < runtime.old.stands.slots
+        → CanPublish runtime.old.store.pages runtime.old.stands }
+    ensures alone { runtime.new ≡ record runtime.old {
+      stands = record runtime.old.stands { pages = runtime.new.stands.pages };
+    } }
+    ensures published { 0 < runtime.old.stands.slots → runtime.new.stands.pages
+        ≡ pages_after gleaned.now runtime.old.stands.pages (words_of runtime.old.store.pages) }
+{
+    if !has_made(gleaned) {
+        return;
+    }
+    runtime.engine.publish(&runtime.store);
+}
+
+// Whether a snapshot was made.
+fn has_made(gleaned: &Result<Gleaned, OrMemory<GleanFault>>) -> bool
+    ensures { result ≡ has_made gleaned.now }
+{
+    matches!(gleaned, Ok(Gleaned::Snap { .. }))
 }
 
 // What counts of the closed log files behind a glean.
@@ -97,10 +122,15 @@ fn glean_side<R: Threads + Wait + Sync, D: Disk + Send>(
     vault: &mut Vault<D>,
 ) -> Gleaning
     requires ready { CanKeep D.tells D.clock D.image_at runtime.old vault.old }
-    ensures gleans { Gleans D.tells D.clock D.image_at D.faults runtime.old
-        (record runtime.new { counted = counted_after result.answer runtime.old.counted }) vault.old vault.new
-        result.answer result.beside }
+    // Whichever pages are published then.
+    ensures gleans { (pages : List (List ℕ)) → (0 < runtime.old.stands.slots
+        → pages ≡ pages_after result.answer runtime.old.stands.pages (words_of runtime.new.store.pages))
+        → Gleans D.tells D.clock D.image_at D.faults runtime.old (record runtime.new {
+          stands = record runtime.old.stands { pages = pages };
+          counted = counted_after result.answer runtime.old.counted;
+        }) vault.old vault.new result.answer result.beside }
     ensures counted { runtime.new.counted ≡ runtime.old.counted }
+    ensures stands { runtime.new.stands ≡ runtime.old.stands }
 {
     let newest = newest_in(&runtime.store);
     let closed = runtime.closed();

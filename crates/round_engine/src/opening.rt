@@ -13,22 +13,22 @@ use std::alloc::Global;
 use wire_form::{Page, Stored};
 
 /// An engine's beginning over all pages of the store, the last of which is the newest snapshot's catalogue, with its
-/// roots; it gives this number first, and has so many slots.
+/// roots; it gives this number first, has so many slots, and room for so many pages.
 pub(crate) fn newest_start(
     alloc: Global,
     store: &SnapStore,
     decls: Decls,
     first: Number,
     slots: u32,
+    room: u32,
 ) -> Result<Start, Memory>
     requires { (contents : Contents) × CatalogueAt (words_of store.now.pages) (length store.now.pages) contents }
-    ensures { IfOk result (IsOfNewest first decls slots store.now.pages) }
+    ensures { IfOk result (IsOfNewest first decls slots room store.now.pages) }
 {
     let storages = newest_storages(alloc, store)?;
     let roots = roots_of(alloc, storages.as_slice())?;
     let pages = copy_pages(alloc, store)?;
-    // As many pages have words as there are: the next run has those of snapshots that this one makes.
-    Ok(Start::new(first, decls, roots, slots, store.count(), pages))
+    Ok(Start::new(first, decls, roots, slots, room, pages))
 }
 
 // The number of the page of each root, or 0.

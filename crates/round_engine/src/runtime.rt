@@ -19,7 +19,7 @@ ghost use Rattle.recovery_core.specs.NewestSnapshot.{IsNewestSnapshot};
 ghost use Rattle.round_engine.specs.Begun.{OpensOn, begun};
 ghost use Rattle.round_engine.specs.LineEngines.{SharesWords};
 ghost use Rattle.round_engine.specs.Logs.{AreClosedFiles, AreLogs};
-ghost use Rattle.round_engine.specs.Standing.{StandsOn};
+ghost use Rattle.round_engine.specs.Standing.{IsPublished, StandsOn};
 
 use crate::engine::Engine;
 use checkpoints::Settled;
@@ -79,8 +79,9 @@ impl Model for Runtime {
 
 impl Runtime {
     /// A runtime over a vault that was just settled, in its state, and in the epoch after the saved one. Where words
-    /// that threads share run the lines, each record of an array opens as the newest snapshot has it, with its number,
-    /// and they have the slots that are asked for. The logs are empty, and the vault is left as it is.
+    /// that threads share run the lines, each record of an array opens as the newest snapshot has it, with its number;
+    /// they have the slots that are asked for, and room for as many snapshot pages as are let in. The logs are empty,
+    /// and the vault is left as it is.
     pub fn new<D: Disk>(
         alloc: Global,
         vault: &mut Vault<D>,
@@ -104,7 +105,7 @@ impl Runtime {
         requires empty { AlwaysTells D.tells → (number : ℕ) (bank : D)
             → disk_in vault.old (devices.Bank number) ≡ Some bank → D.tells bank ≡ Some [] }
         ensures begins { IfOk result (λ runtime. runtime ≡ begun settled.decls settled.state
-            runtime.stands.opening runtime.stands.slots settled.save settled.store config.snap config.first) }
+            runtime.stands settled.save settled.store config.snap config.first) }
         ensures opens { IfOk result (λ runtime.
             OpensOn (words_of settled.store.pages) (length settled.store.pages) runtime.stands) }
         ensures slots { IfOk result (λ runtime. SharesWords runtime.stands → runtime.stands.slots ≡ config.slots) }
@@ -146,13 +147,15 @@ fn begin(alloc: Global, settled: Settled, config: Config) -> Result<Runtime, Mem
     requires config { IsConfig config }
     requires first { config.first ≡ clock_after settled.saved.epoch }
     requires decls { AreDecls settled.decls }
+    requires within { length settled.store.pages ≤ config.snap }
     requires snapshot { (contents : Contents) × IsNewestSnapshot (words_of settled.store.pages)
         (length settled.store.pages) settled.decls settled.state settled.saved.epoch contents }
     ensures begins { IfOk result (λ runtime. runtime ≡ begun settled.decls settled.state
-        runtime.stands.opening runtime.stands.slots settled.save settled.store config.snap config.first) }
+        runtime.stands settled.save settled.store config.snap config.first) }
     ensures opens { IfOk result (λ runtime.
         OpensOn (words_of settled.store.pages) (length settled.store.pages) runtime.stands) }
     ensures slots { IfOk result (λ runtime. SharesWords runtime.stands → runtime.stands.slots ≡ config.slots) }
+    ensures published { IfOk result (λ runtime. IsPublished runtime) }
 {
     let Settled {
         save,
@@ -163,7 +166,15 @@ fn begin(alloc: Global, settled: Settled, config: Config) -> Result<Runtime, Mem
     } = settled;
     let closed_at = config.first.epoch - 1;
     let logs = new_logs(alloc, closed_at)?;
-    let engine = Engine::new(alloc, &store, decls, state, config.first, config.slots)?;
+    let engine = Engine::new(
+        alloc,
+        &store,
+        decls,
+        state,
+        config.first,
+        config.slots,
+        config.snap,
+    )?;
     Ok(Runtime {
         engine,
         save,

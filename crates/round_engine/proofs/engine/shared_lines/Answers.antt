@@ -30,6 +30,8 @@ unused l = record {
   conflicts = 0;
   marks = replicate 8 (record { epoch = Some (l.first.epoch - 1); length = 0 });
   slots = l.slots;
+  pages = l.pages;
+  resident = l.resident;
 }
 
 pub new-requires-clause-can : goal.new-requires-clause-can
@@ -39,10 +41,11 @@ new-requires-clause-can c =
     let contents = c.requires.snapshot.0 in
     let pages = c.args.store.now.pages in
     let same = made.start_is
-    ∙ (ap (λ (ds : List Decl). first_layout c.args.first ds made.storages c.args.slots pages)
+    ∙ (ap (λ (ds : List Decl). first_layout c.args.first ds made.storages c.args.slots c.args.room pages)
     (c.in_ok-copy.ensures ∙ c.as_slice.ensures)
-    ∙ ap (λ (ss : List Stored). first_layout c.args.first c.args.decls ss c.args.slots pages) (made.are contents is.stands.here)) in
-    let so = starts pages contents c.args.decls c.args.state c.args.first c.args.slots made.few c.requires.some_slots
+    ∙ ap (λ (ss : List Stored). first_layout c.args.first c.args.decls ss c.args.slots c.args.room pages) (made.are contents is.stands.here)) in
+    let so = starts pages contents c.args.decls c.args.state c.args.first c.args.slots c.args.room c.requires.within
+    c.requires.most_room c.requires.some_slots
     c.requires.most_slots c.requires.decls c.requires.arrays c.requires.first is in
     subst CanMake (sym same) so.can
 
@@ -65,21 +68,27 @@ returns c =
     let first = c.args.first in
     let decls = c.args.decls in
     let slots = c.args.slots in
+    let room = c.args.room in
     let same = made.start_is
-    ∙ (ap (λ (ds : List Decl). first_layout first ds made.storages slots pages) (c.in_ok-copy.ensures ∙ c.as_slice.ensures)
-    ∙ ap (λ (ss : List Stored). first_layout first decls ss slots pages) (made.are contents is.stands.here)) in
-    let so = starts pages contents decls c.args.state first slots made.few c.requires.some_slots c.requires.most_slots
+    ∙ (ap (λ (ds : List Decl). first_layout first ds made.storages slots room pages) (c.in_ok-copy.ensures ∙ c.as_slice.ensures)
+    ∙ ap (λ (ss : List Stored). first_layout first decls ss slots room pages) (made.are contents is.stands.here)) in
+    let so = starts pages contents decls c.args.state first slots room c.requires.within c.requires.most_room
+    c.requires.some_slots c.requires.most_slots
     c.requires.decls c.requires.arrays c.requires.first is in
     let engine = c.in_ok-engine.ensures.begins ∙ ap unused same in
-    let l : Layout = first_layout first decls contents.storages slots pages in
+    let l : Layout = first_layout first decls contents.storages slots room pages in
     record {
       stands = ap (standing false) engine
-          ∙ (ap (λ (s : State). begins_at decls s l.opening first slots) so.state_is
-          ∙ ap (λ (e : SharedState). begins_at decls c.args.state e.opening first e.slots) (sym engine));
+          ∙ (ap (λ (s : State). begins_at decls s (standing false (unused l)) first) so.state_is
+          ∙ ap (λ (e : SharedState). begins_at decls c.args.state (standing false e) first) (sym engine));
       opens = λ shares others stands key.
           ap (λ (e : SharedState). content_at e.opening key) engine
           ∙ (so.opens key
           ∙ ap (λ (ss : List Stored). stands_in (words_of pages) ss key)
           (sym (made.are contents is.stands.here) ∙ made.are others stands.here));
       slots_are = λ shares. ap (λ (e : SharedState). e.slots) engine;
+      pages_are = λ some. (
+        ap (λ (e : SharedState). e.pages) engine,
+        ap (λ (e : SharedState). e.resident) engine,
+      );
     }

@@ -1,5 +1,5 @@
 -- The closed side is gleaned.
-use Rattle.std.proofs.Common.{ap, arith, List, None, subst, sym}
+use Rattle.std.proofs.Common.{ap, arith, List, [], None, subst, sym}
 use Rattle.serial_model.specs.declared.decl.Decl.{Decl}
 use Rattle.serial_model.specs.declared.number.Number.{Number}
 use Rattle.snapshot_store.specs.Content.{words_of}
@@ -15,7 +15,7 @@ glean_over-requires-clause-can g c κs within some =
     let same = c.runtime.view_is in
     let can = can_over g.D.Disk.faults c.args.runtime.now c.args.runtime.now.store c.args.vault.now
     c.args.vault.now c.newest_in-newest.result c.closed-closed.result c.requires.ready
-    c.closed-closed.ensures None _ same
+    c.closed-closed.ensures None [] _ same
     (record { page = c.newest_in-newest.ensures.page; epoch = c.newest_in-newest.ensures.epoch })
     (omega (
       arith,
@@ -33,9 +33,9 @@ pub returns : goal.returns
 returns g c =
     let same = c.runtime.view_is in
     record {
-      gleans = called_over g.D.Disk.faults c.args.runtime.now c.glean_over.new.store c.args.vault.now c.glean_over.new.vault
+      gleans = λ pages are. called_over g.D.Disk.faults c.args.runtime.now c.glean_over.new.store c.args.vault.now c.glean_over.new.vault
           c.newest_in-newest.result c.closed-closed.result c.requires.ready c.closed-closed.ensures
-          c.glean_over.result.beside _ same c.glean_over.result.answer
+          c.glean_over.result.beside pages _ same c.glean_over.result.answer
           (record { page = c.newest_in-newest.ensures.page; epoch = c.newest_in-newest.ensures.epoch })
           (record {
             call = subst (λ (ds : List Decl). GleansFiles g.D.Disk.tells g.D.Disk.clock g.D.Disk.image_at g.D.Disk.faults ds
@@ -46,6 +46,7 @@ returns g c =
                 c.glean_over.result.beside)
                 c.decls-decls.ensures c.glean_over.ensures.gleans;
             growing = c.glean_over.ensures.growing;
-          }) c.glean_over.ensures.save c.glean_over.ensures.ties c.glean_over.ensures.cuts;
+          }) c.glean_over.ensures.save c.glean_over.ensures.ties c.glean_over.ensures.cuts are;
       counted = ap (λ (r : RuntimeState). r.counted) same;
+      stands = ap (λ (r : RuntimeState). r.stands) same;
     }

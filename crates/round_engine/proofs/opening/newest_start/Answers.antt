@@ -1,5 +1,5 @@
 -- The start is made of the last page's storages, and of all pages.
-use Rattle.std.proofs.Common.{◌∙◌, ap, arith, length, map, List, ℕ}
+use Rattle.std.proofs.Common.{◌∙◌, ap, map, List, ℕ}
 use Rattle.wire_form.specs.declared.page.Page.{Page}
 use Rattle.wire_form.specs.declared.records.Stored.{Stored}
 use Rattle.snapshot_store.specs.Content.{words_of}
@@ -12,15 +12,12 @@ returns c =
     let first = c.args.first in
     let decls = c.args.decls in
     let slots = c.args.slots in
-    let pages = c.args.store.now.pages in
+    let room = c.args.room in
     let roots-are = c.in_ok-roots.ensures ∙ ap (λ (ss : List Stored). map root_in ss) c.as_slice.ensures in record {
       storages = c.in_ok-storages.storages;
       are = c.in_ok-storages.ensures;
-      few = omega (arith, c.count.ensures.count, c.count.ensures.few);
       start_is = c.new.ensures
-          ∙ (ap (λ (roots : List ℕ). layout_of first decls roots slots c.count.result (words_of c.in_ok-pages.pages)) roots-are
-          ∙ (ap (λ (n : ℕ). layout_of first decls (map root_in c.in_ok-storages.storages) slots n (words_of c.in_ok-pages.pages))
-          c.count.ensures.count
-          ∙ ap (λ (ps : List Page). layout_of first decls (map root_in c.in_ok-storages.storages) slots (length pages) (words_of ps))
-          c.in_ok-pages.ensures));
+          ∙ (ap (λ (roots : List ℕ). layout_of first decls roots slots room (words_of c.in_ok-pages.pages)) roots-are
+          ∙ ap (λ (ps : List Page). layout_of first decls (map root_in c.in_ok-storages.storages) slots room (words_of ps))
+          c.in_ok-pages.ensures);
     }

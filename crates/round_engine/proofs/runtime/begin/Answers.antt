@@ -42,5 +42,7 @@ returns-clause-begins c =
       down = false;
     } in
     ap (λ (s : Standing). made s c.in_ok-logs.logs.items) c.in_ok-engine.ensures.stands
-    ∙ ap (made (begins_at settled.decls settled.state c.in_ok-engine.engine.opening first c.in_ok-engine.engine.slots))
-    c.in_ok-logs.ensures
+    ∙ ap (made (begins_at settled.decls settled.state c.in_ok-engine.engine first)) c.in_ok-logs.ensures
+
+pub returns-clause-published : goal.returns-clause-published
+returns-clause-published c = c.in_ok-engine.ensures.pages_are

@@ -1,0 +1,14 @@
+pub mod Places
+pub mod Steps
+pub mod Misses
+pub mod Plain
+pub mod Shutting
+pub mod Reopening
+pub mod LettingGo
+pub mod Descending
+pub mod Renewing
+pub mod Locked
+pub mod MovesDown
+pub mod SwingFacts
+pub mod SwingInner
+pub mod Swinging

@@ -1,0 +1,4 @@
+pub mod Shuts
+pub mod Renewals
+pub mod Swings
+pub mod Children

@@ -44,7 +44,7 @@ pub(super) const SURE: (u64, u64) = (u64::MAX, u64::MAX);
 // What a new database holds: the save has 1,024 zero bytes, the other devices have none.
 pub(super) fn fresh_files(alloc: Global) -> Result<Files, AllocError> {
     let mut files = Vec::new(alloc);
-    files.push(vec![in alloc; 0u8; 1024]?)?;
+    files.push([0u8; 1024].to_vec(alloc)?)?;
     for _ in 1..NAMES.len() {
         files.push(Vec::new(alloc))?;
     }
@@ -68,6 +68,13 @@ fn limits_of(trouble: Trouble, device: usize) -> (u64, u64) {
     }
 }
 
+// A list of one number.
+fn one_number(alloc: Global, number: u64) -> Result<Vec<u64>, AllocError> {
+    let mut numbers = Vec::new(alloc);
+    numbers.push(number)?;
+    Ok(numbers)
+}
+
 // The disk of this device, on which nothing is pending.
 #[tactic(auto, using(outside::specs::Moments::only_told))]
 fn disk_of(
@@ -81,7 +88,7 @@ fn disk_of(
 {
     let limits = limits_of(trouble, device);
     let bytes = file_of(files, device).to_vec(alloc)?;
-    let disk = MemDisk::new(alloc, bytes, vec![in alloc; limits.0]?)?;
+    let disk = MemDisk::new(alloc, bytes, one_number(alloc, limits.0)?)?;
     Ok(FuseDisk::new(disk, limits.1))
 }
 
@@ -166,8 +173,9 @@ pub(super) fn files_of(
 }
 
 // The program's name, and the words of a text.
-fn words(alloc: Global, asked: &str) -> Result<Vec<&str>, Fail> {
-    let mut words = vec![in alloc; "foedus"]?;
+fn words(alloc: Global, asked: &str) -> Result<Vec<&str>, AllocError> {
+    let mut words = Vec::new(alloc);
+    words.push("foedus")?;
     for word in asked.split_whitespace() {
         words.push(word)?;
     }
@@ -190,6 +198,28 @@ fn ended<R: Threads + Wait + Sync + AllocGlobal, D: Disk + Send + Drop>(
     Ok(top(rt, rt.alloc(), words, source, sink, vault, &OpenGate))
 }
 
+// A source of this script, whose call of this number fails.
+fn source_of(alloc: Global, script: &str, failing: u64) -> Result<MemSource, AllocError> {
+    let script = lines(alloc, script)?;
+    Ok(MemSource::new(script, one_number(alloc, failing)?))
+}
+
+// The status of a call over a vault, and what a sink then holds whose call of this number fails.
+fn told<R: Threads + Wait + Sync + AllocGlobal>(
+    rt: &R,
+    vault: &mut Vault<FuseDisk<MemDisk>>,
+    words: &[&str],
+    source: &mut MemSource,
+    failing: u64,
+) -> Result<(u8, Vec<u8>), Fail>
+    requires { IfTold (⟦<FuseDisk<MemDisk> as Disk>⟧.tells vault.old.save)
+        (Only ⟦<FuseDisk<MemDisk> as Disk>⟧.clock ⟦<FuseDisk<MemDisk> as Disk>⟧.image_at vault.old.save) }
+{
+    let mut sink = MemSink::new(rt.alloc(), one_number(rt.alloc(), failing)?);
+    let status = ended(rt, words, source, &mut sink, vault)?;
+    Ok((status, sink.bytes().to_vec(rt.alloc())?))
+}
+
 // The status of a call with these words over a vault, and what the sink then holds. Bars stand for newlines in the
 // script. A call of the source fails, and one of the sink.
 pub(super) fn answer<R: Threads + Wait + Sync + AllocGlobal>(
@@ -201,12 +231,9 @@ pub(super) fn answer<R: Threads + Wait + Sync + AllocGlobal>(
     requires { IfTold (⟦<FuseDisk<MemDisk> as Disk>⟧.tells vault.old.save)
         (Only ⟦<FuseDisk<MemDisk> as Disk>⟧.clock ⟦<FuseDisk<MemDisk> as Disk>⟧.image_at vault.old.save) }
 {
-    let alloc = rt.alloc();
-    let mut source = MemSource::new(lines(alloc, asked.1)?, vec![in alloc; failing.0]?);
-    let mut sink = MemSink::new(alloc, vec![in alloc; failing.1]?);
-    let words = words(alloc, asked.0)?;
-    let status = ended(rt, &words, &mut source, &mut sink, vault)?;
-    Ok((status, sink.bytes().to_vec(alloc)?))
+    let mut source = source_of(rt.alloc(), asked.1, failing.0)?;
+    let words = words(rt.alloc(), asked.0)?;
+    told(rt, vault, &words, &mut source, failing.1)
 }
 
 // The same over what devices hold, where nothing fails.

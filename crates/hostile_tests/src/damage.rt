@@ -74,8 +74,8 @@ fn check_damage<R: Threads + Wait + Sync + AllocGlobal>(
 
 #[test]
 fn damage_is_told_at_its_byte(rt: HostRuntime) -> Result<(), Fail> {
-    for row in DAMAGED {
-        check_damage(&rt, row)?;
+    for row in &DAMAGED {
+        check_damage(&rt, *row)?;
     }
     Ok(())
 }

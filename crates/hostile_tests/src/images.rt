@@ -69,6 +69,11 @@ fn part_of(length: usize, part: usize) -> usize
     (length.wrapping_mul(part) / 256).min(length)
 }
 
+// So many of this byte.
+fn filled(alloc: Global, byte: u8, count: usize) -> Result<Vec<u8>, AllocError> {
+    vec![in alloc; byte; count]
+}
+
 fn write(
     alloc: Global,
     file: &mut Vec<u8>,
@@ -79,7 +84,7 @@ fn write(
         Pending::Lost => Ok(()),
         Pending::Kept => put(alloc, file, at, bytes),
         Pending::Torn(part) => put(alloc, file, at, &bytes[..part_of(bytes.len(), part)]),
-        Pending::Other(byte) => put(alloc, file, at, &vec![in alloc; byte; bytes.len()]?),
+        Pending::Other(byte) => put(alloc, file, at, &filled(alloc, byte, bytes.len())?),
     }
 }
 
@@ -89,7 +94,7 @@ fn cut(alloc: Global, file: &mut Vec<u8>, len: usize, pending: Pending) -> Resul
         Pending::Lost => {}
         Pending::Kept => file.truncate(len),
         Pending::Torn(part) => file.truncate(len.saturating_add(part_of(past, part))),
-        Pending::Other(byte) => put(alloc, file, len, &vec![in alloc; byte; past]?)?,
+        Pending::Other(byte) => put(alloc, file, len, &filled(alloc, byte, past)?)?,
     }
     Ok(())
 }

@@ -185,7 +185,8 @@ fn draw_stop(
     let save = left_at(alloc, vault, first, (SAVE, at), chance)?;
     let (sequence, _place) = newest_of(&save);
     let stop = Stop { save: at, sequence };
-    let mut files = vec![in alloc; save]?;
+    let mut files = Vec::new(alloc);
+    files.push(save)?;
     for device in SNAPS..NAMES.len() {
         let save = file_of(&files, SAVE);
         let Some(moment) = moment_of(vault, first, (stop, save), device, chance) else {

@@ -3,91 +3,19 @@ use super::*;
 use serial_model::{Decl, Key, State};
 use tx_script::write_state;
 
-// The bytes of 64 words, which stand at these places; the others are 0.
-pub(super) fn page(alloc: Global, words: &[(usize, u64)]) -> Result<Vec<u8>, Fail> {
-    let mut all = [0; 64];
-    for (place, word) in words {
-        all[*place % 64] = *word;
-    }
-    let mut bytes = Vec::new(alloc);
-    for word in all {
-        bytes.extend_from_slice(&word.to_be_bytes())?;
-    }
-    Ok(bytes)
-}
-
-pub(super) const OPEN: u64 = 0xA500_0000_0000_0000;
-
-pub(super) const VERSION: u64 = 0x464F_4544_5553_0001;
-
-// The bytes of two pages.
-pub(super) fn both(
-    alloc: Global,
-    first: &[(usize, u64)],
-    second: &[(usize, u64)],
-) -> Result<Vec<u8>, Fail> {
-    let mut bytes = page(alloc, first)?;
-    bytes.extend_from_slice(&page(alloc, second)?)?;
-    Ok(bytes)
-}
-
-// The log line of commit 1:1, which sets value 2 of array 1.
-pub(super) fn log_line(alloc: Global, value: u64) -> Result<Vec<u8>, Fail> {
-    let words = [
-        (0, 0x0000_0100_0000_0001),
-        (1, 1),
-        (2, 0x101),
-        (3, 2),
-        (4, value),
-    ];
-    let mut line = page(alloc, &words)?;
-    line.truncate(40);
-    Ok(line)
-}
-
-// What devices have after a run that set value 2 of an array of 4 to 7, and was saved: two places of the savepoint, the
-// second one newer, the catalogue of epoch 0, and one log line of 40 bytes.
-fn saved_vault(
-    alloc: Global,
-    counted: u64,
-    value: u64,
-    fails: &[u64],
-) -> Result<Vault<MemDisk>, Fail> {
-    let first = [(0, OPEN), (1, VERSION), (2, 1), (4, 1), (5, 1)];
-    let second = [
-        (0, OPEN),
-        (1, VERSION),
-        (2, 2),
-        (3, 1),
-        (4, 1),
-        (5, 1),
-        (6, counted),
-    ];
-    let save = both(alloc, &first, &second)?;
-    let snaps = page(alloc, &[(0, 0x4341_5400_0000_0001), (16, 257), (17, 4)])?;
-    let line = log_line(alloc, value)?;
-    Ok(vault_of(alloc, &save, &snaps, &line, fails)?)
-}
+const DUMP: [&str; 2] = ["foedus", "dump"];
 
 // The status and the text of a dump of what a vault holds, whose sink fails at this call. The vault's calls fail as it
 // says.
-pub(super) fn dump<R: Threads + Wait + Sync + AllocGlobal>(
+fn dump<R: Threads + Wait + Sync + AllocGlobal>(
     rt: &R,
     vault: &Vault<MemDisk>,
     failing_write: u64,
 ) -> Result<(u8, Vec<u8>), Fail> {
-    let alloc = rt.alloc();
-    let mut source = MemSource::new(Vec::new(alloc), vec![in alloc; 0]?);
-    let mut vault = anew(alloc, vault, vault.save.fails())?;
-    let words = ["foedus", "dump"];
-    told(
-        rt,
-        &words,
-        &mut source,
-        &[failing_write],
-        &mut vault,
-        &OpenGate,
-    )
+    let mut source = source_of(rt.alloc(), b"", 0)?;
+    let mut vault = anew(rt.alloc(), vault, vault.save.fails())?;
+    let fails = [failing_write];
+    told(rt, &DUMP, &mut source, &fails, &mut vault, &OpenGate)
 }
 
 // What a vault keeps: nothing; of a run that was saved so many counted bytes and a value, where the first call of the
@@ -100,12 +28,12 @@ enum Kept {
     Short,
 }
 
-fn vault_with(alloc: Global, kept: Kept) -> Result<Vault<MemDisk>, Fail> {
+fn vault_with(alloc: Global, kept: Kept) -> Result<Vault<MemDisk>, AllocError> {
     match kept {
-        Kept::Nothing => Ok(fresh_vault(alloc)?),
+        Kept::Nothing => fresh_vault(alloc),
         Kept::Saved(counted, value) => saved_vault(alloc, counted, value, &[]),
         Kept::Failing => saved_vault(alloc, 40, 7, &[0]),
-        Kept::Short => Ok(vault_of(alloc, &[0; 3], &[], &[], &[])?),
+        Kept::Short => vault_of(alloc, &[0; 3], &[], &[], &[]),
     }
 }
 

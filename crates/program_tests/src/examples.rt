@@ -2,7 +2,7 @@
 // then: those of `NAME.txt`, `NAME.out` and `NAME.kept`.
 use super::*;
 
-const LEDGER: [&str; 3] = [
+const LEDGER: (&str, &str, &str) = (
     "\
 array 1 4
 0 w 1 0 100; w 1 1 50; w 1 2 25; w 1 3 0
@@ -34,9 +34,9 @@ epoch 2
 1 2 35
 1 3 30
 ",
-];
+);
 
-const TRANSFERS: [&str; 3] = [
+const TRANSFERS: (&str, &str, &str) = (
     "\
 array 1 8
 tree 2
@@ -75,9 +75,9 @@ epoch 4
 1 2 40
 2 1001 300
 ",
-];
+);
 
-const INVENTORY: [&str; 3] = [
+const INVENTORY: (&str, &str, &str) = (
     "\
 array 1 16
 array 2 1
@@ -114,9 +114,9 @@ epoch 4
 1 5 2
 2 0 36
 ",
-];
+);
 
-const QUEUE: [&str; 3] = [
+const QUEUE: (&str, &str, &str) = (
     "\
 tree 1
 array 2 2
@@ -155,9 +155,9 @@ epoch 3
 2 0 4
 2 1 4
 ",
-];
+);
 
-const PRICES: [&str; 3] = [
+const PRICES: (&str, &str, &str) = (
     "\
 tree 2
 array 1 2
@@ -188,28 +188,27 @@ epoch 2
 2 1200 46
 2 1700 42
 ",
-];
+);
+
+// The script, what is told, and what a dump tells then.
+const EXAMPLES: [(&str, &str, &str); 5] = [LEDGER, TRANSFERS, INVENTORY, QUEUE, PRICES];
 
 fn check_example<R: Threads + Wait + Sync + AllocGlobal>(
     rt: &R,
-    example: [&str; 3],
+    script: &str,
+    text: &str,
+    kept: &str,
 ) -> Result<(), Fail> {
-    let [script, text, kept] = example;
     let mut vault = fresh_vault(rt.alloc())?;
-    check_answer(
-        rt,
-        &mut vault,
-        "run",
-        script.as_bytes(),
-        (0, text.as_bytes()),
-    )?;
+    let told = (0, text.as_bytes());
+    check_answer(rt, &mut vault, "run", script.as_bytes(), told)?;
     check_answer(rt, &mut vault, "dump", b"", (0, kept.as_bytes()))
 }
 
 #[test]
 fn each_example_comes_to_its_text(rt: HostRuntime) -> Result<(), Fail> {
-    for example in [LEDGER, TRANSFERS, INVENTORY, QUEUE, PRICES] {
-        check_example(&rt, example)?;
+    for (script, text, kept) in &EXAMPLES {
+        check_example(&rt, script, text, kept)?;
     }
     Ok(())
 }

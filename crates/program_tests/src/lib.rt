@@ -1,14 +1,13 @@
-//! The answers of whole calls, and of the program. Texts, statuses and failing calls are those of the program's
-//! description.
+//! The answers of whole calls over disks in memory, with no trouble of a device. Texts and statuses are those of the
+//! program's description.
 //!
-//! They stand in a crate above those that they test, because a crate with tests is proved a second time. All of it is
-//! for tests alone: without them the crate is empty.
+//! They stand in crates above those that they test, because a crate with tests is proved a second time; in several ones
+//! (`fault_tests`, `thread_tests`, `folder_tests` too), as these are proved side by side. All of it is for tests alone:
+//! without them the crate is empty.
 #![tactic(auto)]
 
 #[cfg(test)]
 mod brief;
-#[cfg(test)]
-mod calling;
 #[cfg(test)]
 mod calls;
 #[cfg(test)]
@@ -16,39 +15,20 @@ mod dumps;
 #[cfg(test)]
 mod examples;
 #[cfg(test)]
-mod failing_devices;
-#[cfg(test)]
-mod folders;
-#[cfg(test)]
-mod gates;
-#[cfg(test)]
 mod gleans;
-#[cfg(test)]
-mod in_turn;
 #[cfg(test)]
 mod kept_runs;
 #[cfg(test)]
 mod listings;
 #[cfg(test)]
-mod programs;
-#[cfg(test)]
 mod slots;
-#[cfg(test)]
-mod stops;
-#[cfg(test)]
-mod threads;
-#[cfg(test)]
-mod written_rounds;
 
 #[cfg(test)]
-use calling::*;
+use call_fixtures::*;
 #[cfg(test)]
-use in_turn::InTurn;
+use log_writer::Vault;
 #[cfg(test)]
-use log_writer::{Records, Vault};
-use outside::{Disk, MemDisk, MemSink, MemSource, OpenGate, SureSource};
-#[cfg(test)]
-use program_entry::{Watcher, top};
+use outside::{MemDisk, MemSink, OpenGate};
 #[cfg(test)]
 use std::alloc::{AllocError, Global};
 #[cfg(test)]

@@ -36,6 +36,49 @@ run --slots 4 # array 1 1|array 2 2|array 3 32|array 4 4|array 5 5|0 a 1 0 1; a 
 dump # # 0 # epoch 2|1 0 1|2 0 1|3 0 1|3 31 1|4 0 2|5 4 1|
 ";
 
+// Two snapshots of an array of four leaves, whose pages are published within the run: what was put before, between and
+// behind them is read, and a leaf that has nothing.
+const GLEANED: &str = "\
+array 1 128
+0 w 1 0 1; w 1 32 2; w 1 64 3
+join
+0 w 1 1 4; w 1 33 5
+k epoch
+k save
+k glean
+join
+k glean
+join
+0 r 1 0; r 1 1; r 1 32; r 1 33; r 1 64; r 1 100
+0 a 1 0 9; r 1 0
+";
+
+const GLEANED_TOLD: &str = "\
+0.0 ok 1:1
+durable 1
+0.0 ok 2:2
+k.0 epoch 3
+k.1 save 1
+k.2 snap 1 new 5
+durable 3
+k.0 snap 3 new 4
+durable 4
+0.0 ok 5:3 1 4 2 5 3 0
+0.1 ok 5:4 10
+durable 5
+";
+
+// How it is run: with room for a few pages of snapshots, and for many.
+const ROOMS: [&str; 2] = ["run --slots 4 --snap 64", "run --slots 4 --snap 4096"];
+
+#[test]
+fn lines_go_on_over_published_pages(rt: HostRuntime) -> Result<(), Fail> {
+    for asked in &ROOMS {
+        check_leaves(&rt, asked, GLEANED, GLEANED_TOLD)?;
+    }
+    Ok(())
+}
+
 // The lines that are written leaf by leaf.
 const LINES: u32 = 300;
 

@@ -59,9 +59,13 @@ fn key_of(size: u32, key: u64) -> Key
     requires { 0 < size }
     ensures { IsArrayKey (declared size) result }
 {
+    let size = u64::from(size);
+    if key < size {
+        return Key { storage: 1, key };
+    }
     Key {
         storage: 1,
-        key: key % u64::from(size),
+        key: key % size,
     }
 }
 
@@ -368,12 +372,12 @@ fn insist(worker: &mut Worker, engine: &Engine, work: Work)
     }
 }
 
-// The key with this number of so many that are spread over an array of this size.
-fn spread(size: u32, number: u64, count: u64) -> u64 {
+// How far apart so many keys lie that are spread over an array of this size.
+fn apart(size: u32, count: u64) -> u64 {
     if count == 0 {
-        return number;
+        return 1;
     }
-    number.wrapping_mul(u64::from(size)) / count
+    u64::from(size) / count
 }
 
 fn read_many(worker: &mut Worker, engine: &Engine, count: u64) -> bool
@@ -384,8 +388,9 @@ fn read_many(worker: &mut Worker, engine: &Engine, count: u64) -> bool
     let Ok(()) = worker.txn.begin(engine, &mut worker.pass) else {
         return false;
     };
+    let step = apart(worker.size, count);
     for k in 0..count {
-        let key = key_of(worker.size, spread(worker.size, k, count));
+        let key = key_of(worker.size, k.wrapping_mul(step));
         let Ok(_) = worker.txn.read(engine, &mut worker.pass, key) else {
             return false;
         };

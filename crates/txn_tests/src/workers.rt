@@ -154,11 +154,22 @@ fn work_all<R: Threads + Sync>(
         &|i: usize, worker: &mut Worker|
             requires { Stands engine.now worker.now }
             ensures { Stands engine.entry.now worker.exit.now }
-        { repeat(worker, engine, further(work, first_of(i, apart)), rounds) },
+        {
+            repeat(
+                worker,
+                engine,
+                further(work, first_of(i, worker.size, apart)),
+                rounds,
+            )
+        },
     );
 }
 
-// The workers' keys lie 16 apart, in other lines of memory.
-fn first_of(worker: usize, apart: bool) -> u64 {
-    if apart { worker as u64 % 8 * 16 } else { 0 }
+// The workers' keys lie 16 apart, in other lines of memory, or as far as the array has room.
+fn first_of(worker: usize, size: u32, apart: bool) -> u64 {
+    if apart {
+        worker as u64 % 8 * u64::from(size / 16).clamp(2, 16)
+    } else {
+        0
+    }
 }

@@ -1,13 +1,15 @@
 // A gate by which a script has one text.
-use super::*;
 use outside::Gate;
+use program_entry::Watcher;
+use std::alloc::{AllocError, Global};
 use std::sync::atomic::{AtomicU64, Ordering};
+use std::test::Fail;
 use tx_script::{Round, read_script};
 
-// A gate that lets one line run after another, worker 0's of a round first: then a script has one text. Each line is
-// waited for some turns at most, as one that isn't run never ends.
+/// A gate that lets one line run after another, worker 0's of a round first: then a script has one text. Each line is
+/// waited for some turns at most, as one that isn't run never ends.
 #[derive(Drop)]
-pub(super) struct InTurn {
+pub struct InTurn {
     // The workers' lines, in the order in which they are to run.
     order: Vec<(u8, u32)>,
     // How many of them are over.
@@ -15,8 +17,8 @@ pub(super) struct InTurn {
 }
 
 impl InTurn {
-    // Of a script; where the bytes are none there are no lines.
-    pub(super) fn of(alloc: Global, script: &[u8]) -> Result<Self, Fail> {
+    /// Of a script; where the bytes are none there are no lines.
+    pub fn of(alloc: Global, script: &[u8]) -> Result<Self, Fail> {
         let mut order = Vec::new(alloc);
         if let Ok(script) = read_script(alloc, script) {
             for index in 0..script.rounds() {

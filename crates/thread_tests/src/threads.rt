@@ -1,8 +1,8 @@
 // Workers' lines on threads: they overlap, and what they come to is what they come to one after another, by number.
-use super::calls::CASES;
-use super::failing_devices::failing_vault;
+ghost use Rattle.outside.specs.Disk.{IfTold, Only};
+
 use super::*;
-use outside::Gate;
+use outside::{Disk, Gate};
 use serial_model::{Number, Op, Plain, fits, run_one};
 use std::collections::BTreeMap;
 use std::sync::atomic::{AtomicU64, Ordering};
@@ -97,24 +97,33 @@ fn check_round<R: AllocGlobal>(
     round: &Round<'_>,
     told: &[&str],
 ) -> Result<(), Fail> {
-    let alloc = rt.alloc();
-    let mut last = [None; 8];
-    for (draw, (worker, line, text)) in by_number(rt, told)?.iter() {
-        let Some(ops) = ops_of(alloc, round, *worker, *line)? else {
-            return Err(Fail::from("a line that isn't the script's"));
-        };
-        let epoch = number_of(text)?
-            .unwrap_or(Number { epoch: 0, draw: 0 })
-            .epoch;
-        let number = Number { epoch, draw: *draw };
-        let mut want = plain_line(alloc, plain, (*worker, *line), number, &ops)?;
-        let _newline = want.pop();
+    let mut last = BTreeMap::new(rt.alloc());
+    for (_draw, (worker, line, text)) in by_number(rt, told)?.iter() {
+        let want = wanted(rt.alloc(), plain, round, (*worker, *line), text)?;
         is_same(text, text.as_bytes(), &want)?;
-        let before = &mut last[*worker as usize % 8];
-        is_so(text, *before < Some(*line))?;
-        *before = Some(*line);
+        let before = last.insert(*worker, *line)?;
+        is_so(text, before < Some(*line))?;
     }
     Ok(())
+}
+
+// The line of a worker at this place, by the number that it tells, as the plain engine has it.
+fn wanted(
+    alloc: Global,
+    plain: &mut Plain,
+    round: &Round<'_>,
+    (worker, line): (u8, u32),
+    text: &str,
+) -> Result<Vec<u8>, Fail> {
+    let Some(number) = number_of(text)? else {
+        return Err(Fail::from("a line without a number"));
+    };
+    let Some(ops) = ops_of(alloc, round, worker, line)? else {
+        return Err(Fail::from("a line that isn't the script's"));
+    };
+    let mut want = plain_line(alloc, plain, (worker, line), number, &ops)?;
+    let _newline = want.pop();
+    Ok(want)
 }
 
 // Checks what is told of a run over a fresh database: a line for each of the script's, and each round as above. Answers
@@ -172,21 +181,41 @@ fn run_checked<R: Threads + Wait + Sync + AllocGlobal>(
     asked: &str,
     bytes: &[u8],
 ) -> Result<Vault<MemDisk>, Fail> {
-    let alloc = rt.alloc();
-    let Ok(script) = read_script(alloc, bytes) else {
+    let mut vault = fresh_vault(rt.alloc())?;
+    let told = run_by(rt, &mut vault, asked, bytes)?;
+    let kept = kept_of(rt, bytes, str::from_utf8(&told)?)?;
+    check_answer(rt, &mut vault, "dump", b"", (0, kept.as_slice()))?;
+    Ok(vault)
+}
+
+// What is told of a run that was done, and has no lines but those that its words allow.
+fn run_by<R: Threads + Wait + Sync + AllocGlobal>(
+    rt: &R,
+    vault: &mut Vault<MemDisk>,
+    asked: &str,
+    bytes: &[u8],
+) -> Result<Vec<u8>, Fail>
+    requires { IfTold (⟦<MemDisk as Disk>⟧.tells vault.old.save)
+        (Only ⟦<MemDisk as Disk>⟧.clock ⟦<MemDisk as Disk>⟧.image_at vault.old.save) }
+{
+    let (status, told) = answer_by(rt, vault, asked, bytes, &OpenGate)?;
+    is_so(
+        asked,
+        status == 0 && may_tell(asked, str::from_utf8(&told)?),
+    )?;
+    Ok(told)
+}
+
+// What a database is to keep of which this was told, by the plain engine.
+fn kept_of<R: AllocGlobal>(rt: &R, bytes: &[u8], told: &str) -> Result<Vec<u8>, Fail> {
+    let Ok(script) = read_script(rt.alloc(), bytes) else {
         return Err(Fail::from("no script"));
     };
-    let mut vault = fresh_vault(alloc)?;
-    let (status, bytes) = answer_by(rt, &mut vault, asked, bytes, &OpenGate)?;
-    let told = str::from_utf8(&bytes)?;
-    is_so(asked, status == 0 && may_tell(asked, told))?;
-    let plain = check_serial(rt, &script, told)?;
     let Ok(epoch) = u32::try_from(script.rounds()) else {
         return Err(Fail::from("too many rounds"));
     };
-    let kept = text_of(alloc, &plain, epoch)?;
-    check_answer(rt, &mut vault, "dump", b"", (0, kept.as_slice()))?;
-    Ok(vault)
+    let plain = check_serial(rt, &script, told)?;
+    text_of(rt.alloc(), &plain, epoch)
 }
 
 const ARRAY: &[u8] = b"array 1 3\n";
@@ -248,22 +277,21 @@ const ADDED: [&str; 8] = [
     "7 a 1 2 4; a 1 0 4",
 ];
 
+const SUMMED_UP: &[u8] = b"commits 400\ntotal 1800\ndurable 1\n";
+
+fn check_sum<R: Threads + Wait + Sync + AllocGlobal>(rt: &R, decls: &[u8]) -> Result<(), Fail> {
+    let script = repeated(rt.alloc(), decls, &ADDED, 50)?;
+    let mut vault = fresh_vault(rt.alloc())?;
+    let asked = "run --brief --tries 1000000";
+    let (status, told) = answer_by(rt, &mut vault, asked, &script, &OpenGate)?;
+    is_answer("a sum", (status, &told), (0, SUMMED_UP))
+}
+
 // The sum of what eight threads added is that of what the plain map, which a tree asks for, has.
 #[test]
 fn eight_workers_are_summed_up(rt: HostRuntime) -> Result<(), Fail> {
-    let alloc = rt.alloc();
-    for decls in [ARRAY, ARRAY_AND_TREE] {
-        let script = repeated(alloc, decls, &ADDED, 50)?;
-        let mut vault = fresh_vault(alloc)?;
-        let asked = "run --brief --tries 1000000";
-        let (status, told) = answer_by(&rt, &mut vault, asked, &script, &OpenGate)?;
-        is_answer(
-            "a sum",
-            (status, &told),
-            (0, b"commits 400\ntotal 1800\ndurable 1\n"),
-        )?;
-    }
-    Ok(())
+    check_sum(&rt, ARRAY)?;
+    check_sum(&rt, ARRAY_AND_TREE)
 }
 
 // A script with its lines dealt to so many workers, one after another.
@@ -299,8 +327,8 @@ fn check_dealt<R: Threads + Wait + Sync + AllocGlobal>(
 #[test]
 fn lines_may_be_any_workers(rt: HostRuntime) -> Result<(), Fail> {
     for row in CASES.lines() {
-        let [asked, script, status, _text] = parts(row);
-        if asked.starts_with("run") && status == "0" && !script.contains("k ") {
+        let (asked, script) = (part(row, 0), part(row, 1));
+        if asked.starts_with("run") && part(row, 2) == "0" && !script.contains("k ") {
             for workers in [1, 2, 8] {
                 check_dealt(&rt, script, workers)?;
             }
@@ -402,24 +430,42 @@ fn half_run(alloc: Global, failing: u8) -> Result<Vec<u8>, AllocError> {
     Ok(text)
 }
 
+// Compares what is told of such a run with that.
+fn check_half_told<R: Threads + Wait + Sync + AllocGlobal>(
+    rt: &R,
+    vault: &mut Vault<MemDisk>,
+    script: &[u8],
+    device: &str,
+    want: &[u8],
+) -> Result<(), Fail>
+    requires { IfTold (⟦<MemDisk as Disk>⟧.tells vault.old.save)
+        (Only ⟦<MemDisk as Disk>⟧.clock ⟦<MemDisk as Disk>⟧.image_at vault.old.save) }
+{
+    let (status, told) = answer_by(rt, vault, "run", script, &OpenGate)?;
+    let text = without_numbers(rt.alloc(), str::from_utf8(&told)?)?;
+    is_answer(device, (status, &text), (5, want))
+}
+
+// The run in which this worker's log file fails, and its last line.
+fn check_half<R: Threads + Wait + Sync + AllocGlobal>(
+    rt: &R,
+    script: &[u8],
+    failing: u8,
+    device: &str,
+    last: &str,
+) -> Result<(), Fail> {
+    let mut want = half_run(rt.alloc(), failing)?;
+    want.extend_from_slice(last.as_bytes())?;
+    let fresh = fresh_vault(rt.alloc())?;
+    let mut vault = failing_vault(rt.alloc(), &fresh, device, 1)?;
+    check_half_told(rt, &mut vault, script, device, &want)?;
+    check_row(rt, &mut vault, "dump # # 0 # epoch 0|")
+}
+
 // A log file that fails ends its own worker's lines, and no other's.
 #[test]
 fn others_go_on(rt: HostRuntime) -> Result<(), Fail> {
-    let alloc = rt.alloc();
-    let script = repeated(alloc, ARRAY, &["0 w 1 0 1", "1 w 1 1 1"], 100)?;
-    let cases: [(u8, &str, &str); 2] = [
-        (0, "bank0", "device bank0 \n"),
-        (1, "bank2", "device bank2 \n"),
-    ];
-    for (failing, device, last) in cases {
-        let fresh = fresh_vault(alloc)?;
-        let mut vault = failing_vault(alloc, &fresh, device, 1)?;
-        let (status, told) = answer_by(&rt, &mut vault, "run", &script, &OpenGate)?;
-        let mut want = half_run(alloc, failing)?;
-        want.extend_from_slice(last.as_bytes())?;
-        let text = without_numbers(alloc, str::from_utf8(&told)?)?;
-        is_answer(device, (status, &text), (5, &want))?;
-        check_row(&rt, &mut vault, "dump # # 0 # epoch 0|")?;
-    }
-    Ok(())
+    let script = repeated(rt.alloc(), ARRAY, &["0 w 1 0 1", "1 w 1 1 1"], 100)?;
+    check_half(&rt, &script, 0, "bank0", "device bank0 \n")?;
+    check_half(&rt, &script, 1, "bank2", "device bank2 \n")
 }

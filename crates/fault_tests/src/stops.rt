@@ -2,7 +2,6 @@
 ghost use Rattle.std.specs.Prelude.{IfOk};
 ghost use Rattle.outside.specs.Disk.{IfTold, Only};
 
-use super::failing_devices::is_bank;
 use super::*;
 use outside::{Call, FuseDisk, Made};
 

@@ -1,8 +1,8 @@
 // The program over a folder: its files, its words, what it explains.
 use super::folders::check_file;
 use super::*;
+use call_fixtures::{Ending, run_program};
 use call_notes::{ScriptSource, explanation};
-use program_entry::{Ending, run_program};
 use std::fs::{self, File, Files};
 use std::process::ExitCode;
 

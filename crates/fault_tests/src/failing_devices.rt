@@ -1,83 +1,7 @@
 // Runs of which one call of one device fails.
-ghost use Rattle.std.specs.Prelude.{IfOk};
 ghost use Rattle.outside.specs.Disk.{IfTold, Only};
 
-use super::calls::{First, first_vault};
 use super::{brief, gleans, *};
-
-// The names of the log files.
-pub(super) const BANKS: [&str; 16] = [
-    "bank0", "bank1", "bank2", "bank3", "bank4", "bank5", "bank6", "bank7", "bank8", "bank9",
-    "bank10", "bank11", "bank12", "bank13", "bank14", "bank15",
-];
-
-// The numbers of the calls that fail: this one, if it is the device that is meant.
-fn fails_of(alloc: Global, is_meant: bool, call: u64) -> Result<Vec<u64>, AllocError> {
-    let mut fails = Vec::new(alloc);
-    if is_meant {
-        fails.push(call)?;
-    }
-    Ok(fails)
-}
-
-// A disk of what another holds, of which this call fails if it is the device that is meant.
-fn failing_disk(
-    alloc: Global,
-    disk: &MemDisk,
-    is_meant: bool,
-    call: u64,
-) -> Result<MemDisk, AllocError>
-    ensures { IfOk result (λ disk. IfTold (⟦<MemDisk as Disk>⟧.tells disk)
-        (Only ⟦<MemDisk as Disk>⟧.clock ⟦<MemDisk as Disk>⟧.image_at disk)) }
-{
-    disk_of(alloc, disk.bytes(), &fails_of(alloc, is_meant, call)?)
-}
-
-// Disks of what log files of even number hold, or of odd number, of which this call of this device fails.
-fn failing_disks(
-    alloc: Global,
-    disks: &[MemDisk],
-    is_odd: bool,
-    device: &str,
-    call: u64,
-) -> Result<Vec<MemDisk>, AllocError> {
-    let mut failing = Vec::new(alloc);
-    for worker in 0..disks.len().min(8) {
-        let is_meant = is_bank(worker, is_odd, device);
-        failing.push(failing_disk(alloc, &disks[worker], is_meant, call)?)?;
-    }
-    Ok(failing)
-}
-
-// Whether a device is this log file of a worker.
-pub(super) fn is_bank(worker: usize, is_odd: bool, device: &str) -> bool {
-    let bank = if is_odd { 1 } else { 0 };
-    BANKS[(worker % 8) * 2 + bank] == device
-}
-
-// A vault of what another holds, of which this call of this device fails.
-pub(super) fn failing_vault(
-    alloc: Global,
-    vault: &Vault<MemDisk>,
-    device: &str,
-    call: u64,
-) -> Result<Vault<MemDisk>, AllocError>
-    ensures { IfOk result (λ vault. IfTold (⟦<MemDisk as Disk>⟧.tells vault.save)
-        (Only ⟦<MemDisk as Disk>⟧.clock ⟦<MemDisk as Disk>⟧.image_at vault.save)) }
-{
-    let save = failing_disk(alloc, &vault.save, device == "save", call)?;
-    let snaps = failing_disk(alloc, &vault.snaps, device == "snaps", call)?;
-    let even = failing_disks(alloc, &vault.even, false, device, call)?;
-    let odd = failing_disks(alloc, &vault.odd, true, device, call)?;
-    Ok(Vault {
-        save,
-        snaps,
-        even,
-        odd,
-        ties: Records::new(alloc),
-        cuts: Records::new(alloc),
-    })
-}
 
 const SCRIPT: &[u8] = b"array 1 4\n0 w 1 2 7\njoin\n1 w 1 0 9\nk save\n";
 
@@ -194,16 +118,11 @@ pub(super) fn check_failures<R: Threads + Wait + Sync + AllocGlobal>(
     asked: (&str, &[u8]),
     row: &str,
 ) -> Result<(), Fail> {
-    let [device, first, last, _] = parts(row);
-    for call in first.parse::<u64>()?..=last.parse::<u64>()? {
-        check_failure(rt, vault, asked, (device, call), row)?;
+    let (first, last) = (part(row, 1).parse::<u64>()?, part(row, 2).parse::<u64>()?);
+    for call in first..=last {
+        check_failure(rt, vault, asked, (part(row, 0), call), row)?;
     }
     Ok(())
-}
-
-// The part of a row of this index.
-pub(super) fn part(row: &str, index: usize) -> &str {
-    row.split('#').nth(index).unwrap_or("").trim()
 }
 
 // The other log files are cut, and not called again.
@@ -246,6 +165,18 @@ const FAILURES: [(First, &str, &[u8], &str); 9] = [
     (First::Kept(2, 1, 1, 40), "snap 7", b"", LISTING),
 ];
 
+fn check_each<R: Threads + Wait + Sync + AllocGlobal>(
+    rt: &R,
+    vault: &Vault<MemDisk>,
+    asked: (&str, &[u8]),
+    rows: &str,
+) -> Result<(), Fail> {
+    for row in rows.lines() {
+        check_failures(rt, vault, asked, row)?;
+    }
+    Ok(())
+}
+
 fn check_all_failures<R: Threads + Wait + Sync + AllocGlobal>(
     rt: &R,
     first: First,
@@ -253,10 +184,7 @@ fn check_all_failures<R: Threads + Wait + Sync + AllocGlobal>(
     rows: &str,
 ) -> Result<(), Fail> {
     let vault = first_vault(rt.alloc(), first)?;
-    for row in rows.lines() {
-        check_failures(rt, &vault, asked, row)?;
-    }
-    Ok(())
+    check_each(rt, &vault, asked, rows)
 }
 
 #[test]
@@ -280,11 +208,15 @@ fn hundred_lines(alloc: Global, script: &mut Vec<u8>, row: &mut String) -> Resul
 }
 
 fn add_line(alloc: Global, row: &mut String, index: u32) -> Result<(), AllocError> {
-    let line = if index < 93 {
-        format!(in alloc; "0.{index} ok 1:{}|", index + 1)?
-    } else {
-        format!(in alloc; "0.{index} unrun|")?
-    };
+    if index < 93 {
+        return add_run(alloc, row, index);
+    }
+    let line = format!(in alloc; "0.{index} unrun|")?;
+    row.push_str(line.as_str())
+}
+
+fn add_run(alloc: Global, row: &mut String, index: u32) -> Result<(), AllocError> {
+    let line = format!(in alloc; "0.{index} ok 1:{}|", index.wrapping_add(1))?;
     row.push_str(line.as_str())
 }
 

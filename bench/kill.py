@@ -35,7 +35,8 @@ def call(program, folder, *words):
 
 def try_making(program, folder):
     """Whether the program was killed before all files were there."""
-    kill_within(subprocess.Popen([program, "dump"], cwd=folder, stdout=subprocess.DEVNULL), LONGEST_MAKING)
+    begun = subprocess.Popen([program, "dump"], cwd=folder, stdout=subprocess.DEVNULL, stderr=subprocess.DEVNULL)
+    kill_within(begun, LONGEST_MAKING)
     vault = f"{folder}/vault"
     made = [name for name in os.listdir(vault) if "." not in name] if os.path.isdir(vault) else []
     answer = call(program, folder, "dump")

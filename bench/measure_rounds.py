@@ -1,13 +1,14 @@
 #!/usr/bin/env python3
-"""Measures rounds on threads: `foedus run --brief` with scripts over arrays, beside plain_rounds.cpp, which makes the
-same atomic steps, log lines, writes and syncs in the same rhythm.
+"""Measures rounds on threads: `foedus run` with scripts over arrays, beside plain_rounds.cpp, which has no pages, and
+makes the same log lines, writes and syncs in the same rhythm.
 
 Scripts of 65,536 lines by 1, 2, 4 and 8 workers: two additions a line to two arrays, as `foedus make` has them; the
 same with each worker on keys of its own; transfers among 1,024 keys; additions to one key; sixteen reads; and rounds
 of 64 and of 8 lines, with fewer lines in all. A line is tried up to a million times; where one was in conflict at each
 of them, the run is made again. Each run begins with a fresh database whose files were made before it. Both programs
-have to tell as many commits, the same sum and the same epoch. They run in turn, and of each the middle and the least of
-its seconds are told.
+print each line's outcome, and in a second row what a run in brief tells, for which both read their files again. They
+have to tell as many commits, the same sum and the same epoch; by one worker each word. They run in turn, and of each the
+middle and the least of its seconds are told.
 Usage: bench/measure_rounds.py PROGRAM [FOLDER], where PROGRAM is the built program and FOLDER lies on the disk that is
 to be measured; without it, in memory.
 """
@@ -71,22 +72,32 @@ def script(kind, workers, lines, every):
     return "\n".join(text) + "\n"
 
 
-def measure(program, plain, source, folder):
+def measure(program, plain, brief, source, folder):
     ours, others = [], []
     for _ in range(TIMES):
-        (seconds, _), (told, _) = over_fresh(program, [plain], "vault", source, folder)
+        (seconds, _), (told, _) = over_fresh(program, [plain, *brief], "vault", source, folder)
         others.append(seconds)
-        ours.append(own_seconds(program, source, folder, told))
+        ours.append(own_seconds(program, brief, source, folder, told))
     return ours, others
 
 
-def own_seconds(program, source, folder, told):
+def own_seconds(program, brief, source, folder, told):
     """Of the first run in which no line was in conflict at each of its tries: it tells what the plain program does."""
     for _ in range(RUNS):
-        (seconds, _), (own, _) = over_fresh(program, [program, "run", "--brief", "--tries", TRIES], ".", source, folder)
-        if own == told:
+        command = [program, "run", *brief, "--tries", TRIES]
+        (seconds, _), (own, _) = over_fresh(program, command, ".", source, folder)
+        if is_same(own, told):
             return seconds
-    sys.exit(f"the programs tell something different: {own!r} and {told!r}")
+    sys.exit("the programs tell something different")
+
+
+def is_same(own, told):
+    """The same, but for the numbers of commits and the replies where workers took turns otherwise."""
+    if own == told:
+        return True
+    each, other = own.split(b"\n"), told.split(b"\n")
+    several = any(line.startswith(b"1.0 ") for line in other)
+    return several and [line.split(b":")[0] for line in each] == [line.split(b":")[0] for line in other]
 
 
 def tell(name, ours, others):
@@ -110,7 +121,9 @@ def main():
             for workers in WORKERS:
                 with open(source, "w", encoding="ascii") as file:
                     file.write(script(kind, workers, lines, every))
-                tell(f"{name}, {workers}", *measure(program, plain, source, folder))
+                for brief in ((), ("--brief",)):
+                    told = measure(program, plain, brief, source, folder)
+                    tell(", ".join([name, str(workers), *(word[2:] for word in brief)]), *told)
 
 
 if __name__ == "__main__":

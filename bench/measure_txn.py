@@ -2,9 +2,9 @@
 """Measures transactions over pages (page_commit), beside plain_txn.cpp, which makes the same atomic steps by hand.
 
 Over arrays of 32, 1,000 and 131,072 values (heights 1 to 3), one worker and four in threads make transactions that read
-two values and add to two others, and transactions of sixteen reads, each worker from another first key on. Both
-programs run in turn, and of each the middle and the best of its times are told: a transaction's nanoseconds, all
-workers together.
+two values and add to two others, each worker at keys of its own, and transactions of sixteen reads, all at the same
+keys. The pages of all keys are in memory before. Both programs run in turn, and of each the middle and the best of its
+times are told: a transaction's nanoseconds, all workers together.
 Usage: bench/measure_txn.py FOLDER. The proved program is made in FOLDER, from a copy of the crates as they stand here
 and a crate of a few lines, and stays there (txn_tests, which drives the transactions, is for tests alone here; in the
 copy it is a library): the first time all crates below are proved, which takes as long as for the
@@ -28,7 +28,7 @@ MAIN = """\
 
 use std::io;
 use std::time::Instant;
-use txn_tests::{Plan, Work, Workers};
+use txn_tests::{Call, Plan, Work, Workers};
 
 fn main(rt: HostRuntime) -> io::Result<()> {
     let alloc = rt.alloc();
@@ -38,6 +38,7 @@ fn main(rt: HostRuntime) -> io::Result<()> {
                 let Ok(mut workers) = Workers::new(alloc, Plan { size, slots, draw: 1 }, count) else {
                     return Ok(());
                 };
+                bring_all(&mut workers, u64::from(size));
                 let start = Instant::now(&rt)?;
                 workers.work_in_threads(&rt, work, 500_000, true);
                 let took = start.elapsed(&rt)?;
@@ -50,6 +51,24 @@ fn main(rt: HostRuntime) -> io::Result<()> {
         }
     }
     Ok(())
+}
+
+/// Brings the pages of all keys into memory that any worker uses.
+fn bring_all(workers: &mut Workers, size: u64) {
+    for k in 0..16u64 {
+        bring_up(workers, k.wrapping_mul(size / 16));
+    }
+    let apart = (size / 16).clamp(2, 16);
+    for k in 0..16u64 {
+        bring_up(workers, (k / 4).wrapping_mul(apart).wrapping_add((k % 4).wrapping_mul(size / 4)));
+    }
+}
+
+/// Adds to the value at a key, which brings its page into memory.
+fn bring_up(workers: &mut Workers, key: u64) {
+    workers.play(0, Call::Begin);
+    workers.play(0, Call::Add(key, 1));
+    workers.play(0, Call::Commit(true));
 }
 """
 

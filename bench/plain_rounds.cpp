@@ -1,13 +1,15 @@
-// What `foedus run --brief` does with a script over arrays, written by hand in the plainest way: the same atomic steps of
-// transactions over the same words (as in plain_txn.cpp), a thread for each worker that has lines in a round, and the
-// same log lines, writes and syncs in the same rhythm. It checks nothing and recovers nothing. It is there for
-// measure_rounds.py to compare with. It knows `array` lines, workers' lines of `r`, `w`, `a` and `t`, and `join`.
-// Usage, in the folder of a fresh database: plain_rounds < SCRIPT
+// What `foedus run` does with a script over arrays, written by hand in the plainest way: transactions over words of the
+// values themselves, with no pages, a thread for each worker that has lines in a round, and the same log lines, writes
+// and syncs in the same rhythm. It prints each line's outcome, or, in brief, how many committed and the sum of the values
+// that its files have, which it reads again. It checks nothing. It is there for measure_rounds.py to compare with. It
+// knows `array` lines, workers' lines of `r`, `w`, `a` and `t`, and `join`.
+// Usage, in the folder of a fresh database: plain_rounds [--brief] < SCRIPT
 #include <fcntl.h>
 #include <sched.h>
 #include <unistd.h>
 
 #include <atomic>
+#include <charconv>
 #include <cstdint>
 #include <cstdio>
 #include <cstdlib>
@@ -46,10 +48,22 @@ struct Device {
         check(ftruncate(file, 0) == 0, "cut");
         sync();
     }
+
+    std::vector<unsigned char> read() {
+        std::vector<unsigned char> bytes((size_t)lseek(file, 0, SEEK_END));
+        check(pread(file, bytes.data(), bytes.size(), 0) == (ssize_t)bytes.size(), "read");
+        return bytes;
+    }
 };
 
 static void put_word(unsigned char *to, uint64_t word) {
     for (int i = 0; i < 8; i++) to[i] = (unsigned char)(word >> (56 - 8 * i));
+}
+
+static uint64_t word_at(const unsigned char *from) {
+    uint64_t word = 0;
+    for (int i = 0; i < 8; i++) word = word << 8 | from[i];
+    return word;
 }
 
 struct Storage {
@@ -251,11 +265,18 @@ static void parse(const char *at, std::vector<Op> &ops) {
     }
 }
 
+// A line that committed: its number, and how many replies there are up to it.
+struct Done {
+    uint64_t number;
+    size_t replies;
+};
+
 struct Worker {
     Journal journal;
     Txn txn;
     std::vector<const char *> lines;
-    std::vector<uint64_t> replies, numbers;
+    std::vector<uint64_t> replies;
+    std::vector<Done> done;
     uint64_t commits = 0;
 
     Worker(Table &table, int worker) : journal("bank" + std::to_string(2 * worker)), txn(table) {}
@@ -268,7 +289,7 @@ struct Worker {
             for (;;) {
                 size_t before = replies.size();
                 if (txn.attempt(ops, replies)) {
-                    numbers.push_back(txn.number);
+                    done.push_back({txn.number, replies.size()});
                     commits++;
                     if (txn.writes > 0) journal.put(txn.number, txn.write_set, txn.writes);
                     break;
@@ -278,10 +299,32 @@ struct Worker {
         }
         journal.flush();
         lines.clear();
-        replies.clear();
-        numbers.clear();
     }
 };
+
+static void put_number(std::string &text, uint64_t n) {
+    char digits[20];
+    text.append(digits, (size_t)(std::to_chars(digits, digits + 20, n).ptr - digits));
+}
+
+// Prints the outcomes of a worker's lines of a round, with all replies.
+static void tell(size_t worker, const Worker &of, std::string &text) {
+    size_t reply = 0;
+    for (size_t i = 0; i < of.done.size(); i++) {
+        put_number(text, worker);
+        text += '.';
+        put_number(text, i);
+        text += " ok ";
+        put_number(text, of.done[i].number / DRAWS);
+        text += ':';
+        put_number(text, of.done[i].number % DRAWS);
+        for (; reply < of.done[i].replies; reply++) {
+            text += ' ';
+            put_number(text, of.replies[reply]);
+        }
+        text += '\n';
+    }
+}
 
 // A savepoint in a place that is closed: its body is written, and then the place is opened, with a sync before and
 // after each.
@@ -310,7 +353,44 @@ static void run_round(std::vector<std::unique_ptr<Worker>> &workers) {
     for (std::thread &thread : threads) thread.join();
 }
 
-int main() {
+static void tell_round(std::vector<std::unique_ptr<Worker>> &workers, bool brief, uint64_t epoch) {
+    std::string text;
+    for (size_t worker = 0; worker < workers.size(); worker++) {
+        if (!brief) tell(worker, *workers[worker], text);
+        workers[worker]->replies.clear();
+        workers[worker]->done.clear();
+    }
+    if (brief) return;
+    text += "durable ";
+    put_number(text, epoch);
+    text += '\n';
+    fwrite(text.data(), 1, text.size(), stdout);
+    fflush(stdout);
+}
+
+// The sum of the values that the workers' files have, the last of each key by its number.
+static unsigned __int128 sum_of_files(const Table &table, std::vector<std::unique_ptr<Worker>> &workers, size_t length) {
+    std::vector<uint64_t> last(length);
+    for (auto &worker : workers) {
+        std::vector<unsigned char> bytes = worker->journal.device.read();
+        for (const unsigned char *at = bytes.data(), *end = at + bytes.size(); at < end;) {
+            uint64_t number = word_at(at), count = word_at(at + 8);
+            at += 16;
+            for (uint64_t i = 0; i < count; i++, at += 24) {
+                uint32_t place = table.place(word_at(at) - 256, word_at(at + 8));
+                if (number < last[place]) continue;
+                last[place] = number;
+                last[place + 1] = word_at(at + 16);
+            }
+        }
+    }
+    unsigned __int128 total = 0;
+    for (size_t place = RECORDS; place < length; place += 2) total += last[place + 1];
+    return total;
+}
+
+int main(int count, char **words) {
+    bool brief = count > 1 && strcmp(words[1], "--brief") == 0;
     std::string script;
     char block[1 << 16];
     for (size_t n; (n = fread(block, 1, sizeof block, stdin)) > 0;) script.append(block, n);
@@ -345,17 +425,16 @@ int main() {
         run_round(workers);
         table.words[0].fetch_add(DRAWS);
         save(save_device, epoch + 1, epoch);
+        tell_round(workers, brief, epoch);
         if (epoch == 1)
             for (int worker = 0; worker < 8; worker++) Device("bank" + std::to_string(2 * worker + 1)).cut();
         epoch++;
     }
 
-    unsigned __int128 total = 0;
-    for (const Storage &each : storages)
-        for (uint64_t key = 0; key < each.size; key++) total += table.words[each.at + 2 * key + 1].load();
+    if (!brief) return 0;
     uint64_t commits = 0;
     for (auto &worker : workers) commits += worker->commits;
-    printf("commits %llu\ntotal %llu\ndurable %llu\n", (unsigned long long)commits, (unsigned long long)total,
-           (unsigned long long)(epoch - 1));
+    printf("commits %llu\ntotal %llu\ndurable %llu\n", (unsigned long long)commits,
+           (unsigned long long)sum_of_files(table, workers, length), (unsigned long long)(epoch - 1));
     return 0;
 }

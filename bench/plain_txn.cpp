@@ -2,10 +2,11 @@
 // page_commit, sequentially consistent, over a table of the same layout. measure_txn.py compares with it. It prints,
 // line by line, what was done, how many transactions committed, and in how many nanoseconds.
 //
-// For arrays of 32, 1,000 and 131,072 values: 500,000 transactions that read two values and add to two others, and
-// that read sixteen, by one worker and by four in threads, each on keys of its own.
+// For arrays of 32, 1,000 and 131,072 values: 500,000 transactions that read two values and add to two others, by one
+// worker and by four in threads, each on keys of its own; and as many that read sixteen, all the same.
 #include <sched.h>
 
+#include <algorithm>
 #include <atomic>
 #include <chrono>
 #include <cstdint>
@@ -23,7 +24,9 @@ constexpr uint64_t SLOT = 1ull << 32;  // a pointer's word has a slot, plus 1, a
 constexpr uint64_t LIMIT = (1ull << 40) - 64;
 constexpr uint64_t LEAF = 32, MIDDLE = 2048, TOP = 131072;
 constexpr uint64_t STATE = 1 << 16, TIMES = 1 << 18;
-constexpr size_t ROOTS = 10, SLOTS = 32;
+constexpr size_t ROOTS = 10, SLOTS = 32, HASHES = 128;
+
+static size_t hash_of(uint64_t key) { return key % (1ull << 32) * 2654435761 / (1 << 25) % HASHES; }
 
 // One array, whose root has the first root's word.
 struct Table {
@@ -62,6 +65,7 @@ struct Txn {
     Seen pointer_set[128];
     uint32_t hold_set[128];
     bool noted[4096] = {};
+    bool marked[HASHES] = {};
     uint64_t found[16];
 
     explicit Txn(Table &table) : table(table) {}
@@ -80,6 +84,7 @@ struct Txn {
 
     bool begin() {
         for (size_t i = 0; i < holds; i++) noted[hold_set[i]] = false;
+        memset(marked, 0, sizeof marked);
         reads = writes = pointers = holds = 0;
         return word(0).load() % (1ull << 40) < LIMIT;
     }
@@ -97,6 +102,7 @@ struct Txn {
     }
 
     Read *met(uint64_t key) {
+        if (!marked[hash_of(key)]) return nullptr;
         for (size_t i = 0; i < reads; i++)
             if (read_set[i].key == key) return &read_set[i];
         return nullptr;
@@ -207,6 +213,7 @@ struct Txn {
         value = word(at + 1).load();
         if (word(at).load() != first || reads == 256) return false;
         read_set[reads++] = {key, at, first, value};
+        marked[hash_of(key)] = true;
         return true;
     }
 
@@ -279,18 +286,25 @@ struct Txn {
     }
 };
 
-// The keys lie apart by the same step, from the worker's first one on.
-static bool read_write(Txn &txn, uint64_t first) {
-    uint64_t step = txn.table.size / 4, value;
+// The first key of a worker: the workers' keys lie 16 apart, in other lines of memory, or as far as the array has room.
+static uint64_t first_of(uint64_t size, uint64_t worker) {
+    return worker * std::clamp<uint64_t>(size / 16, 2, 16);
+}
+
+// Of four keys, the worker's first one and those a quarter of the array behind one another, two are read and two added
+// to.
+static bool read_write(Txn &txn, uint64_t worker) {
+    uint64_t first = first_of(txn.table.size, worker), step = txn.table.size / 4, value;
     return txn.begin() && txn.read(first, value) && txn.read(first + step, value) && txn.add(first + 2 * step, 1) &&
            txn.add(first + 3 * step, 1) && txn.commit();
 }
 
-static bool read_many(Txn &txn, uint64_t first) {
-    uint64_t step = txn.table.size / 16, value;
+// Keys that are spread over the array, the same for all workers.
+static bool read_many(Txn &txn, uint64_t) {
+    uint64_t value;
     if (!txn.begin()) return false;
     for (uint64_t i = 0; i < 16; i++)
-        if (!txn.read(i * step + first % (step ? step : 1), value)) return false;
+        if (!txn.read(i * (txn.table.size / 16), value)) return false;
     return txn.commit();
 }
 
@@ -312,9 +326,11 @@ static void measure(const std::string &name, uint64_t size, size_t count, bool (
     Table table(size, size > 2048 ? 4096 : 256);
     std::vector<std::unique_ptr<Txn>> txns;
     for (size_t i = 0; i < count; i++) txns.push_back(std::make_unique<Txn>(table));
-    // The pages of the keys are brought into memory first.
-    for (uint64_t i = 0; i < 16; i++)
-        repeat(*txns[0], 1, [&](Txn &txn) { return txn.begin() && txn.add(i * (size / 16), 1) && txn.commit(); });
+    // The pages of all keys that any worker uses are brought into memory first.
+    for (uint64_t i = 0; i < 32; i++) {
+        uint64_t key = i < 16 ? i * (size / 16) : first_of(size, i / 4 % 4) + i % 4 * (size / 4);
+        repeat(*txns[0], 1, [&](Txn &txn) { return txn.begin() && txn.add(key, 1) && txn.commit(); });
+    }
     std::vector<uint64_t> done(count);
     auto start = std::chrono::steady_clock::now();
     auto one = [&](size_t i) { done[i] = repeat(*txns[i], 500000, [&](Txn &txn) { return work(txn, i); }); };

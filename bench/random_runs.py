@@ -1,0 +1,496 @@
+#!/usr/bin/env python3
+"""Runs scripts over arrays that a number makes, and replays all that is told by a serial model of its own: each line
+has one outcome; the commits, in order of their numbers, give each reply and each verdict one after another; epochs,
+savepoints and snapshots are those that the rounds and their lines of the maintenance thread ask for; a dump and each
+snapshot have the state through their epoch. Of one worker's lines it also says which are `full` or in `conflict`, by
+the pages that the lines before put into slots. Some runs are killed at a random moment: what is kept then is the state
+through an epoch that covers what was told durable. Three to six runs in a row use one database.
+
+Usage: bench/random_runs.py PROGRAM [CHAINS [SEED [LINES]]], where PROGRAM is the built program,
+crates/foedus/out/foedus. CHAINS, 20 if it is left out, is how many databases are made; LINES, 150 if it is left out,
+the most lines of a worker in a round. Databases are made in TMPDIR. Status: 0 where all is right, else 1, and the
+folder of the run that isn't stays.
+"""
+import os
+import random
+import re
+import shutil
+import signal
+import subprocess
+import sys
+import tempfile
+import time
+
+LEAF, FAN = 32, 64  # records of a leaf, pointers of a page above leaves
+MOST = 2**64 - 1
+SLOTS = [4, 16, 64, 256, 4096]
+SIZES = [1, 4, 31, 32, 33, 160, 1000, 2048, 2049, 5000, 70000, 131072]
+OUTCOME = re.compile(r"(\d)\.(\d+) (?:(ok|short|over) (\d+):(\d+)((?: \d+)*)|(conflict|full))")
+
+
+class Wrong(Exception):
+    """What was told or kept isn't what it has to be."""
+
+
+def demand(holds, *what):
+    if not holds:
+        raise Wrong(" ".join(str(word) for word in what))
+
+
+def path(storage, size, key):
+    """The pages on the way to a key, from the root's down."""
+    if size <= LEAF:
+        return [(storage, 0, 0)]
+    leaf = (storage, 0, key // LEAF)
+    if size <= LEAF * FAN:
+        return [(storage, 1, 0), leaf]
+    return [(storage, 2, 0), (storage, 1, key // (LEAF * FAN)), leaf]
+
+
+def step(state, ops):
+    """The verdict, the replies and the changes of one transaction on a state."""
+    own, replies = {}, []
+    for op in ops:
+        key = op[1], op[2]
+        now = own.get(key, state.get(key, 0))
+        if op[0] == "r":
+            replies.append(now)
+        elif op[0] == "w":
+            own[key] = op[3]
+        elif op[0] == "a":
+            if now + op[3] > MOST:
+                return "over", replies, {}
+            own[key] = now + op[3]
+        else:
+            if now < op[3]:
+                return "short", replies, {}
+            own[key] = now - op[3]
+    return "ok", replies, own
+
+
+class Pages:
+    """The pages in slots, as one worker alone puts them in."""
+
+    def __init__(self, sizes, slots):
+        self.sizes, self.slots, self.there = sizes, slots, set()
+
+    def attempt(self, state, ops):
+        """How one try ends: None for a commit, else full or conflict."""
+        seen, own = set(), {}
+        for op in ops:
+            key = op[1], op[2]
+            way = path(op[1], self.sizes[op[1]], op[2])
+            if op[0] == "r":
+                if key not in own:
+                    seen.update([page for page in way if page not in self.there][:1])
+                continue
+            missing = [page for page in way if page not in self.there]
+            self.there.update(missing[:self.slots - len(self.there)])
+            if not self.there.issuperset(missing):
+                return "full"
+            if not seen.isdisjoint(missing):
+                return "conflict"
+            verdict, _, changes = step({**state, **own}, [op])
+            if verdict != "ok":
+                return None
+            own.update(changes)
+        return None
+
+    def outcome(self, state, ops, tries):
+        for _ in range(tries):
+            came = self.attempt(state, ops)
+            if came != "conflict":
+                return came
+        return "conflict"
+
+
+class Run:
+    """A run's script: its options, and for each round the lines of each worker and of the keeper."""
+
+    def __init__(self, draw, sizes, longest):
+        self.sizes = sizes
+        self.slots = draw.choice(SLOTS)
+        self.tries = draw.choice([1, 2, 3, None, None, None])
+        self.snap = 65536
+        self.workers = sorted(draw.sample(range(8), draw.choice([1, 1, 2, 3, 4, 8])))
+        self.adds = draw.random() < 0.3  # then values don't depend on the order
+        self.hot = draw.choice([None, None, 1, 3, 40])
+        self.near = draw.choice([1, 1, 33])
+        longest = draw.choice([1, 5, longest // 4 + 1, longest])
+        self.rounds = [self.round(draw, longest) for _ in range(draw.choice([1, 2, 3, 6]))]
+        while len(self.rounds) > 1 and not (any(self.rounds[-1][0].values()) or self.rounds[-1][1]):
+            self.rounds.pop()  # the end right behind a join begins no round
+
+    def round(self, draw, longest):
+        lines = {worker: [self.line(draw) for _ in range(draw.randrange(longest + 1))] for worker in self.workers}
+        keeper = [draw.choice(["glean", "glean", "epoch", "save"]) for _ in range(draw.choice([0, 0, 1, 1, 2, 4]))]
+        if self.adds:
+            keeper = [line for line in keeper if line == "glean"]
+        return lines, keeper
+
+    def line(self, draw):
+        return [self.op(draw) for _ in range(draw.choice([1, 1, 2, 3, 4, 8, 16]))]
+
+    def op(self, draw):
+        storage = draw.choice(list(self.sizes))
+        size = self.sizes[storage]
+        key = draw.randrange(size) if self.hot is None else draw.randrange(min(self.hot, size)) * self.near % size
+        kind = draw.choice("ra") if self.adds else draw.choice("rrwat")
+        if kind == "r":
+            return kind, storage, key
+        small = draw.random() < 0.97
+        if small or self.adds:
+            return kind, storage, key, draw.randrange(10)
+        return kind, storage, key, draw.choice([MOST, MOST - 5, 2**63, 99])
+
+    def words(self, more=()):
+        tries = [] if self.tries is None else ["--tries", str(self.tries)]
+        snap = [] if self.snap == 65536 else ["--snap", str(self.snap)]
+        return ["run", "--slots", str(self.slots), *tries, *snap, *more]
+
+    def text(self):
+        parts = [f"array {storage} {size}\n" for storage, size in self.sizes.items()]
+        for number, (lines, keeper) in enumerate(self.rounds):
+            parts.append("join\n" * (number > 0))
+            parts += [f"{worker} " + "; ".join(" ".join(map(str, op)) for op in ops) + "\n"
+                      for worker in self.workers for ops in lines[worker]]
+            parts += [f"k {line}\n" for line in keeper]
+        return "".join(parts)
+
+
+class Kept:
+    """What a database has to keep: an epoch with its state, the states through earlier ones, and its snapshots."""
+
+    def __init__(self, sizes):
+        self.sizes, self.epoch, self.state = sizes, 0, {}
+        self.snaps = []  # pairs of epoch and page, the oldest first
+        self.through = {0: {}}
+        self.pending = set()  # keys in log entries that count for no snapshot yet; None where that isn't known
+        self.count = 0
+
+    def pages_of(self, keys):
+        return len({page for storage, key in keys for page in path(storage, self.sizes[storage], key)}) + 1
+
+    def settle(self, snap):
+        """What a run does before its first round: False where the pages would be more than are let in."""
+        if not self.snaps:
+            self.snaps, self.count = [(0, 1)], 1
+        new = self.pages_of(self.pending) if self.pending else 0
+        if self.count + new > snap:
+            return False
+        if new:
+            self.count += new
+            self.snaps.append((self.epoch, self.count))
+        self.pending = set()
+        return True
+
+
+class Replay:
+    """Replays the rounds that a run told, on what the database kept."""
+
+    def __init__(self, kept, run):
+        self.kept, self.run = kept, run
+        self.clock, self.draws, self.saved = kept.epoch + 1, 0, kept.epoch
+        self.state, self.commits, self.told = dict(kept.state), 0, 0
+        self.active, self.closed, self.closed_at = set(), None, kept.epoch
+        self.pages = Pages(run.sizes, run.slots) if len(run.workers) == 1 else None
+        self.written = set()
+
+    def round(self, number, text):
+        """Replays a round, whose lines are the next ones of the text, up to its durable line."""
+        lines, keeper = self.run.rounds[number]
+        commits, refused = [], []
+        for worker in self.run.workers:
+            for place, ops in enumerate(lines[worker]):
+                came = OUTCOME.fullmatch(next(text, ""))
+                demand(came and (int(came[1]), int(came[2])) == (worker, place), "no outcome of", worker, place)
+                if came[7]:
+                    refused.append((worker, place, ops, came[7]))
+                else:
+                    replies = [int(word) for word in came[6].split()]
+                    commits.append(((int(came[4]), int(came[5])), worker, place, ops, came[3], replies))
+        begun = self.clock
+        for place, line in enumerate(keeper):
+            self.keeper(line, next(text, ""), f"k.{place} ")
+        self.ordered(commits, begun)
+        if self.pages:
+            self.lone(lines[self.run.workers[0]], {place: what for _, place, _, what in refused})
+        else:
+            self.refusals(refused)
+        changed = self.serial(commits)
+        told = next(text, "")
+        demand(told == f"durable {self.clock}", told, "not durable", self.clock)
+        self.joined(changed)
+
+    def ordered(self, commits, begun):
+        """Numbers are new, rise along each worker's lines, and lie in the round's epochs."""
+        last = {}
+        for number, worker, place, *_ in commits:
+            demand(last.get(worker, (0, self.draws)) < number, "numbers of", worker, place, number)
+            demand(begun <= number[0] <= self.clock and number[1] > self.draws, "number", number, worker, place)
+            last[worker] = number
+        demand(len({number[1] for number, *_ in commits}) == len(commits), "a draw twice")
+        if self.pages:
+            wanted = list(range(self.draws + 1, self.draws + 1 + len(commits)))
+            demand([number[1] for number, *_ in commits] == wanted, "draws of one worker", wanted)
+        self.draws = max([self.draws, *(number[1] for number, *_ in commits)])
+
+    def serial(self, commits):
+        """Replays the commits in order of their numbers, and answers the keys that they changed."""
+        changed, epoch = set(), None
+        for number, worker, place, ops, verdict, replies in sorted(commits):
+            if epoch is not None and number[0] != epoch:
+                self.kept.through.update({between: dict(self.state) for between in range(epoch, number[0])})
+            epoch = number[0]
+            wanted = step(self.state, ops)
+            demand((verdict, replies) == wanted[:2], worker, place, number, verdict, replies, "not", wanted[:2])
+            self.state.update(wanted[2])
+            changed.update(wanted[2])
+        self.commits += len(commits)
+        self.between(commits, epoch)
+        self.written.update(changed)
+        used = self.kept.pages_of(self.written) - 1
+        demand(used <= self.run.slots, used, "pages were written in", self.run.slots, "slots")
+        return changed
+
+    def between(self, commits, epoch):
+        """The states through the epochs of this round in which nothing was committed."""
+        first = min((number[0] for number, *_ in commits), default=self.clock)
+        before = self.kept.through[self.saved_before()]
+        for earlier in range(self.saved_before() + 1, first):
+            self.kept.through.setdefault(earlier, dict(before))
+        for later in range(epoch if epoch is not None else self.clock, self.clock + 1):
+            self.kept.through[later] = dict(self.state)
+
+    def saved_before(self):
+        return self.joined_at if hasattr(self, "joined_at") else self.kept.epoch
+
+    def lone(self, lines, refused):
+        """Of one worker alone the model tells which lines were refused, and why."""
+        tries = 1000 if self.run.tries is None else self.run.tries
+        state = dict(self.state)
+        for place, ops in enumerate(lines):
+            wanted = self.pages.outcome(state, ops, tries)
+            demand(refused.get(place) == wanted, "line", place, "of one worker is", refused.get(place), "not", wanted)
+            if wanted is None:
+                state.update(step(state, ops)[2])
+
+    def refusals(self, refused):
+        """No line is full while there are slots for all pages that were asked for, and for one more of each worker."""
+        asked = {page for lines, _ in self.run.rounds for line in lines.values() for ops in line for op in ops
+                 if op[0] != "r" for page in path(op[1], self.run.sizes[op[1]], op[2])}
+        for worker, place, _, what in refused:
+            demand(what != "full" or len(asked) + 2 * len(self.run.workers) > self.run.slots, worker, place, "is full")
+
+    def keeper(self, line, told, head):
+        if line == "epoch":
+            self.clock += 1
+            demand(told == f"{head}epoch {self.clock}", told)
+        elif line == "save":
+            came = re.fullmatch(re.escape(head) + r"save (\d+)", told)
+            demand(came and self.saved <= int(came[1]) < self.clock, told, self.saved, self.clock)
+            self.saved = int(came[1])
+        elif not self.closed:
+            demand(told == f"{head}none", told)
+        else:
+            new = self.kept.pages_of(self.closed)
+            if self.kept.count + new > self.run.snap:
+                demand(told == f"{head}snap-full", told, self.kept.count, new)
+                return
+            demand(told == f"{head}snap {self.closed_at} new {new}", told, self.closed_at, new)
+            self.kept.count += new
+            self.kept.snaps.append((self.closed_at, self.kept.count))
+            self.closed = None
+
+    def joined(self, changed):
+        """What the join does: the epoch goes on, and the log files change sides."""
+        self.active |= changed
+        self.saved = self.joined_at = self.told = self.clock
+        self.clock += 1
+        if not self.closed:
+            self.closed, self.closed_at, self.active = self.active, self.saved, set()
+        self.kept.epoch, self.kept.state = self.saved, dict(self.state)
+        self.kept.pending = self.active | (self.closed or set())
+
+
+def call(folder, *words, script=""):
+    done = subprocess.run([PROGRAM, *words], cwd=folder, input=script.encode(), stdout=subprocess.PIPE,
+                          stderr=subprocess.PIPE, timeout=300)
+    return done.returncode, done.stdout.decode()
+
+
+def rows(state):
+    return "".join(f"{storage} {key} {value}\n" for (storage, key), value in sorted(state.items()) if value)
+
+
+def parsed(text):
+    """The epoch and the state that a dump tells."""
+    first, *rest = text.splitlines()
+    return int(first.split()[1]), {(int(a), int(b)): int(c) for a, b, c in (line.split() for line in rest)}
+
+
+def check_kept(folder, kept):
+    """A dump, the list of snapshots, and each of them."""
+    demand(call(folder, "dump") == (0, f"epoch {kept.epoch}\n{rows(kept.state)}"), "dump of", kept.epoch)
+    listed = "".join(f"snap {epoch} at {page}\n" for epoch, page in kept.snaps)
+    demand(call(folder, "snaps") == (0, listed), "snaps", call(folder, "snaps"), listed)
+    for epoch, _ in kept.snaps[-3:]:
+        if epoch in kept.through:
+            wanted = 0, f"epoch {epoch}\n{rows(kept.through[epoch])}"
+            demand(call(folder, "snap", str(epoch)) == wanted, "snap", epoch)
+
+
+def whole_run(folder, kept, run):
+    """A run that nobody ends, and the same in brief over a copy where one worker's lines have one outcome."""
+    brief = f"{folder}/brief"
+    shutil.rmtree(brief, ignore_errors=True)
+    if len(run.workers) == 1:
+        os.mkdir(brief)
+        if os.path.isdir(f"{folder}/vault"):
+            shutil.copytree(f"{folder}/vault", f"{brief}/vault")
+    status, text = call(folder, *run.words(), script=run.text())
+    with open(f"{folder}/text", "w") as file:
+        file.write(text)
+    if not kept.settle(run.snap):
+        demand((status, text) == (7, "limit snap\n"), status, text[:200])
+        return 0
+    replay, lines = Replay(kept, run), iter(text.splitlines())
+    demand(status == 0, status, text[-200:])
+    for number in range(len(run.rounds)):
+        replay.round(number, lines)
+    demand(next(lines, None) is None, "more lines than rounds have")
+    if os.path.isdir(brief):
+        wanted = f"commits {replay.commits}\ntotal {sum(replay.state.values())}\ndurable {replay.told}\n"
+        demand(call(brief, *run.words(["--brief"]), script=run.text()) == (0, wanted), "in brief, not", wanted)
+    return replay.commits
+
+
+def killed_run(folder, kept, run, draw, longest):
+    """A run that is killed: the rounds that were told are replayed, and what is kept is a state behind them."""
+    settled = kept.settle(run.snap)
+    demand(settled, "no room")
+    with open(f"{folder}/script", "w") as file:
+        file.write(run.text())
+    with open(f"{folder}/script") as source, open(f"{folder}/text", "w") as text:
+        begun = subprocess.Popen([PROGRAM, *run.words()], cwd=folder, stdin=source, stdout=text,
+                                 stderr=subprocess.DEVNULL)
+        time.sleep(draw.random() * longest)
+        begun.send_signal(signal.SIGKILL)
+        begun.wait()
+    text = open(f"{folder}/text").read()
+    lines = text[:text.rfind("\n") + 1].splitlines()
+    rounds = sum(line.startswith("durable") for line in lines)
+    replay, told = Replay(kept, run), iter(lines)
+    for number in range(rounds):
+        replay.round(number, told)
+    status, dump = call(folder, "dump")
+    demand(status == 0, "dump:", status, dump)
+    epoch, state = parsed(dump)
+    behind(kept, run, replay, rounds, epoch, state)
+    kept.pending = None
+    kept.epoch, kept.state = epoch, state
+    kept.through = {e: s for e, s in kept.through.items() if e < epoch}
+    kept.through[epoch] = state
+    status, snaps = call(folder, "snaps")
+    demand(status == 0, "snaps:", status, snaps)
+    kept.snaps = [(int(line.split()[1]), int(line.split()[3])) for line in snaps.splitlines()]
+    kept.count = kept.snaps[-1][1] if kept.snaps else 0
+    for of, _ in kept.snaps[-3:]:
+        if of in kept.through:
+            demand(call(folder, "snap", str(of)) == (0, f"epoch {of}\n{rows(kept.through[of])}"), "snap", of)
+    return replay.commits, rounds < len(run.rounds)
+
+
+def behind(kept, run, replay, rounds, epoch, state):
+    """Whether a state is one behind what was told: as of the last durable epoch, or by lines of the next round."""
+    last = kept.epoch
+    demand(epoch >= last, "epoch", last, "was told durable, and", epoch, "is kept")
+    if epoch == last:
+        demand(state == {key: value for key, value in kept.state.items() if value}, "kept as of", epoch)
+        return
+    demand(rounds < len(run.rounds), "epoch", epoch, "behind the last one,", last)
+    lines, keeper = run.rounds[rounds]
+    demand(epoch <= last + 1 + sum(line == "epoch" for line in keeper), "epoch", epoch, "behind", last)
+    is_whole = epoch == replay.clock and "epoch" not in keeper
+    if replay.pages:
+        states = [dict(replay.state)]
+        for ops in lines[run.workers[0]]:
+            now = states[-1]
+            came = replay.pages.outcome(now, ops, 1000 if run.tries is None else run.tries)
+            states.append(now if came else {**now, **step(now, ops)[2]})
+        states = states[-1:] if is_whole else states
+        demand(any(state == {key: value for key, value in one.items() if value} for one in states), "kept by", epoch)
+    elif run.adds and is_whole and run.tries is None and run.slots == 4096:
+        wanted = dict(replay.state)
+        for line in lines.values():
+            for ops in line:
+                wanted.update(step(wanted, ops)[2])
+        demand(state == {key: value for key, value in wanted.items() if value}, "sums kept by", epoch)
+
+
+def chain(folder, draw, longest, counts):
+    """Some runs over one database."""
+    sizes = {storage: draw.choice(SIZES) for storage in sorted(draw.sample(range(256), draw.choice([1, 1, 2, 4])))}
+    kept = Kept(sizes)
+    for _ in range(draw.randrange(3, 7)):
+        run = Run(draw, sizes, longest)
+        if kept.count and kept.pending is not None and draw.random() < 0.1:
+            run.snap = draw.randrange(max(kept.count - 2, 1), kept.count + 60)
+        is_killed = draw.random() < 0.3
+        if is_killed or kept.pending is None:  # behind a kill it isn't told how much a run settles
+            run.snap = 65536
+        if is_killed:
+            run.rounds = run.rounds * draw.choice([1, 10, 60])
+        with open(f"{folder}/run", "w") as file:
+            file.write(f"{run.words()}\n{run.text()}")
+        shutil.rmtree(f"{folder}/before", ignore_errors=True)
+        if os.path.isdir(f"{folder}/vault"):
+            shutil.copytree(f"{folder}/vault", f"{folder}/before")
+        counts["runs"] += 1
+        if is_killed:
+            commits, was_within = killed_run(folder, kept, run, draw, draw.choice([0.4, 0.1, 0.02]))
+            counts["killed"] += 1
+            counts["within"] += was_within
+        else:
+            commits = known_count(folder, kept, run)
+        counts["commits"] += commits
+
+
+def known_count(folder, kept, run):
+    """A whole run; behind a kill what it settles first is learned from the list of snapshots."""
+    if kept.pending is None:
+        kept.pending = set()
+        snaps = kept.snaps
+        demand(call(folder, "run", script="".join(f"array {s} {n}\n" for s, n in run.sizes.items()))[0] == 0, "settle")
+        told = call(folder, "snaps")[1].splitlines()
+        now = [(int(line.split()[1]), int(line.split()[3])) for line in told]
+        demand(now[:len(snaps)] == snaps and len(now) <= len(snaps) + 1, "snaps", now, "not", snaps)
+        demand(all(epoch == kept.epoch for epoch, _ in now[len(snaps):]), "settled", now, kept.epoch)
+        kept.snaps, kept.count = now, now[-1][1]
+        kept.epoch += 1
+        kept.through[kept.epoch] = kept.through[kept.epoch - 1]
+    commits = whole_run(folder, kept, run)
+    check_kept(folder, kept)
+    return commits
+
+
+def main():
+    global PROGRAM
+    if len(sys.argv) < 2:
+        sys.exit(__doc__)
+    PROGRAM = os.path.abspath(sys.argv[1])
+    chains, seed, longest = [int(word) for word in sys.argv[2:]] + [20, 1, 150][len(sys.argv) - 2:]
+    counts = {"runs": 0, "killed": 0, "within": 0, "commits": 0}
+    for number in range(seed, seed + chains):
+        folder = tempfile.mkdtemp(prefix="foedus_random_")
+        try:
+            chain(folder, random.Random(number), longest, counts)
+        except Wrong as error:
+            sys.exit(f"seed {number}: {error}; the run is in {folder}/run")
+        shutil.rmtree(folder)
+    print(f"{chains} databases, {counts['runs']} runs, {counts['killed']} killed, {counts['within']} of them before "
+          f"their last round; {counts['commits']} commits replayed: all right")
+
+
+if __name__ == "__main__":
+    main()

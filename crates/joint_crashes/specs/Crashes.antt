@@ -13,3 +13,4 @@ pub mod Safe
 pub mod Rounded
 pub mod Marking
 pub mod Working
+pub mod CausalSteps

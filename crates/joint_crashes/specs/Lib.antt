@@ -7,6 +7,7 @@ pub mod Cutting
 pub mod Settling
 pub mod Marks
 pub mod Rounds
+pub mod Causal
 pub mod Crashes
 pub mod SettleRests
 pub mod RecordsAdded

@@ -8,3 +8,8 @@ pub mod Text
 pub mod Flat
 pub mod Room
 pub mod StateText
+pub mod Seen
+pub mod SeenLaws
+pub mod Readied
+pub mod ReadiedLaws
+pub mod CausedBeside

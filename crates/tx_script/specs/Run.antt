@@ -60,6 +60,12 @@ pub record RanPrinted : Type 0 where
   -- the epoch that was made durable
   pub durable : Option ℕ
 
+-- What a worker had as a line began that was run: the clock's epoch that it loaded before it, and the place of its mark
+-- among the marks that it had in the round.
+pub record Readied : Type 0 where
+  pub epoch : ℕ
+  pub place : ℕ
+
 -- What stands beside it and isn't printed: what it began with, what it met on the way, and which devices failed.
 pub record RanBeside : Type 0 where
   -- At its begin: the sequence of the newest savepoint, how many pages of snapshots there are and how many are let in,
@@ -73,6 +79,10 @@ pub record RanBeside : Type 0 where
   -- at the begin, and what refused its log, if anything did
   pub marks : List (List (Option ℕ))
   pub logs : List (Option LogRefusal)
+  -- of each worker what it had loaded as each of its lines began that was run, and of each save of the maintenance
+  -- thread that was run the places of the marks that it saw, by worker
+  pub readied : List (List Readied)
+  pub seen : List (List ℕ)
   -- how often a line might be tried, and of each worker, of each of its lines, what refused its tries, in their order
   pub tries : ℕ
   pub refused : List (List (List TryRefusal))

@@ -9,3 +9,5 @@ pub mod Saves
 pub mod SavesLaws
 pub mod Rows
 pub mod RowLaws
+pub mod Shown
+pub mod ShownLaws

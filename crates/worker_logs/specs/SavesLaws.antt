@@ -99,7 +99,7 @@ in_turn_odd (x ∷ xs) (y ∷ ys) (suc worker) n is same =
     subst (λ k. get_or (in_turn (x ∷ xs) (y ∷ ys)) k 0 ≡ n) (sym next)
     (in_turn_odd xs ys worker n is (omega (arith, same)))
 
-growing_length : (side : Side) (growing closed : List ℕ) (worker n : ℕ) → slice_get growing worker ≡ Some n
+pub growing_length : (side : Side) (growing closed : List ℕ) (worker n : ℕ) → slice_get growing worker ≡ Some n
     → length growing ≡ length closed → get_or (lengths_by side growing closed) (growing_number side worker) 0 ≡ n
 growing_length Even growing closed worker n is same = in_turn_even growing closed worker n is same
 growing_length Odd growing closed worker n is same = in_turn_odd closed growing worker n is (sym same)

@@ -21,6 +21,9 @@
 //!   by `AreDurable`): so it is of each log, by the laws `mark_kept`, `some_goes` and `some_takes`. What it stores
 //!   covers each worker's commits up to its epoch (the law `counts_saved`), and to one that knows the save device it is
 //!   one savepoint more (`keeper_saved`).
+//! - [`save_seen`] does so by eight marks that were seen while their workers ran, with neither logs nor growing log
+//!   files at hand. A mark that others are shown stands from its moment on: every image of the log file then has what
+//!   it counts (`LogShows` in `specs/Shown.antt`, with its laws in `specs/ShownLaws.antt`).
 //! - [`WorkerLog::reset`] begins the log of the other, empty log file once it grows (`resets`); by the law `log_resets`
 //!   it has no commit.
 //!
@@ -35,10 +38,12 @@
 
 mod flushing;
 mod savepoints;
+mod seen;
 mod worker_log;
 mod write_set;
 
 pub use flushing::flush_all;
 pub use savepoints::{Beside, Side, marked_lengths, save_marks};
+pub use seen::save_seen;
 pub use worker_log::WorkerLog;
 pub use write_set::WriteSet;

@@ -108,8 +108,8 @@ pub fn marked_lengths(logs: &[WorkerLog]) -> [u64; 8]
     ]
 }
 
-// The lengths of growing and of closed log files, by their numbers.
-fn lengths(growing: Side, marked: &[u64; 8], closed: &[u64; 8]) -> [u64; 16]
+/// The lengths of growing and of closed log files, by their numbers.
+pub(crate) fn lengths(growing: Side, marked: &[u64; 8], closed: &[u64; 8]) -> [u64; 16]
     requires marked { length marked.now ≡ 8 }
     requires closed { length closed.now ≡ 8 }
     ensures lengths { result ≡ lengths_by growing marked.now closed.now }

@@ -1,11 +1,12 @@
 -- Loads of the clock and of the count of decisions, which are no act of the machines.
 use Rattle.std.proofs.Common.{◌≡◌, ℕ, ◌+◌, List, [], get_or, refl, sym, subst, arith, Some}
-use Rattle.std.specs.List.{Contains}
+use Rattle.std.specs.List.{Contains, slice_get}
 use mathlib.Core.Option as option
 use mathlib.Core.Option.{some}
 use lib.ListN.{get_elem?}
 use Rattle.atomic_table.specs.Table.{Me, Allows, step}
 use Rattle.lists.specs.Fronts.{front_refl}
+use Rattle.commit_core.specs.declared.seat.Seat.{Seat}
 use Rattle.commit_core.specs.Law.{SoundIsSerial}
 use Rattle.views.specs.Changes.{each_at}
 use Rattle.engine_pages.specs.declared.layout.Layout.{Layout}
@@ -132,5 +133,12 @@ counts laws serial l slots id me active =
       all = λ keeper none. all_own l words views s id v h b.at keeper none;
       draws = λ keeper none. all_drawn l words views s id v h b.at keeper none;
       blamed = all_blamed l words views s id v h b.at;
+      met = λ keeper x has small unmade.
+          let mark = f.met x has in (
+            mark.0,
+            subst (λ (t : Seat). slice_get t.marks x.place ≡ Some mark.0)
+                ((f.keepers keeper).parked x.worker small unmade).is mark.1,
+            mark.2,
+          );
       is = refl;
     })

@@ -1,5 +1,6 @@
 -- What the steps of the clock and of the marks tell.
-use Rattle.std.specs.Prelude.{◌≡◌, ℕ, ◌+◌, ◌<◌, ◌≤◌, List, [], ◌∷◌, ◌++◌, length, get_or, Contains, Option, Some, None, ⊤}
+use Rattle.std.specs.Prelude.{◌≡◌, ℕ, ◌+◌, ◌<◌, ◌≤◌, List, [], ◌∷◌, ◌++◌, length, get_or, slice_get, Contains, Option}
+use Rattle.std.specs.Prelude.{Some, None, ⊤}
 use Rattle.atomic_table.specs.Table.{Step}
 use Rattle.commit_core.specs.declared.seat.Mark.{Mark}
 use Rattle.commit_core.specs.CoreState.{last_marked}
@@ -41,6 +42,10 @@ Marks mark s v n w = w ≡ marked mark v
 -- the worker's mark at this place among its marks has this word
 abbrev pub met_at : ℕ → ℕ → ℕ → Met
 met_at worker n place = record { worker = worker; word = n; place = place }
+
+-- the mark that was met stands at its place among these
+abbrev pub IsMetAt : List Mark → Met → Type 0
+IsMetAt marks met = (mark : Mark) × (slice_get marks met.place ≡ Some mark) × (met.word ≡ word_of_mark mark)
 
 -- the mark is the last of these
 pub record IsLast (mark : Mark) (marks : List Mark) : Type 0 where

@@ -3,8 +3,9 @@
 //! Promises: each call keeps the rule of engine_pages (`Shows`). The keeper seats each worker once at a time (`seat`),
 //! and takes its pass in again (`end`); what a pass has seen goes to another one by a note (`note`, `learn`). A load of
 //! the clock tells all draws and decisions (`load_clock`), and an audit that those which count are serial and, where
-//! nobody is seated, the keeper's own (`audit`). The keeper alone goes on to the next epoch (`advance`); a worker sets
-//! its mark (`mark`), and whoever loads it learns which of that worker's marks it is (`load_mark`).
+//! nobody is seated, the keeper's own, and that each mark which it met stands where it was met (`audit`). The keeper
+//! alone goes on to the next epoch (`advance`); a worker sets its mark (`mark`), and whoever loads it learns which of
+//! that worker's marks it is (`load_mark`).
 //! Terms: *note*, a pass without a seat, with what another one has seen; *mark*, how far a worker's log is durable, and
 //! an epoch in which it draws no more.
 //! Steps: each call is one atomic step on one word, but for `seat` and `note`, which make none, `end` and `learn`, which

@@ -28,6 +28,8 @@ seen_epoch v w clock epoch a is =
       few = omega (arith, is, word, a.small.epoch);
       keepers = λ keeper. is ∙ a.keepers keeper;
       marked = omega (arith, a.marked, is);
+      steps = ap (λ (x : View). x.steps) a.is;
+      looked = (clock, ap (λ (x : View). x.last) a.is, sym is);
       seen = record { history = a.history; decided = a.decided };
       layout = ap (λ (x : View). x.layout) a.is;
       role = ap (λ (x : View). x.role) a.is;
@@ -48,6 +50,8 @@ seen_epoch v w clock epoch a is =
       drafts = ap (λ (x : View). x.drafts) a.is;
       copies = ap (λ (x : View). x.copies) a.is;
       blanks = ap (λ (x : View). x.blanks) a.is;
+      pages = ap (λ (x : View). x.pages) a.is;
+      fills = ap (λ (x : View). x.fills) a.is;
     }
 
 -- the keeper's clock is in the epoch that it knows

@@ -1,17 +1,19 @@
 -- Marks that were loaded, one after another.
 use Rattle.views.specs.Sums.{times}
 use Rattle.std.proofs.Common.{get_or, ◌≡◌, ℕ, zero, suc, ◌≤◌, ◌+◌, ◌<◌, List, [], ◌∷◌, ◌++◌, length, take, set}
-use Rattle.std.proofs.Common.{Option, Some}
+use Rattle.std.proofs.Common.{Option, Some, ◌⊎◌, inl, inr}
 use Rattle.std.proofs.Common.{None, refl, sym, ap, ◌∙◌, subst}
 use Rattle.std.proofs.Common.{arith, length-append, append_assoc}
-use Rattle.std.specs.Prelude.{IfNone}
+use Rattle.std.specs.Prelude.{Contains, IfNone, slice_get}
 use Rattle.std.proofs.lemmas.List.{append-nil, take_more_set, length-take-le}
+use Rattle.std.proofs.lemmas.List.Elements.{Contains-append_left}
 use Rattle.lists.specs.Each.{all_push}
 use Rattle.wire_form.specs.declared.clock.Mark.{Mark}
 use Rattle.wire_form.specs.Items.{Reads}
 use Rattle.wire_form.specs.Words.{IsMark, mark_word}
 use Rattle.commit_core.specs.declared.seat.Mark as core
 use Rattle.engine_pages.specs.declared.view.Glance.{Glance}
+use Rattle.engine_pages.specs.declared.view.Met.{Met}
 use Rattle.engine_pages.specs.declared.view.Role.TheVariants.{Keeper}
 use Rattle.engine_pages.specs.declared.view.View.{View}
 use Rattle.engine_seats.specs.Clock.{met_at, HasMet, IsLast}
@@ -28,6 +30,17 @@ no_mark mark word read small is reads none =
     (subst (λ r. IfNone r ((v : Mark) → IsMark v → mark_word v ≡ word → ⊥)) none reads.1)
     (record { length = mark.length; epoch = mark.epoch }) (record { length = small.length; epoch = small.epoch })
     (sym is)
+
+-- what stands at a place with one more at the end
+at_push_cases : (xs : List ℕ) (y i x : ℕ) → slice_get (xs ++ y ∷ []) i ≡ Some x
+    → (slice_get xs i ≡ Some x) ⊎ ((i ≡ length xs) × (y ≡ x))
+at_push_cases [] y zero x there = let same : y ≡ x = cc in inr (refl, same)
+at_push_cases [] y (suc i) x there = absurd cc
+at_push_cases (z ∷ xs) y zero x there = inl there
+at_push_cases (z ∷ xs) y (suc i) x there = elim (at_push_cases xs y i x there) [
+  | inl older ↦ inl older
+  | inr new ↦ inr (ap suc new.0, new.1)
+]
 
 taken_all : (marks : List Mark) (i : ℕ) → length marks ≤ i → take i marks ≡ marks
 taken_all [] zero le = refl
@@ -69,6 +82,8 @@ none_met marks v none = subst (λ l. HasMetAll l v v) (sym none) record {
   parked = λ keeper. tt;
   places = [];
   count = refl;
+  rises = λ x has place there. absurd cc;
+  begun = λ keeper worker place there. absurd cc;
   is = let steps : v.steps ≡ v.steps + 0 = omega arith in
       ap (λ n. record v { steps = n; last = v.last; met = v.met }) steps
       ∙ ap (λ l. record v { steps = v.steps + 0; last = v.last; met = l }) (sym (append-nil v.met));
@@ -117,6 +132,19 @@ met_one marks mark worker word u v w count h m is spelled = record {
       unmade);
   places = h.places ++ m.place ∷ [];
   count = length-append h.places (m.place ∷ []) ∙ ap (λ n. n + 1) h.count ∙ sym (length-append marks (mark ∷ []));
+  rises = λ x has place there. elim (at_push_cases h.places m.place x.worker place there) [
+    | inl older ↦ h.rises x has place older
+    | inr new ↦ subst (λ n. x.place ≤ n) new.1 (m.rises x (met_still x has) (new.0 ∙ many))
+  ];
+  begun = λ keeper at place there. elim (at_push_cases h.places m.place at place there) [
+    | inl older ↦ h.begun keeper at place older
+    | inr new ↦
+        let role : v.role ≡ Keeper = ap (λ (x : View). x.role) h.is ∙ keeper in
+        let low : length (get_or u.parked worker bare_seat).marks ≤ m.place + 1 =
+        subst (λ (x : View). length (get_or x.parked worker bare_seat).marks ≤ m.place + 1) h.is (m.begun role) in
+        subst (λ n. length (get_or u.parked at bare_seat).marks ≤ n + 1) new.1
+        (subst (λ n. length (get_or u.parked n bare_seat).marks ≤ m.place + 1) (sym (new.0 ∙ many)) low)
+  ];
   is = m.is ∙ (ap (λ (x : View). record x {
     steps = x.steps + 1;
     last = Some (glance x.steps (mark_at worker) word);
@@ -136,6 +164,13 @@ met_one marks mark worker word u v w count h m is spelled = record {
   }) last)));
 }
   where
+    many : length h.places ≡ worker
+    many = h.count ∙ count
+
+    met_still : (x : Met) → Contains u.met x → Contains v.met x
+    met_still x has = subst (λ (y : View). Contains y.met x) (sym h.is)
+        (Contains-append_left u.met (mets_of 0 marks h.places) x has)
+
     last : Some (glance (u.steps + length marks) (mark_at worker) word) ≡ last_of u.steps 0 (marks ++ mark ∷ []) u.last
     last = ap (λ n. Some (glance (u.steps + length marks) (mark_at worker) n)) (sym spelled)
         ∙ (ap (λ n. Some (glance (u.steps + length marks) (mark_at n) (mark_word mark))) (at_end marks worker count)

@@ -1,5 +1,6 @@
 -- The clock's epochs, and workers' marks.
-use Rattle.std.specs.Prelude.{◌≡◌, ℕ, ◌+◌, ◌/◌, ◌^◌, ◌≤◌, ◌<◌, List, [], ◌∷◌, ◌++◌, length, get_or, Some, Option, ⊤}
+use Rattle.std.specs.Prelude.{◌≡◌, ℕ, ◌+◌, ◌/◌, ◌^◌, ◌≤◌, ◌<◌, List, [], ◌∷◌, ◌++◌, length, get_or, Some}
+use Rattle.std.specs.Prelude.{Contains, Option, slice_get, ⊤}
 use Rattle.std.specs.List.{AllByRecursion}
 use Rattle.serial_model.specs.Numbers.{last_epoch}
 use Rattle.wire_form.specs.declared.clock.Mark.{Mark}
@@ -12,7 +13,7 @@ use Rattle.engine_pages.specs.declared.view.Role.TheVariants.{Keeper}
 use Rattle.engine_pages.specs.declared.view.View.{View}
 use Rattle.engine_seats.specs.Clock.{advanced, met_at, IsLast}
 use Rattle.engine_seats.specs.Cuts.{HasSeen}
-use Rattle.engine_pages.specs.Layout.{mark_at}
+use Rattle.engine_pages.specs.Layout.{clock_at, mark_at}
 use Rattle.engine_pages.specs.Words.{word_of_mark}
 use Rattle.engine_pages.specs.Views.{bare_seat}
 use Rattle.views.specs.Sums.{times}
@@ -22,13 +23,16 @@ use Rattle.engine_pages.specs.Times.{past_at, HasTimed}
 -- ---- the clock
 
 -- The pass saw the clock in this epoch, which is none below the one that it saw before, and for the keeper that one; it
--- is above the last that the pass's seat marked. Of its own nothing has changed.
+-- is above the last that the pass's seat marked. That was the last word that it loaded, with one step. Of its own
+-- nothing has changed.
 pub record HasSeenEpoch (epoch : ℕ) (v w : View) : Type 0 where
   pub now : w.epoch ≡ epoch
   pub rises : v.epoch ≤ epoch
   pub few : epoch ≤ last_epoch
   pub keepers : v.role ≡ Keeper → epoch ≡ v.epoch
   pub marked : last_marked v.seat.marks < epoch
+  pub steps : w.steps ≡ v.steps + 1
+  pub looked : (n : ℕ) × (w.last ≡ Some (glance v.steps clock_at n)) × (n / 2 ^ 40 ≡ epoch)
   pub seen : HasSeen v w
   pub layout : w.layout ≡ v.layout
   pub role : w.role ≡ v.role
@@ -49,6 +53,8 @@ pub record HasSeenEpoch (epoch : ℕ) (v w : View) : Type 0 where
   pub drafts : w.drafts ≡ v.drafts
   pub copies : w.copies ≡ v.copies
   pub blanks : w.blanks ≡ v.blanks
+  pub pages : w.pages ≡ v.pages
+  pub fills : w.fills ≡ v.fills
 
 -- the keeper saw the clock in its epoch, which was not the last, and has moved it on to this one
 pub record HasAdvanced (epoch : ℕ) (v w : View) : Type 0 where
@@ -96,13 +102,18 @@ AreLast v worker [] = ⊤
 AreLast v worker (mark ∷ marks) =
     (times worker v.made ≡ 0 → IsLastOf mark (get_or v.parked worker bare_seat).marks) × AreLast v (worker + 1) marks
 
--- The marks of the first workers were loaded, one for each, in one load each; for the keeper, that of a worker which
--- isn't seated is the last that it set. Nothing else of the pass has changed.
+-- The marks of the first workers were loaded, one for each, in one load each, and each stands at its place among those
+-- of its seat: no mark of the worker that the pass had met stands behind it, nor does any that the keeper knew of as it
+-- seated the worker. For the keeper, that of a worker which isn't seated is the last that it set. Nothing else of the
+-- pass has changed.
 pub record HasMetAll (marks : List Mark) (v w : View) : Type 0 where
   pub each : AllByRecursion IsMark marks
   pub parked : v.role ≡ Keeper → AreLast v 0 marks
   pub places : List ℕ
   pub count : length places ≡ length marks
+  pub rises : (x : Met) → Contains v.met x → (place : ℕ) → slice_get places x.worker ≡ Some place → x.place ≤ place
+  pub begun : v.role ≡ Keeper → (worker place : ℕ) → slice_get places worker ≡ Some place
+      → length (get_or v.parked worker bare_seat).marks ≤ place + 1
   pub is : w ≡ record v {
     steps = v.steps + length marks;
     last = last_of v.steps 0 marks v.last;

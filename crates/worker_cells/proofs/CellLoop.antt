@@ -5,15 +5,15 @@ use Rattle.std.proofs.Common.{Bool, Option, Some, None}
 use Rattle.std.specs.Prelude.{is_some}
 use Rattle.serial_model.specs.declared.op.Op.{Op}
 use Rattle.script_grammar.specs.Script.{Line}
-use Rattle.wire_form.specs.declared.clock.Mark.{Mark}
 use Rattle.log_writer.specs.Journal.{Reaches}
+use Rattle.wire_form.specs.Words.{IsMark}
 use Rattle.engine_pages.specs.declared.view.View.{View}
 use Rattle.tx_runner.specs.Below.{IsOver}
 use Rattle.tx_script.specs.declared.outcome.Outcome.{Outcome}
 use Rattle.worker_logs.specs.Logs.{LogState}
 use Rattle.worker_cells.specs.declared.cell.LogEnd.{LogEnd}
 use Rattle.worker_cells.specs.declared.gate_calls.GateCalls.{GateCalls}
-use Rattle.worker_cells.specs.Cells.{IsCell, IsShown, IsTied, ReadiesSome, RunsCell, RunsLines, StepsOne}
+use Rattle.worker_cells.specs.Cells.{IsCell, IsTied, ReadiesSome, RunsCell, RunsLines, StepsOne}
 use Rattle.worker_cells.specs.InARow.{row_layout, row_role}
 use Rattle.worker_cells.proofs.LinesOf.{HasOps, count_more, few_of, ops_of, take_mine}
 use Rattle.worker_cells.proofs.LinesOf.{take_other, whole_of, within_of}
@@ -28,11 +28,10 @@ empty_of (x ∷ xs) is = absurd (omega (arith, is))
 -- seen no other epoch.
 pub record SoFar {D : Type 0} (tells : D → Option (List ℕ)) (clock : D → ℕ) (image_at : D → ℕ → List ℕ → Type 0)
     (faults : D → ℕ) (tries worker i : ℕ) (lines : List Line) (outcomes : List Outcome) (end : LogEnd)
-    (shown : Option Mark) (count : ℕ) (v w : View) (old new : LogState) (before now : D) : Type 0 where
+    (count : ℕ) (v w : View) (old new : LogState) (before now : D) : Type 0 where
   pub high : ℕ
   pub runs : RunsOn tells clock image_at faults tries high (ops_of worker (take i lines)) outcomes end.full v w
       old new before now
-  pub shown_is : IsShown shown new.mark w.seat.marks
   pub failed : end.failed ≡ is_some new.journal.down
   pub count_is : count ≡ length (ops_of worker (take i lines))
   pub few : count ≤ i
@@ -41,17 +40,16 @@ pub record SoFar {D : Type 0} (tells : D → Option (List ℕ)) (clock : D → �
 module _ {D : Type 0} {tells : D → Option (List ℕ)} {clock : D → ℕ} {image_at : D → ℕ → List ℕ → Type 0}
     {faults : D → ℕ} where
   -- no line
-  pub so_begin : (tries worker : ℕ) (lines : List Line) (outcomes : List Outcome) (end : LogEnd) (shown : Option Mark)
+  pub so_begin : (tries worker : ℕ) (lines : List Line) (outcomes : List Outcome) (end : LogEnd)
       {v : View} {log : LogState} {bank : D} → IsCell tells v log bank → outcomes ≡ [] → end.full ≡ None
-      → end.failed ≡ is_some log.journal.down → IsShown shown log.mark v.seat.marks
-      → SoFar tells clock image_at faults tries worker 0 lines outcomes end shown 0 v v log log bank bank
-  so_begin tries worker lines outcomes end shown {v = v} {log = log} {bank = bank} is none full failed shows = record {
+      → end.failed ≡ is_some log.journal.down
+      → SoFar tells clock image_at faults tries worker 0 lines outcomes end 0 v v log log bank bank
+  so_begin tries worker lines outcomes end {v = v} {log = log} {bank = bank} is none full failed = record {
     high = v.epoch;
     runs = subst (λ o. RunsOn tells clock image_at faults tries v.epoch [] o end.full v v log log bank bank)
         (sym none)
         (subst (λ f. RunsOn tells clock image_at faults tries v.epoch [] [] f v v log log bank bank) (sym full)
         (lines_begin tries is));
-    shown_is = shows;
     failed = failed;
     count_is = refl;
     few = omega arith;
@@ -60,17 +58,17 @@ module _ {D : Type 0} {tells : D → Option (List ℕ)} {clock : D → ℕ} {ima
 
   -- where there are more, a line of the round is left
   pub so_within : {tries worker i count : ℕ} {lines : List Line} {outcomes : List Outcome} {end : LogEnd}
-      {shown : Option Mark} {v w : View} {old new : LogState} {before now : D} → count < length (ops_of worker lines)
-      → SoFar tells clock image_at faults tries worker i lines outcomes end shown count v w old new before now
+      {v w : View} {old new : LogState} {before now : D} → count < length (ops_of worker lines)
+      → SoFar tells clock image_at faults tries worker i lines outcomes end count v w old new before now
       → i < length lines
   so_within {worker = worker} {i = i} {lines = lines} fewer so =
       within_of worker i lines (omega (arith, fewer, so.count_is))
 
   -- a line of another worker was passed over
   pub so_other : {tries worker i count : ℕ} {lines : List Line} {outcomes : List Outcome} {end : LogEnd}
-      {shown : Option Mark} {v w : View} {old new : LogState} {before now : D} → HasOps worker lines i None
-      → SoFar tells clock image_at faults tries worker i lines outcomes end shown count v w old new before now
-      → SoFar tells clock image_at faults tries worker (i + 1) lines outcomes end shown count v w old new before now
+      {v w : View} {old new : LogState} {before now : D} → HasOps worker lines i None
+      → SoFar tells clock image_at faults tries worker i lines outcomes end count v w old new before now
+      → SoFar tells clock image_at faults tries worker (i + 1) lines outcomes end count v w old new before now
   so_other {tries = tries} {worker = worker} {i = i} {lines = lines} {outcomes = outcomes} {end = end} {v = v} {w = w}
       {old = old} {new = new} {before = before} {now = now} has so =
       let same : ops_of worker (take (i + 1) lines) ≡ ops_of worker (take i lines) = take_other worker lines i has in
@@ -79,7 +77,6 @@ module _ {D : Type 0} {tells : D → Option (List ℕ)} {clock : D → ℕ} {ima
         runs = subst (λ l. RunsOn tells clock image_at faults tries so.high l outcomes end.full v w old new
             before now)
             (sym same) so.runs;
-        shown_is = so.shown_is;
         failed = so.failed;
         count_is = so.count_is ∙ sym (ap length same);
         few = omega (arith, so.few);
@@ -88,15 +85,14 @@ module _ {D : Type 0} {tells : D → Option (List ℕ)} {clock : D → ℕ} {ima
 
   -- one of the worker was run, or left out
   pub so_step : {tries worker i count : ℕ} {lines : List Line} {outcomes after : List Outcome} {first end : LogEnd}
-      {shown shows : Option Mark} {v w x : View} {old mid left : LogState} {before between now : D} (ops : List Op)
+      {v w x : View} {old mid left : LogState} {before between now : D} (ops : List Op)
       → HasOps worker lines i (Some ops)
-      → SoFar tells clock image_at faults tries worker i lines outcomes first shown count v w old mid before between
+      → SoFar tells clock image_at faults tries worker i lines outcomes first count v w old mid before between
       → StepsOne tells clock image_at faults tries ops outcomes after first end w x mid left between now
-      → IsShown shows left.mark x.seat.marks
-      → SoFar tells clock image_at faults tries worker (i + 1) lines after end shows (count + 1) v x old left before now
+      → SoFar tells clock image_at faults tries worker (i + 1) lines after end (count + 1) v x old left before now
   so_step {tries = tries} {worker = worker} {i = i} {count = count} {lines = lines} {outcomes = outcomes}
       {after = after} {end = end} {v = v} {x = x} {old = old} {left = left} {before = before} {now = now} ops has so
-      steps is =
+      steps =
       let one = lines_step ops so.runs so.failed steps in
       let mine : ops_of worker (take (i + 1) lines) ≡ ops_of worker (take i lines) ++ ops ∷ [] =
       take_mine worker lines i ops has in
@@ -104,7 +100,6 @@ module _ {D : Type 0} {tells : D → Option (List ℕ)} {clock : D → ℕ} {ima
         high = one.0;
         runs = subst (λ l. RunsOn tells clock image_at faults tries one.0 l after end.full v x old left before now)
             (sym mine) one.1;
-        shown_is = is;
         failed = one.2;
         count_is = count_more worker i count lines ops has so.count_is;
         few = omega (arith, so.few);
@@ -113,14 +108,13 @@ module _ {D : Type 0} {tells : D → Option (List ℕ)} {clock : D → ℕ} {ima
 
   -- behind the last line it is noted what the gate was told
   pub so_noted : {tries worker i count : ℕ} {lines : List Line} {outcomes : List Outcome} {end : LogEnd}
-      {shown : Option Mark} {v w : View} {old new : LogState} {before now : D} (calls : GateCalls)
-      → SoFar tells clock image_at faults tries worker i lines outcomes end shown count v w old new before now
-      → SoFar tells clock image_at faults tries worker i lines outcomes (record end { calls = calls }) shown count v w
+      {v w : View} {old new : LogState} {before now : D} (calls : GateCalls)
+      → SoFar tells clock image_at faults tries worker i lines outcomes end count v w old new before now
+      → SoFar tells clock image_at faults tries worker i lines outcomes (record end { calls = calls }) count v w
       old new before now
   so_noted calls so = record {
     high = so.high;
     runs = so.runs;
-    shown_is = so.shown_is;
     failed = so.failed;
     count_is = so.count_is;
     few = so.few;
@@ -129,16 +123,15 @@ module _ {D : Type 0} {tells : D → Option (List ℕ)} {clock : D → ℕ} {ima
 
   -- behind the last line, with some of the worker: what waits was made durable, and marked
   pub so_marked : {tries worker i count : ℕ} {lines : List Line} {outcomes : List Outcome} {end : LogEnd}
-      {shown : Option Mark} {v w x : View} {old mid left : LogState} {before between now : D} (failed : Bool)
+      {v w x : View} {old mid left : LogState} {before between now : D} (failed : Bool)
       → length (ops_of worker lines) ≤ count → 0 < count
-      → SoFar tells clock image_at faults tries worker i lines outcomes end shown count v w old mid before between
+      → SoFar tells clock image_at faults tries worker i lines outcomes end count v w old mid before between
       → ReadiesSome tells clock image_at faults w x mid left between now
       → failed ≡ is_some left.journal.down → (left.journal.down ≡ None → left.journal.lines ≡ [])
-      → (left.journal.down ≡ None → IsTied left.mark x.seat.marks)
       → RunsCell tells clock image_at faults tries (ops_of worker lines) outcomes (record end { failed = failed })
       v x old left before now
   so_marked {tries = tries} {worker = worker} {i = i} {lines = lines} {outcomes = outcomes} {end = end} {v = v} {x = x}
-      {old = old} {left = left} {before = before} {now = now} failed all some so readied is flushed tied =
+      {old = old} {left = left} {before = before} {now = now} failed all some so readied is flushed =
       let whole : ops_of worker (take i lines) ≡ ops_of worker lines =
       whole_of worker i lines (omega (arith, all, so.count_is)) in
       let not : ops_of worker (take i lines) ≡ [] → ⊥ = λ none. omega (arith, some, so.count_is, ap length none) in
@@ -147,14 +140,13 @@ module _ {D : Type 0} {tells : D → Option (List ℕ)} {clock : D → ℕ} {ima
             old left before now) whole (lines_marked readied.fault not so.runs readied.readies);
         failed = is;
         flushed = flushed;
-        tied = λ some up. tied up;
       }
 
   -- and with none
   pub so_idle : {tries worker i : ℕ} {lines : List Line} {outcomes : List Outcome} {end : LogEnd}
-      {shown : Option Mark} {v w : View} {old new : LogState} {before now : D}
+      {v w : View} {old new : LogState} {before now : D}
       → length (ops_of worker lines) ≤ 0 → old.journal.lines ≡ []
-      → SoFar tells clock image_at faults tries worker i lines outcomes end shown 0 v w old new before now
+      → SoFar tells clock image_at faults tries worker i lines outcomes end 0 v w old new before now
       → RunsCell tells clock image_at faults tries (ops_of worker lines) outcomes end v w old new before now
   so_idle {tries = tries} {worker = worker} {i = i} {lines = lines} {outcomes = outcomes} {end = end} {v = v} {w = w}
       {old = old} {new = new} {before = before} {now = now} all flushed so =
@@ -169,17 +161,20 @@ module _ {D : Type 0} {tells : D → Option (List ℕ)} {clock : D → ℕ} {ima
             old new before now) (so.idle none) so.runs.runs);
         failed = so.failed;
         flushed = λ up. ap (λ (l : LogState). l.journal.lines) (so.runs.runs.none none).0 ∙ flushed;
-        tied = λ some up. absurd (some (sym whole ∙ none));
       }
 
   -- ---- what a line of the worker finds
 
   module _ {tries worker i count : ℕ} {lines : List Line} {outcomes : List Outcome} {end : LogEnd}
-      {shown : Option Mark} {v w : View} {old new : LogState} {before now : D}
-      (so : SoFar tells clock image_at faults tries worker i lines outcomes end shown count v w old new before now)
+      {v w : View} {old new : LogState} {before now : D}
+      (so : SoFar tells clock image_at faults tries worker i lines outcomes end count v w old new before now)
     where
       pub so_over : IsOver w
       so_over = so.runs.runs.did.over
+
+      -- the log's mark stands on the words, where it stood there as the lines began
+      pub so_tied : IsTied old.mark v.seat.marks → IsMark old.mark → IsTied new.mark w.seat.marks
+      so_tied tied small = (so.runs.runs.did.shown tied small).last
 
       pub so_role : w.role ≡ v.role
       so_role = row_role tries v so.runs.runs.ran w so.runs.runs.did.row
@@ -188,7 +183,8 @@ module _ {D : Type 0} {tells : D → Option (List ℕ)} {clock : D → ℕ} {ima
       so_layout = row_layout tries v so.runs.runs.ran w so.runs.runs.did.row
 
       pub so_draws : 1 ≤ v.layout.first.draw → 1 ≤ w.layout.first.draw
-      so_draws some = subst (λ l. 1 ≤ l.first.draw) (sym (row_layout tries v so.runs.runs.ran w so.runs.runs.did.row)) some
+      so_draws some =
+          subst (λ l. 1 ≤ l.first.draw) (sym (row_layout tries v so.runs.runs.ran w so.runs.runs.did.row)) some
 
       pub so_reaches : Reaches tells now new.journal
       so_reaches = so.runs.runs.did.reaches

@@ -13,10 +13,11 @@ use Rattle.tx_script.specs.declared.outcome.Outcome.TheVariants.{Unrun}
 use Rattle.worker_logs.specs.Logs.{LogState}
 use Rattle.worker_logs.specs.Rows.{IsFull, TakesCommit, full_after}
 use Rattle.worker_logs.specs.RowLaws.{full_at, never_up, still_down, still_full, was_up}
-use Rattle.worker_cells.specs.Cells.{IsCell, IsMarkedBelow, Readies, RunsLines, RunsOne, StepsOne}
+use Rattle.worker_logs.specs.ShownLaws.{shows_takes}
+use Rattle.worker_cells.specs.Cells.{IsCell, IsMarkedBelow, Readies, RunsLines, RunsOne, StepsOne, steps_behind}
 use Rattle.worker_cells.specs.declared.cell.LogEnd.{LogEnd}
 use Rattle.worker_cells.specs.Rows.{LineRan, lines_of, outcomes_of, unrun}
-use Rattle.worker_cells.proofs.Over.{ran_begin, ran_line, ran_ready}
+use Rattle.worker_cells.proofs.Over.{looked_since, ran_begin, ran_line, ran_ready}
 
 -- ---- lists
 
@@ -69,6 +70,7 @@ module _ {D : Type 0} {tells : D → Option (List ℕ)} {clock : D → ℕ} {ima
   lines_begin tries is = record {
     runs = record {
       ran = [];
+      more = [];
       left = [];
       whole = refl;
       told = refl;
@@ -90,10 +92,11 @@ module _ {D : Type 0} {tells : D → Option (List ℕ)} {clock : D → ℕ} {ima
       → IsMarkedBelow ready.mark x
       → (one : RunsOne tries ops outcomes after x y ready left)
       → RunsOn tells clock image_at faults tries x.epoch (lines ++ ops ∷ []) after full v y old left before now
-  lines_ran {tries = tries} {lines = lines} {outcomes = outcomes} {full = full} {x = x} {y = y} {ready = ready}
-      {left = left} ops unfilled on readied marked one =
+  lines_ran {tries = tries} {lines = lines} {outcomes = outcomes} {full = full} {v = v} {w = w} {x = x} {y = y}
+      {ready = ready} {left = left} ops unfilled on readied marked one =
       let so = on.runs in
       let none : so.left ≡ [] = so.all unfilled (was_up readied.moves) in
+      let ready_at = ran_ready None so.did readied in
       let line : LineRan = record {
         ops = ops;
         outcome = one.logs.outcome;
@@ -105,6 +108,7 @@ module _ {D : Type 0} {tells : D → Option (List ℕ)} {clock : D → ℕ} {ima
       record {
         runs = record {
           ran = so.ran ++ line ∷ [];
+          more = ready_at.0;
           left = [];
           whole = ap (λ l. l ++ ops ∷ [])
               (so.whole ∙ ap (λ l. lines_of so.ran ++ l) none ∙ append-nil (lines_of so.ran))
@@ -112,7 +116,8 @@ module _ {D : Type 0} {tells : D → Option (List ℕ)} {clock : D → ℕ} {ima
           told = one.told_is ∙ ap (λ o. o ++ one.logs.outcome ∷ [])
               (so.told ∙ ap (λ l. outcomes_of so.ran ++ unrun l) none ∙ append-nil (outcomes_of so.ran))
               ∙ sym (outcomes_push so.ran line) ∙ sym (append-nil (outcomes_of (so.ran ++ line ∷ [])));
-          did = ran_line ops refl (ran_ready None so.did readied) marked one.logs;
+          did = ran_line ops refl ready_at.1 marked (looked_since (steps_behind v.steps so.ran) w.steps x so.did.steps
+              readied.looked) one.logs;
           full_is = λ size is. absurd (let no = sym unfilled ∙ is in cc);
           all = λ no up. refl;
           refuses = λ some. absurd (some refl);
@@ -135,6 +140,7 @@ module _ {D : Type 0} {tells : D → Option (List ℕ)} {clock : D → ℕ} {ima
       record {
         runs = record {
           ran = so.ran;
+          more = so.more;
           left = so.left ++ ops ∷ [];
           whole = ap (λ l. l ++ ops ∷ []) so.whole ∙ append_assoc (lines_of so.ran) so.left (ops ∷ []);
           told = told ∙ ap (λ o. o ++ Unrun ∷ []) so.told
@@ -163,22 +169,25 @@ module _ {D : Type 0} {tells : D → Option (List ℕ)} {clock : D → ℕ} {ima
   lines_left {high = high} {lines = lines} {full = full} {x = x} {mid = mid} {left = left} {between = between}
       {now = now} ops fault up on readied limit told =
       let so = on.runs in
+      let ready_at = ran_ready (Some fault) so.did readied in
       record {
         runs = record {
           ran = so.ran;
+          more = ready_at.0;
           left = so.left ++ ops ∷ [];
           whole = ap (λ l. l ++ ops ∷ []) so.whole ∙ append_assoc (lines_of so.ran) so.left (ops ∷ []);
           told = told ∙ ap (λ o. o ++ Unrun ∷ []) so.told
               ∙ append_assoc (outcomes_of so.ran) (unrun so.left) (Unrun ∷ [])
               ∙ ap (λ o. outcomes_of so.ran ++ o) (sym (unrun_push so.left ops));
-          did = ran_ready (Some fault) so.did readied;
+          did = ready_at.1;
           full_is = λ size is. still_full readied.moves (full_at fault full limit so.full_is size is);
           all = λ none up. absurd (never_up fault full readied.moves none up);
           refuses = λ some. record {
             high = high;
+            later = so.did.later;
             found = mid;
             at = between;
-            takes = so.did.takes;
+            takes = shows_takes so.did.shows;
             limit = so.did.limit;
             up = up;
             fault = fault;
@@ -201,12 +210,13 @@ module _ {D : Type 0} {tells : D → Option (List ℕ)} {clock : D → ℕ} {ima
       → RunsOn tells clock image_at faults tries high lines outcomes full v w old mid before between
       → Readies tells clock image_at faults fault w x mid left between now
       → RunsLines tells clock image_at faults tries x.epoch lines outcomes full v x old left before now
-  lines_marked fault some on readied = let so = on.runs in record {
+  lines_marked fault some on readied = let so = on.runs in let ready_at = ran_ready fault so.did readied in record {
     ran = so.ran;
+    more = ready_at.0;
     left = so.left;
     whole = so.whole;
     told = so.told;
-    did = ran_ready fault so.did readied;
+    did = ready_at.1;
     full_is = λ size is. still_full readied.moves (so.full_is size is);
     all = λ no up. so.all no (still_down fault readied.moves up);
     refuses = so.refuses;

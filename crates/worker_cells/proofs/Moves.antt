@@ -1,58 +1,27 @@
 -- Calls of a log, one after another, and what is known to be shown of its mark.
-use Rattle.std.proofs.Common.{◌≡◌, ◌<◌, ◌-◌, ◌++◌, ◌∷◌, inl, inr, refl, sym, ◌∙◌, ap, subst, ℕ, List, [], Option, Some}
-use Rattle.std.proofs.Common.{None, append_assoc, arith}
-use Rattle.std.specs.Prelude.{◌≢◌, ◌⊎◌, Bool, false, true, is_some, OnOk, Result, Ok, Err}
-use Rattle.lists.specs.Each.{all_append}
-use Rattle.outside.specs.Faults.{Rose}
+use Rattle.std.proofs.Common.{◌≡◌, ◌<◌, ◌≤◌, ◌^◌, ◌-◌, ◌++◌, ◌∷◌, inl, inr, refl, sym, ◌∙◌, ap, subst, ℕ, List, []}
+use Rattle.std.proofs.Common.{Option, Some, None, arith}
+use Rattle.std.specs.Prelude.{◌≢◌, ◌⊎◌, Bool, false, true, is_some, IfSome, OnOk, Result, Ok, Err}
+use Rattle.serial_model.specs.Numbers.{last_epoch}
 use Rattle.wire_form.specs.declared.clock.Mark.{Mark}
 use Rattle.commit_core.specs.CoreState.{last_marked}
 use Rattle.commit_core.specs.declared.seat.Mark as core
+use Rattle.commit_core.specs.declared.seat.Seat.{Seat}
+use Rattle.engine_pages.specs.declared.view.View.{View}
+use Rattle.log_writer.specs.Journal.{JournalState}
 use Rattle.log_writer.specs.declared.journal.LogFault.{LogFault}
 use Rattle.log_writer.specs.declared.journal.LogFault.TheVariants.{Device, Down, Limit}
-use Rattle.worker_logs.specs.Logs.{IsEpochUpTo, IsJoined, LogRan, LogState}
+use Rattle.worker_logs.specs.Logs.{IsEpochUpTo, IsJoined, IsUpTo, LogState}
 use Rattle.worker_logs.specs.Moves.{MovesLog, refusal}
 use Rattle.worker_logs.specs.RowLaws.{was_up}
-use Rattle.worker_cells.specs.Cells.{IsShown, IsShownBefore, IsTied, core_mark, fails}
+use Rattle.engine_seats.specs.Clock.{marked}
+use Rattle.engine_seats.specs.Cuts.{HasSeen}
+use Rattle.tx_runner.specs.Below.{IsOver}
+use Rattle.tx_runner.specs.Epochs.{HasSeenEpoch}
+use Rattle.worker_cells.specs.Cells.{IsMarkedBelow, IsTied, Readies, ShowsFirst, ShowsMark, core_mark, fails}
+use Rattle.worker_cells.specs.InARow.{goes_then}
+use Rattle.worker_cells.specs.Rows.{Goes}
 use Rattle.worker_cells.proofs.Over.{last_marked_last}
-
--- a call that was done, and then another one
-pub moves_then : {D : Type 0} {tells : D → Option (List ℕ)} {clock : D → ℕ} {image_at : D → ℕ → List ℕ → Type 0}
-    {faults : D → ℕ} {a b c : LogState} {before mid now : D} {epoch : ℕ} {fault : Option LogFault}
-    → MovesLog tells clock image_at faults epoch a b before mid None
-    → MovesLog tells clock image_at faults epoch b c mid now fault
-    → MovesLog tells clock image_at faults epoch a c before now fault
-moves_then {tells = tells} {clock = clock} {image_at = image_at} {faults = faults} {a = a} {b = b} {c = c}
-    {before = before} {mid = mid} {now = now} {epoch = epoch} first next =
-    let quiet : faults mid ≡ faults before = first.quiet (λ is. cc) in
-    let up : b.journal.down ≡ a.journal.down = first.stays_up (λ is. cc) in
-    record {
-      reaches = next.reaches;
-      runs = λ commits was durable marks begin ran.
-          let one = first.runs commits was durable marks begin ran in
-          let two = next.runs commits was one.durable (marks ++ one.set) begin one.ran in
-          record {
-            durable = two.durable;
-            set = one.set ++ two.set;
-            of_epoch = all_append (λ (m : Mark). m.epoch ≡ Some epoch) one.set two.set one.of_epoch two.of_epoch;
-            ran = subst (λ ms. LogRan tells clock image_at commits was two.durable ms begin now c)
-                (append_assoc marks one.set two.set) two.ran;
-          };
-      end = next.end ∙ first.end;
-      limit = next.limit ∙ first.limit;
-      mark = elim next.mark [
-        | inr set ↦ inr set
-        | inl same ↦ elim first.mark [
-          | inl kept ↦ inl (same ∙ kept)
-          | inr set ↦ inr (ap (λ (m : Mark). m.epoch) same ∙ set)
-        ]
-      ];
-      later = omega (arith, first.later, next.later);
-      quiet = λ other. next.quiet other ∙ quiet;
-      device = λ is. subst (λ n. Rose n (faults now)) quiet (next.device is);
-      goes_down = next.goes_down;
-      down = λ count. (λ is. sym up ∙ (next.down count).0 is, λ is. (next.down count).1 (up ∙ is));
-      stays_up = λ other. next.stays_up other ∙ up;
-    }
 
 -- it was refused
 abbrev pub is_err_of : {T E : Type 0} → Result T E → Bool
@@ -83,17 +52,6 @@ module _ {D : Type 0} {tells : D → Option (List ℕ)} {clock : D → ℕ} {ima
       absurd (let no = sym (moves.stays_up (λ is. cc) ∙ (moves.down count).0 refl) ∙ up in cc)
   flushed_up at (Err (Limit length)) moves not_full joined up = absurd (not_full length refl)
 
-  -- and its mark is of the epoch before
-  pub flushed_marked : {T : Type 0} (at : ℕ) {epoch : ℕ} {old new : LogState} (result : Result T LogFault)
-      → MovesLog tells clock image_at faults epoch old new before now (refusal result)
-      → ((length : ℕ) → result ≢ Err (Limit length)) → OnOk result (IsJoined at new)
-      → new.journal.down ≡ None → new.mark.epoch ≡ Some (at - 1)
-  flushed_marked at (Ok done) moves not_full joined up = ap (λ (m : Mark). m.epoch) joined.marked
-  flushed_marked at (Err Device) moves not_full joined up = absurd (let no = sym (moves.goes_down refl) ∙ up in cc)
-  flushed_marked at (Err (Down count)) moves not_full joined up =
-      absurd (let no = sym (moves.stays_up (λ is. cc) ∙ (moves.down count).0 refl) ∙ up in cc)
-  flushed_marked at (Err (Limit length)) moves not_full joined up = absurd (not_full length refl)
-
 -- where the log was refused, by the fault
 pub down_by : {D : Type 0} {tells : D → Option (List ℕ)} {clock : D → ℕ} {image_at : D → ℕ → List ℕ → Type 0}
     {faults : D → ℕ} {before now : D} {epoch : ℕ} {old new : LogState} (fault : LogFault)
@@ -104,39 +62,6 @@ down_by (Down count) moves up = sym (ap is_some (moves.stays_up (λ is. cc) ∙ 
 down_by (Limit size) moves up = up ∙ sym (ap is_some (moves.stays_up (λ is. cc)))
 
 -- ---- the mark of a log that a call has left
-
--- What was known to be shown before the call is so of the mark that the log had then.
-pub shown_before : (clock : ℕ) (shown : Option Mark) (old new : Mark) (marks : List core.Mark) → IsShown shown old marks
-    → (new ≡ old) ⊎ (new.epoch ≡ Some (clock - 1)) → IsShownBefore clock shown new marks
-shown_before clock None old new marks is moved = tt
-shown_before clock (Some shown) old new marks is (inl same) =
-    (subst (λ m. IsTied m marks) (sym is.0) is.1, inl (same ∙ sym is.0))
-shown_before clock (Some shown) old new marks is (inr set) = (subst (λ m. IsTied m marks) (sym is.0) is.1, inr set)
-
--- where no mark was set, what was known to be shown is so still
-pub shown_unset : (clock : ℕ) (shown : Option Mark) (mark : Mark) (marks : List core.Mark)
-    → IsShownBefore clock shown mark marks → (mark.epoch ≡ Some (clock - 1) → ⊥) → IsShown shown mark marks
-shown_unset clock None mark marks before not = tt
-shown_unset clock (Some shown) mark marks (tied, inl same) not =
-    (sym same, subst (λ m. IsTied m marks) (sym same) tied)
-shown_unset clock (Some shown) mark marks (tied, inr set) not = absurd (not set)
-
--- what is shown is this mark
-pub shown_this : (clock : ℕ) (shown : Option Mark) (mark : Mark) (marks : List core.Mark)
-    → IsShownBefore clock shown mark marks → shown ≡ Some mark → IsShown shown mark marks × IsTied mark marks
-shown_this clock None mark marks before is = absurd cc
-shown_this clock (Some shown) mark marks (tied, moved) is =
-    let same : shown ≡ mark = cc in let this = subst (λ m. IsTied m marks) same tied in ((same, this), this)
-
--- a mark that was set now
-pub tied_now : (epoch : ℕ) (mark : Mark) (marks after : List core.Mark) → mark.epoch ≡ Some epoch
-    → after ≡ marks ++ record { epoch = Some epoch; length = mark.length } ∷ [] → IsTied mark after
-tied_now epoch mark marks after is then = record {
-  earlier = marks;
-  last = then ∙ ap (λ e. marks ++ record { epoch = e; length = mark.length } ∷ []) (sym is);
-  epoch = epoch;
-  named = is;
-}
 
 -- A mark that is shown and holds no epoch back that the clock has left is of the epoch before: it is none of a later
 -- one.
@@ -150,3 +75,119 @@ marked_below clock old new marks tied below (inl same) up =
     let is : new.epoch ≡ Some tied.epoch = ap (λ (m : Mark). m.epoch) same ∙ tied.named in
     let late : IsEpochUpTo clock (Some tied.epoch) = subst (IsEpochUpTo clock) is up in
     is ∙ ap Some (omega (arith, last, below, late))
+
+-- it is so on the words, behind a load of the clock, where it is shown
+pub ready_marked : {T : Type 0} (clock : ℕ) (result : Result T LogFault) (old new : Mark) (w x : View)
+    → IsTied old w.seat.marks → last_marked w.seat.marks < clock → x.epoch ≡ clock → ShowsMark old new w x
+    → OnOk result (IsUpTo clock new) → OnOk result (IsMarkedBelow new x)
+ready_marked clock (Err fault) old new w x tied below seen shows up = tt
+ready_marked clock (Ok done) old new w x tied below seen (inl (same, stays)) up =
+    let named = marked_below clock old new w.seat.marks tied below (inl same) up in record {
+      some = omega (arith, below, seen);
+      epoch = named ∙ ap (λ n. Some (n - 1)) (sym seen);
+      tied = subst (IsTied new) (sym stays) (subst (λ m. IsTied m w.seat.marks) (sym same) tied);
+    }
+ready_marked clock (Ok done) old new w x tied below seen (inr (small, named, set)) up = record {
+  some = omega (arith, below, seen);
+  epoch = named;
+  tied = record { earlier = w.seat.marks; last = set; epoch = x.epoch - 1; named = named };
+}
+
+-- the same, as the pass had seen the words before that load
+pub shows_since : (old new : Mark) (v w x : View) → w.seat ≡ v.seat → ShowsMark old new w x → ShowsMark old new v x
+shows_since old new v w x same (inl (kept, stays)) = inl (kept, stays ∙ ap (λ (s : Seat). s.marks) same)
+shows_since old new v w x same (inr (small, named, set)) =
+    inr (small, named, set ∙ ap (λ (s : Seat). s.marks ++ core_mark new ∷ []) same)
+
+-- what a log that is up, with nothing that waits, answers as it is flushed and marked
+pub first_done : {T : Type 0} {D : Type 0} {tells : D → Option (List ℕ)} {clock : D → ℕ}
+    {image_at : D → ℕ → List ℕ → Type 0} {faults : D → ℕ} {before now : D} {epoch : ℕ} {old new : LogState}
+    (result : Result T LogFault) → MovesLog tells clock image_at faults epoch old new before now (refusal result)
+    → ((length : ℕ) → result ≢ Err (Limit length)) → new.journal ≡ old.journal → old.journal.down ≡ None
+    → refusal result ≡ None
+first_done (Ok done) moves not_full same up = refl
+first_done (Err Device) moves not_full same up =
+    absurd (let no = sym (moves.goes_down refl) ∙ ap (λ (j : JournalState). j.down) same ∙ up in cc)
+first_done (Err (Down count)) moves not_full same up = absurd (let no = sym ((moves.down count).0 refl) ∙ up in cc)
+first_done (Err (Limit size)) moves not_full same up = absurd (not_full size refl)
+
+-- and its mark then
+pub first_marked : {T : Type 0} (at : ℕ) (result : Result T LogFault) (new : LogState) → refusal result ≡ None
+    → OnOk result (IsJoined at new) → new.mark.epoch ≡ Some (at - 1)
+first_marked at (Ok done) new none joined = ap (λ (m : Mark). m.epoch) joined.marked
+first_marked at (Err fault) new none joined = absurd cc
+
+-- The clock was loaded, a call of the log made, and its mark set on the words where it is a new one.
+pub readies_so : {D : Type 0} {tells : D → Option (List ℕ)} {clock : D → ℕ} {image_at : D → ℕ → List ℕ → Type 0}
+    {faults : D → ℕ} {before now : D} {old new : LogState} (epoch : ℕ) (v w x : View) (shown set : Mark)
+    (fault : Option LogFault) → HasSeenEpoch epoch v w → Goes w x → IsOver x → x.epoch ≡ epoch
+    → MovesLog tells clock image_at faults (epoch - 1) old new before now fault
+    → shown ≡ old.mark → set ≡ new.mark → ShowsMark shown set w x → x.last ≡ w.last → w.steps ≤ x.steps
+    → Readies tells clock image_at faults fault v x old new before now
+readies_so {tells = tells} {clock = clock} {image_at = image_at} {faults = faults} {before = before} {now = now}
+    {old = old} {new = new} epoch v w x shown set fault seen goes over at moves is_old is_new shows last on = record {
+      goes = goes_then v w x (record {
+        seen = seen.seen;
+        layout = seen.layout;
+        role = seen.role;
+        mine = seen.mine;
+        refused = seen.refused;
+        draws = seen.draws;
+        touched = seen.touched;
+        blamed = seen.blamed;
+      }) goes;
+      over = over;
+      rises = subst (λ n. v.epoch ≤ n) (sym at) seen.rises;
+      above = subst (λ n. last_marked v.seat.marks < n) (sym at) seen.marked;
+      moves = subst (λ n. MovesLog tells clock image_at faults (n - 1) old new before now fault) (sym at) moves;
+      shown = shows_since old.mark new.mark v w x seen.seat
+          (subst (λ m. ShowsMark old.mark m w x) is_new (subst (λ m. ShowsMark m set w x) is_old shows));
+      steps = let one = seen.steps in omega (arith, one, on);
+      looked = record {
+        step = v.steps;
+        word = seen.looked.0;
+        since = omega arith;
+        last = last ∙ seen.looked.1;
+        epoch = seen.looked.2 ∙ sym at;
+      };
+    }
+
+-- As a round begins the log's new mark was set on the words.
+pub first_shown : {D : Type 0} {tells : D → Option (List ℕ)} {clock : D → ℕ} {image_at : D → ℕ → List ℕ → Type 0}
+    {faults : D → ℕ} {before now : D} {old new : LogState} (epoch : ℕ) (v w x : View) (set : Mark)
+    {fault : Option LogFault} → HasSeenEpoch epoch v w
+    → x ≡ marked (record { epoch = Some (epoch - 1); length = set.length }) w → IsOver x → fault ≡ None
+    → MovesLog tells clock image_at faults (epoch - 1) old new before now fault → set ≡ new.mark
+    → new.mark.epoch ≡ Some (epoch - 1) → new.mark.length < 2 ^ 40 → new.journal ≡ old.journal → now ≡ before
+    → ShowsFirst tells clock image_at faults v x old new before now
+first_shown {tells = tells} {clock = clock} {image_at = image_at} {faults = faults} {before = before} {now = now}
+    {old = old} {new = new} epoch v w x set seen is over none moves same named counted journal bank =
+    let at : x.epoch ≡ epoch = ap (λ (y : View). y.epoch) is ∙ seen.now in record {
+      goes = record {
+        seen = subst (HasSeen v) (sym is) (record { history = seen.seen.history; decided = seen.seen.decided });
+        layout = ap (λ (y : View). y.layout) is ∙ seen.layout;
+        role = ap (λ (y : View). y.role) is ∙ seen.role;
+        mine = ap (λ (y : View). y.mine) is ∙ seen.mine;
+        refused = ap (λ (y : View). y.refused) is ∙ seen.refused;
+        draws = ap (λ (y : View). y.draws) is ∙ seen.draws;
+        touched = ap (λ (y : View). y.touched) is ∙ seen.touched;
+        blamed = ap (λ (y : View). y.blamed) is ∙ seen.blamed;
+      };
+      over = over;
+      rises = subst (λ n. v.epoch ≤ n) (sym at) seen.rises;
+      some = let above = seen.marked in omega (arith, above, at);
+      moves = subst (λ n. MovesLog tells clock image_at faults (n - 1) old new before now None) (sym at)
+          (subst (MovesLog tells clock image_at faults (epoch - 1) old new before now) none moves);
+      small = record {
+        length = counted;
+        epoch = subst (λ (e : Option ℕ). IfSome e (λ n. n ≤ last_epoch)) (sym named)
+            (let few = seen.few in omega (arith, few));
+      };
+      epoch = named ∙ ap (λ n. Some (n - 1)) (sym at);
+      marks = ap (λ (y : View). y.seat.marks) is
+          ∙ ap (λ (s : Seat). s.marks ++ record { epoch = Some (epoch - 1); length = set.length } ∷ []) seen.seat
+          ∙ ap (λ (e : Option ℕ). v.seat.marks ++ record { epoch = e; length = set.length } ∷ []) (sym named)
+          ∙ ap (λ (m : Mark). v.seat.marks ++ record { epoch = new.mark.epoch; length = m.length } ∷ []) same;
+      journal = journal;
+      bank = bank;
+    }

@@ -1,30 +1,37 @@
 -- What the lines of a cell have done so far, one step after another.
 use Rattle.std.proofs.Common.{◌≡◌, ◌∙◌, ◌≤◌, ◌<◌, ◌+◌, ◌-◌, ◌++◌, ◌∷◌, inl, inr, refl, sym, ap, subst, ℕ, List, []}
-use Rattle.std.proofs.Common.{Option, Some, None, arith}
-use Rattle.std.specs.Prelude.{fold, option_to_list, unwrap_or}
+use Rattle.std.proofs.Common.{Option, Some, None, append_assoc, arith, false, length, length-append, map, suc}
+use Rattle.std.specs.Prelude.{fold, option_to_list, slice_get, unwrap_or}
 use Rattle.std.specs.List.{AllByRecursion}
+use Rattle.std.proofs.lemmas.List.{append-nil}
 use Rattle.lists.specs.Each.{all_append, all_push}
 use Rattle.serial_model.specs.declared.number.Change.{Change}
 use Rattle.serial_model.specs.declared.number.Commit.{Commit}
 use Rattle.serial_model.specs.declared.number.Number.{Number}
 use Rattle.serial_model.specs.declared.op.Op.{Op}
 use Rattle.wire_form.specs.LogFile.{IsLineOf}
+use Rattle.wire_form.specs.Words.{IsMark}
 use Rattle.wire_form.specs.declared.clock.Mark.{Mark}
 use Rattle.commit_core.specs.CoreState.{last_marked, mark_of}
 use Rattle.commit_core.specs.declared.seat.Mark as core
 use Rattle.log_writer.specs.declared.journal.LogFault.{LogFault}
-use Rattle.tx_runner.specs.Epochs.{IsMarkedUpTo}
 use Rattle.tx_runner.specs.Tries.{Lost}
 use Rattle.engine_pages.specs.declared.view.View.{View}
+use Rattle.tx_script.specs.Causes.{is_unrun}
+use Rattle.tx_script.specs.Readied.{DrewSince, Readied, ReadiedUpTo}
+use Rattle.tx_script.specs.ReadiedLaws.{marks_push, readied_later, readied_more, readied_push}
+use Rattle.tx_script.specs.Seen.{AreMarksInOrder}
 use Rattle.tx_script.specs.declared.outcome.Outcome.{Outcome}
 use Rattle.tx_script.specs.declared.outcome.Outcome.TheVariants.{Committed, Conflict, Full, Wide, Limit, Unrun}
 use Rattle.worker_logs.specs.Logs.{LogState}
-use Rattle.worker_logs.specs.Rows.{LogTakes, TakesCommit}
+use Rattle.worker_logs.specs.Rows.{TakesCommit}
+use Rattle.worker_logs.specs.Shown.{LogShows, Stood}
+use Rattle.worker_logs.specs.ShownLaws.{shows_commit, shows_move, shows_none, shows_one}
 use Rattle.worker_logs.specs.RowLaws.{blames_move, blames_none, blames_took, keeps_commit, keeps_then, limit_took}
-use Rattle.worker_logs.specs.RowLaws.{reaches_took, takes_commit, takes_move, takes_none}
-use Rattle.worker_cells.specs.Cells.{IsCell, IsMarkedBelow, IsReached, IsShown, IsTied, LogsLine, RanOver}
-use Rattle.worker_cells.specs.Cells.{Readies, core_mark}
-use Rattle.worker_cells.specs.Rows.{ComesOf, IsSince, LineRan, logged_by, logged_of}
+use Rattle.worker_logs.specs.RowLaws.{reaches_took}
+use Rattle.worker_cells.specs.Cells.{AreLooked, HasLookedSince, IsCell, IsMarkedBelow, IsReached, IsTied, LogsLine}
+use Rattle.worker_cells.specs.Cells.{RanOver, RanShown, Readies, ShowsMark, core_mark, core_of, epochs_of, steps_behind}
+use Rattle.worker_cells.specs.Rows.{ComesOf, IsSince, LineRan, logged_by, logged_of, outcomes_of, readied_of}
 use Rattle.worker_cells.specs.InARow.{goes_none, line_keeps, logged_push, row_goes, row_layout, row_push}
 
 -- ---- the last mark
@@ -59,19 +66,6 @@ tied_still mid new None marks after tied same takes =
     subst (λ (l : LogState). IsTied l.mark after) (sym takes) (subst (IsTied mid.mark) (sym same) tied)
 tied_still mid new (Some c) marks after tied same takes =
     subst (λ m. IsTied m after) (sym takes.mark) (subst (IsTied mid.mark) (sym same) tied)
-
--- nor what is known to be shown
-pub shown_still : (shown : Option Mark) (mid new : LogState) (commit : Option Commit) (marks after : List core.Mark)
-    → IsShown shown mid.mark marks → after ≡ marks → TakesCommit commit mid new → IsShown shown new.mark after
-shown_still None mid new commit marks after is same takes = tt
-shown_still (Some shown) mid new None marks after is same takes = (
-  is.0 ∙ sym (ap (λ (l : LogState). l.mark) takes),
-  tied_still mid new None marks after is.1 same takes,
-)
-shown_still (Some shown) mid new (Some c) marks after is same takes = (
-  is.0 ∙ sym takes.mark,
-  tied_still mid new (Some c) marks after is.1 same takes,
-)
 
 -- an epoch that was reached is none above one that a load finds later
 pub reached_by : (high epoch : ℕ) (v : View) → IsReached high v → v.epoch ≤ epoch → last_marked v.seat.marks < epoch
@@ -120,20 +114,230 @@ since_low low high Wide less is = tt
 since_low low high Limit less is = tt
 since_low low high Unrun less is = tt
 
+-- what was run is told so, and so its commit's epoch
+began_line : (tries : ℕ) (ops : List Op) (outcome : Outcome) (refused : List Lost) (logged : Option Commit)
+    (v w : View) → ComesOf tries ops outcome refused logged v w → is_unrun outcome ≡ false
+began_line tries ops (Committed verdict number replies) refused logged v w comes = refl
+began_line tries ops Conflict refused logged v w comes = refl
+began_line tries ops Limit refused logged v w comes = refl
+began_line tries ops Full refused logged v w comes = refl
+began_line tries ops Wide refused logged v w comes = absurd comes
+began_line tries ops Unrun refused logged v w comes = absurd comes
+
+drew_line : (epoch : ℕ) (outcome : Outcome) → IsSince epoch outcome → DrewSince epoch outcome
+drew_line epoch (Committed verdict number replies) is = is
+drew_line epoch Conflict is = tt
+drew_line epoch Full is = tt
+drew_line epoch Wide is = tt
+drew_line epoch Limit is = tt
+drew_line epoch Unrun is = tt
+
+-- ---- marks that were shown
+
+epochs_end : (earlier : List Stood) (m : Stood) → epochs_of (earlier ++ m ∷ []) ≡ epochs_of earlier ++ m.mark.epoch ∷ []
+epochs_end [] m = refl
+epochs_end (x ∷ earlier) m = ap (λ l. x.mark.epoch ∷ l) (epochs_end earlier m)
+
+last_at : {A : Type 0} (xs : List A) (x : A) → slice_get (xs ++ x ∷ []) (length xs) ≡ Some x
+last_at [] x = refl
+last_at (y ∷ xs) x = last_at xs x
+
+epochs_long : (marks : List Stood) → length (epochs_of marks) ≡ length marks
+epochs_long [] = refl
+epochs_long (m ∷ marks) = ap suc (epochs_long marks)
+
+cores_push : (marks : List Stood) (m : Stood) → map core_of (marks ++ m ∷ []) ≡ map core_of marks ++ core_of m ∷ []
+cores_push [] m = refl
+cores_push (x ∷ marks) m = ap (λ l. core_of x ∷ l) (cores_push marks m)
+
+cores_long : (marks : List Stood) → length (map core_of marks) ≡ length marks
+cores_long [] = refl
+cores_long (m ∷ marks) = ap suc (cores_long marks)
+
+ends_long : (first end : Stood) (more earlier : List Stood) → first ∷ more ≡ earlier ++ end ∷ []
+    → length earlier ≡ length more
+ends_long first end more earlier is =
+    let long : length (first ∷ more) ≡ length earlier + 1 =
+    ap (λ (l : List Stood). length l) is ∙ length-append earlier (end ∷ []) in omega (arith, long)
+
+readied_push_of : (v : View) (ran : List LineRan) (line : LineRan)
+    → readied_of v (ran ++ line ∷ []) ≡ readied_of v ran ++ record {
+      epoch = line.before.epoch;
+      place = length line.before.seat.marks - length v.seat.marks;
+    } ∷ []
+readied_push_of v [] line = refl
+readied_push_of v (x ∷ ran) line = ap (λ l. record {
+  epoch = x.before.epoch;
+  place = length x.before.seat.marks - length v.seat.marks;
+} ∷ l) (readied_push_of v ran line)
+
+outcomes_more : (ran : List LineRan) (line : LineRan)
+    → outcomes_of (ran ++ line ∷ []) ≡ outcomes_of ran ++ line.outcome ∷ []
+outcomes_more [] line = refl
+outcomes_more (x ∷ ran) line = ap (λ o. x.outcome ∷ o) (outcomes_more ran line)
+
+-- a commit leaves the mark
+mark_took : (mid new : LogState) (commit : Option Commit) → TakesCommit commit mid new → new.mark ≡ mid.mark
+mark_took mid new None takes = ap (λ (l : LogState). l.mark) takes
+mark_took mid new (Some c) takes = takes.mark
+
+-- ---- looks at the clock
+
+behind_push : (steps : ℕ) (ran : List LineRan) (line : LineRan)
+    → steps_behind steps (ran ++ line ∷ []) ≡ line.after.steps
+behind_push steps [] line = refl
+behind_push steps (x ∷ ran) line = behind_push x.after.steps ran line
+
+looked_push : (steps : ℕ) (ran : List LineRan) (line : LineRan) → AreLooked steps ran
+    → HasLookedSince (steps_behind steps ran) line.before → AreLooked steps (ran ++ line ∷ [])
+looked_push steps [] line are look = (look, tt)
+looked_push steps (x ∷ ran) line are look = (are.0, looked_push x.after.steps ran line are.1 look)
+
+-- from an earlier step on
+pub looked_since : (less steps : ℕ) (v : View) → less ≤ steps → HasLookedSince steps v → HasLookedSince less v
+looked_since less steps v up look = record {
+  step = look.step;
+  word = look.word;
+  since = let from = look.since in omega (arith, up, from);
+  last = look.last;
+  epoch = look.epoch;
+}
+
+-- ---- marks as lines go on
+
+-- as lines begin
+shown_begin : (v : View) (log : LogState) (since : ℕ) → IsTied log.mark v.seat.marks → IsMark log.mark
+    → RanShown v.epoch [] (record { mark = log.mark; since = since } ∷ []) v v log
+shown_begin v log since tied small = record {
+  small = (small, tt);
+  last = tied;
+  earlier = [];
+  end = record { mark = log.mark; since = since };
+  ends = refl;
+  is = refl;
+  rise = subst (λ (e : Option ℕ). AreMarksInOrder (e ∷ [])) (sym tied.named) tt;
+  readied = (omega arith, omega arith);
+}
+
+-- the mark that stood stands still
+shown_same : (high later : ℕ) (ran : List LineRan) (marks : List Stood) (v w x : View) (mid new : LogState)
+    → high ≤ later → new.mark ≡ mid.mark → x.seat.marks ≡ w.seat.marks → RanShown high ran marks v w mid
+    → RanShown later ran marks v x new
+shown_same high later ran marks v w x mid new up same stays s = record {
+  last = subst (λ m. IsTied m x.seat.marks) (sym same) (subst (IsTied mid.mark) (sym stays) s.last);
+  earlier = s.earlier;
+  end = s.end;
+  ends = s.ends;
+  is = s.is ∙ sym same;
+  small = s.small;
+  rise = s.rise;
+  readied = readied_later v.epoch 0 (epochs_of marks) (readied_of v ran) (outcomes_of ran) high later (length s.earlier)
+      (length s.earlier) up (omega arith) s.readied;
+}
+
+-- a new one was set there
+shown_more : (high later since : ℕ) (ran : List LineRan) (marks : List Stood) (v w x : View) (mid new : LogState)
+    → high ≤ later → last_marked w.seat.marks < later → IsMark new.mark → new.mark.epoch ≡ Some (later - 1)
+    → x.seat.marks ≡ w.seat.marks ++ core_mark new.mark ∷ [] → RanShown high ran marks v w mid
+    → RanShown later ran (marks ++ record { mark = new.mark; since = since } ∷ []) v x new
+shown_more high later since ran marks v w x mid new up above small named set s =
+    let one : Stood = record { mark = new.mark; since = since } in
+    let before : last_marked w.seat.marks ≡ s.last.epoch =
+    ap last_marked s.last.last ∙ last_marked_last s.last.earlier (core_mark mid.mark) s.last.epoch s.last.named in
+    let stood : epochs_of marks ≡ epochs_of s.earlier ++ Some s.last.epoch ∷ [] =
+    ap epochs_of s.ends ∙ epochs_end s.earlier s.end
+    ∙ ap (λ (e : Option ℕ). epochs_of s.earlier ++ e ∷ []) (ap (λ (m : Mark). m.epoch) s.is ∙ s.last.named) in
+    let then : epochs_of (marks ++ one ∷ []) ≡ epochs_of marks ++ Some (later - 1) ∷ [] =
+    epochs_end marks one ∙ ap (λ (e : Option ℕ). epochs_of marks ++ e ∷ []) named in
+    let long : length marks ≡ length s.earlier + 1 =
+    ap (λ (l : List Stood). length l) s.ends ∙ length-append s.earlier (s.end ∷ []) in
+    record {
+      last = record { earlier = w.seat.marks; last = set; epoch = later - 1; named = named };
+      earlier = marks;
+      end = one;
+      ends = refl;
+      is = refl;
+      small = all_push (λ (m : Stood). IsMark m.mark) marks one s.small small;
+      rise = subst AreMarksInOrder (sym then)
+          (subst (λ l. AreMarksInOrder (l ++ Some (later - 1) ∷ [])) (sym stood)
+          (marks_push (epochs_of s.earlier) s.last.epoch (later - 1) (subst AreMarksInOrder stood s.rise)
+          (omega (arith, above, before))));
+      readied = subst (λ l. ReadiedUpTo v.epoch 0 l (readied_of v ran) (outcomes_of ran) later (length marks))
+          (sym then)
+          (readied_more v.epoch 0 (epochs_of marks) (Some (later - 1) ∷ []) (readied_of v ran) (outcomes_of ran) later
+          (length marks)
+          (readied_later v.epoch 0 (epochs_of marks) (readied_of v ran) (outcomes_of ran) high later (length s.earlier)
+          (length marks) up (omega (arith, long)) s.readied));
+    }
+
+-- a line was run
+shown_line : (high : ℕ) (ran : List LineRan) (first : Stood) (more : List Stood) (v : View) (line : LineRan)
+    (mid new : LogState) → high ≡ line.before.epoch → IsMarkedBelow mid.mark line.before → is_unrun line.outcome ≡ false
+    → IsSince line.before.epoch line.outcome → line.after.seat.marks ≡ line.before.seat.marks → new.mark ≡ mid.mark
+    → line.before.seat.marks ≡ v.seat.marks ++ map core_of more
+    → RanShown high ran (first ∷ more) v line.before mid
+    → RanShown high (ran ++ line ∷ []) (first ∷ more) v line.after new
+shown_line high ran first more v line mid new seen marked began since stays same words s =
+    let marks = first ∷ more in
+    let r : Readied = record {
+      epoch = line.before.epoch;
+      place = length line.before.seat.marks - length v.seat.marks;
+    } in
+    let many : length line.before.seat.marks ≡ length v.seat.marks + length more =
+    ap (λ (l : List core.Mark). length l) words ∙ length-append v.seat.marks (map core_of more)
+    ∙ ap (λ n. length v.seat.marks + n) (cores_long more) in
+    let long = ends_long first s.end more s.earlier s.ends in
+    let place : r.place ≡ length s.earlier = omega (arith, many, long) in
+    let named : s.end.mark.epoch ≡ Some (line.before.epoch - 1) = ap (λ (m : Mark). m.epoch) s.is ∙ marked.epoch in
+    let stood : slice_get (epochs_of marks) r.place ≡ Some (Some (line.before.epoch - 1)) =
+    ap (λ l. slice_get l r.place) (ap epochs_of s.ends ∙ epochs_end s.earlier s.end)
+    ∙ ap (λ n. slice_get (epochs_of s.earlier ++ s.end.mark.epoch ∷ []) n) (place ∙ sym (epochs_long s.earlier))
+    ∙ last_at (epochs_of s.earlier) s.end.mark.epoch ∙ ap Some named in
+    let some = marked.some in
+    record {
+      last = subst (λ m. IsTied m line.after.seat.marks) (sym same) (subst (IsTied mid.mark) (sym stays) s.last);
+      earlier = s.earlier;
+      end = s.end;
+      ends = s.ends;
+      is = s.is ∙ sym same;
+      small = s.small;
+      rise = s.rise;
+      readied = subst (λ n. ReadiedUpTo v.epoch 0 (epochs_of marks) (readied_of v (ran ++ line ∷ []))
+          (outcomes_of (ran ++ line ∷ [])) n (length s.earlier)) (sym seen)
+          (subst (λ n. ReadiedUpTo v.epoch 0 (epochs_of marks) (readied_of v (ran ++ line ∷ []))
+          (outcomes_of (ran ++ line ∷ [])) line.before.epoch n) place
+          (subst (λ l. ReadiedUpTo v.epoch 0 (epochs_of marks) l (outcomes_of (ran ++ line ∷ [])) line.before.epoch
+          r.place)
+          (sym (readied_push_of v ran line))
+          (subst (λ o. ReadiedUpTo v.epoch 0 (epochs_of marks) (readied_of v ran ++ r ∷ []) o line.before.epoch r.place)
+          (sym (outcomes_more ran line))
+          (readied_push v.epoch 0 (epochs_of marks) (readied_of v ran) (outcomes_of ran) high (length s.earlier) r
+          line.outcome s.readied (omega (arith, seen)) (omega (arith, place)) (record {
+            ran = began;
+            mark = line.before.epoch - 1;
+            stood = stood;
+            late = omega (arith, some);
+            drew = drew_line line.before.epoch line.outcome since;
+          })))));
+    }
+
 module _ {D : Type 0} {tells : D → Option (List ℕ)} {clock : D → ℕ} {image_at : D → ℕ → List ℕ → Type 0}
     {faults : D → ℕ} where
   -- no line
   pub ran_begin : (tries : ℕ) {v : View} {log : LogState} {bank : D} → IsCell tells v log bank
-      → RanOver tells clock image_at faults tries v.epoch [] v v log log bank bank
+      → RanOver tells clock image_at faults tries v.epoch [] [] v v log log bank bank
   ran_begin tries {v = v} {log = log} {bank = bank} is = record {
     row = goes_none v;
     over = is.over;
     later = omega arith;
     reached = inl (omega arith);
     since = tt;
-    marked = tt;
     lines_are = tt;
-    takes = takes_none v.epoch v.epoch log bank;
+    steps = omega arith;
+    looked = tt;
+    shows = shows_one (shows_none v.epoch v.epoch log bank);
+    words = sym (append-nil v.seat.marks);
+    shown = shown_begin v log (clock bank);
     mark = inl refl;
     blames = blames_none bank log.journal is.up.up;
     reaches = is.up.reaches;
@@ -141,35 +345,73 @@ module _ {D : Type 0} {tells : D → Option (List ℕ)} {clock : D → ℕ} {ima
   }
 
   -- between two lines: the clock was loaded, and a call of the log made
-  pub ran_ready : {tries high : ℕ} {ran : List LineRan} {v w x : View} {old mid new : LogState} {before between now : D}
-      (fault : Option LogFault)
-      → RanOver tells clock image_at faults tries high ran v w old mid before between
+  pub ran_ready : {tries high : ℕ} {ran : List LineRan} {more : List Stood} {v w x : View} {old mid new : LogState}
+      {before between now : D} (fault : Option LogFault)
+      → RanOver tells clock image_at faults tries high ran more v w old mid before between
       → Readies tells clock image_at faults fault w x mid new between now
-      → RanOver tells clock image_at faults tries x.epoch ran v x old new before now
-  ran_ready {tries = tries} {high = high} {ran = ran} {v = v} {w = w} {x = x} {old = old} {mid = mid} {new = new}
-      fault so ready =
-      let reached : high ≤ x.epoch = reached_by high x.epoch w so.reached ready.rises ready.above in
-      let later : v.epoch ≤ x.epoch = omega (arith, so.later, reached) in
-      record {
+      → (then : List Stood) × RanOver tells clock image_at faults tries x.epoch ran then v x old new before now
+  ran_ready {tries = tries} {high = high} {ran = ran} {more = more} {v = v} {w = w} {x = x} {old = old} {mid = mid}
+      {new = new} {before = before} {now = now} fault so ready = by_mark ready.shown
+    where
+      first : Stood
+      first = record { mark = old.mark; since = clock before }
+
+      reached : high ≤ x.epoch
+      reached = reached_by high x.epoch w so.reached ready.rises ready.above
+
+      later : v.epoch ≤ x.epoch
+      later = omega (arith, so.later, reached)
+
+      moved : LogShows tells clock image_at v.epoch x.epoch (logged_of ran) (first ∷ more) old new before now
+      moved = shows_move later reached so.shows ready.moves.runs
+
+      on : (then : List Stood)
+          → LogShows tells clock image_at v.epoch x.epoch (logged_of ran) (first ∷ then) old new before now
+          → x.seat.marks ≡ v.seat.marks ++ map core_of then
+          → (IsTied old.mark v.seat.marks → IsMark old.mark → RanShown x.epoch ran (first ∷ then) v x new)
+          → RanOver tells clock image_at faults tries x.epoch ran then v x old new before now
+      on then shows words shown = record {
         row = row_goes tries v ran w x so.row ready.goes;
         over = ready.over;
         later = later;
         reached = inl (omega arith);
         since = so.since;
-        marked = so.marked;
         lines_are = so.lines_are;
-        takes = takes_move later reached so.takes ready.moves.runs;
+        steps = let before = so.steps in let on = ready.steps in omega (arith, before, on);
+        looked = so.looked;
+        shows = shows;
+        words = words;
+        shown = shown;
         mark = keeps_then v.epoch high x.epoch old mid new later reached so.mark ready.moves.mark;
         blames = blames_move fault so.blames ready.moves;
         reaches = ready.moves.reaches;
         limit = ready.moves.limit ∙ so.limit;
       }
 
+      by_mark : ShowsMark mid.mark new.mark w x
+          → (then : List Stood) × RanOver tells clock image_at faults tries x.epoch ran then v x old new before now
+      by_mark (inl (same, stays)) = (
+        more,
+        on more moved (stays ∙ so.words)
+            (λ tied small. shown_same high x.epoch ran (first ∷ more) v w x mid new reached same stays
+            (so.shown tied small)),
+      )
+      by_mark (inr (small, named, set)) =
+          let one : Stood = record { mark = new.mark; since = clock now } in (
+            more ++ one ∷ [],
+            on (more ++ one ∷ []) (shows_one moved)
+                (set ∙ ap (λ l. l ++ core_mark new.mark ∷ []) so.words
+                ∙ append_assoc v.seat.marks (map core_of more) (core_mark new.mark ∷ [])
+                ∙ ap (λ l. v.seat.marks ++ l) (sym (cores_push more one)))
+                (λ tied first_small. shown_more high x.epoch (clock now) ran (first ∷ more) v w x mid new reached
+                ready.above small named set (so.shown tied first_small)),
+          )
+
   -- a line was run, for which the log had been made ready at this epoch
-  pub ran_line : {tries high : ℕ} {ran : List LineRan} {v w x : View} {old mid new : LogState} {before now : D}
-      (ops : List Op) → high ≡ w.epoch
-      → RanOver tells clock image_at faults tries high ran v w old mid before now
-      → IsMarkedBelow mid.mark w
+  pub ran_line : {tries high : ℕ} {ran : List LineRan} {more : List Stood} {v w x : View} {old mid new : LogState}
+      {before now : D} (ops : List Op) → high ≡ w.epoch
+      → RanOver tells clock image_at faults tries high ran more v w old mid before now
+      → IsMarkedBelow mid.mark w → HasLookedSince (steps_behind v.steps ran) w
       → (line : LogsLine tries ops w x mid new)
       → RanOver tells clock image_at faults tries high (ran ++ record {
         ops = ops;
@@ -178,10 +420,11 @@ module _ {D : Type 0} {tells : D → Option (List ℕ)} {clock : D → ℕ} {ima
         logged = line.logged;
         before = w;
         after = x;
-      } ∷ []) v x old new before now
-  ran_line {tries = tries} {high = high} {ran = ran} {v = v} {w = w} {x = x} {old = old} {mid = mid} {new = new}
-      {before = before} {now = now} ops seen so marked line =
+      } ∷ []) more v x old new before now
+  ran_line {tries = tries} {high = high} {ran = ran} {more = more} {v = v} {w = w} {x = x} {old = old} {mid = mid}
+      {new = new} {before = before} {now = now} ops seen so marked look line =
       let some : 1 ≤ high = omega (arith, seen, marked.some) in
+      let first : Stood = record { mark = old.mark; since = clock before } in
       let one : LineRan = record {
         ops = ops;
         outcome = line.outcome;
@@ -191,14 +434,14 @@ module _ {D : Type 0} {tells : D → Option (List ℕ)} {clock : D → ℕ} {ima
         after = x;
       } in
       let kept = line_keeps tries ops line.outcome line.refused line.logged w x line.comes in
-      let more = logged_push ran one in
+      let pushed = logged_push ran one in
       let same = row_layout tries v ran w so.row in
       let mark : mark_of w.seat.marks ≡ Some (w.epoch - 1) = mark_found mid.mark w marked in
       let above : (c : Commit) → line.logged ≡ Some c → high ≤ c.number.epoch = λ c is.
       let over = line_above tries ops line.outcome line.refused line.logged w x (w.epoch - 1) line.comes mark c is in
       omega (arith, seen, marked.some, over) in
-      let since : IsSince v.epoch line.outcome =
-      since_low v.epoch (w.epoch - 1 + 1) line.outcome (omega (arith, so.later, seen, marked.some))
+      let drew : IsSince w.epoch line.outcome =
+      since_low w.epoch (w.epoch - 1 + 1) line.outcome (omega (arith, marked.some))
       (line_since tries ops line.outcome line.refused line.logged w x (w.epoch - 1) line.comes mark) in
       let last : last_marked x.seat.marks ≡ w.epoch - 1 =
       ap last_marked (kept.marks ∙ marked.tied.last)
@@ -208,14 +451,19 @@ module _ {D : Type 0} {tells : D → Option (List ℕ)} {clock : D → ℕ} {ima
         over = kept.over;
         later = so.later;
         reached = inr (omega (arith, last, some, seen));
-        since = all_push (λ (r : LineRan). IsSince v.epoch r.outcome) ran one so.since since;
-        marked = all_push (λ (r : LineRan). IsMarkedUpTo r.before.epoch r.before) ran one so.marked
-            (record { epoch = w.epoch - 1; mark = mark; late = omega (arith, marked.some) });
-        lines_are = subst (AllByRecursion (IsLineOf v.layout.decls)) (sym more)
+        since = all_push (λ (r : LineRan). IsSince v.epoch r.outcome) ran one so.since
+            (since_low v.epoch w.epoch line.outcome (omega (arith, so.later, seen)) drew);
+        lines_are = subst (AllByRecursion (IsLineOf v.layout.decls)) (sym pushed)
             (all_append (IsLineOf v.layout.decls) (logged_of ran) (option_to_list line.logged) so.lines_are
             (subst (λ l. AllByRecursion (IsLineOf l.decls) (option_to_list line.logged)) same line.line));
-        takes = subst (λ l. LogTakes tells clock image_at v.epoch high l old new before now) (sym more)
-            (takes_commit line.logged some so.later above so.takes line.takes);
+        steps = let end = behind_push v.steps ran one in omega (arith, end);
+        looked = looked_push v.steps ran one so.looked look;
+        shows = subst (λ l. LogShows tells clock image_at v.epoch high l (first ∷ more) old new before now) (sym pushed)
+            (shows_commit line.logged some so.later above so.shows line.takes);
+        words = kept.marks ∙ so.words;
+        shown = λ tied small. shown_line high ran first more v one mid new seen marked
+            (began_line tries ops line.outcome line.refused line.logged w x line.comes) drew kept.marks
+            (mark_took mid new line.logged line.takes) so.words (so.shown tied small);
         mark = keeps_commit v.epoch high old mid new line.logged so.mark line.takes;
         blames = blames_took mid new line.logged so.blames line.takes;
         reaches = reaches_took tells now mid new line.logged so.reaches line.takes;

@@ -7,3 +7,4 @@ pub use Rattle.tx_runner.specs.OwnThreads.{over_done, seat_over}
 pub use Rattle.tx_runner.specs.Tries.{blame_at, blame_of, blames_of, drawn_for, lost_to, why_of, whys_of}
 pub use Rattle.tx_runner.specs.Tries.{HasTriedFor, IsClash, IsConflicting, IsKeyOf, IsLostAt, IsMetKey, IsWrittenBy}
 pub use Rattle.tx_runner.specs.Tries.{Lost, ToClock, ToOther, ToSet, ToSlots, Writes}
+pub use Rattle.tx_runner.specs.Epochs.{HasAdvanced, HasMetAll, HasSeenEpoch, IsLastEpoch, mets_of}

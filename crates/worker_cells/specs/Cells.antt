@@ -1,26 +1,32 @@
 -- What a worker's lines of a round leave of its cell: of its pass, of its log and of its log file.
-use Rattle.std.specs.Prelude.{◌≡◌, ◌⊎◌, ◌+◌, ◌-◌, ◌≤◌, ◌<◌, ◌++◌, ℕ, List, [], ◌∷◌, Option, Some, None, is_some}
-use Rattle.std.specs.Prelude.{Bool, false, option_to_list, true, ⊤}
+use Rattle.std.specs.Prelude.{◌≡◌, ◌⊎◌, ◌+◌, ◌-◌, ◌/◌, ◌^◌, ◌≤◌, ◌<◌, ◌++◌, ℕ, List, [], ◌∷◌, Option, Some, None}
+use Rattle.std.specs.Prelude.{Bool, false, is_some, length, map, option_to_list, true, ⊤}
 use Rattle.std.specs.List.{AllByRecursion}
 use Rattle.serial_model.specs.declared.number.Commit.{Commit}
 use Rattle.serial_model.specs.declared.op.Op.{Op}
 use Rattle.wire_form.specs.LogFile.{IsLineOf}
+use Rattle.wire_form.specs.Words.{IsMark}
 use Rattle.wire_form.specs.declared.clock.Mark.{Mark}
 use Rattle.commit_core.specs.CoreState.{last_marked}
 use Rattle.commit_core.specs.declared.seat.Mark as core
 use Rattle.log_writer.specs.Journal.{Reaches}
 use Rattle.log_writer.specs.declared.journal.LogFault.{LogFault}
 use Rattle.log_writer.specs.declared.journal.LogFault.TheVariants.{Device, Down, Limit as AtLimit}
+use Rattle.engine_pages.specs.Layout.{clock_at}
+use Rattle.engine_pages.specs.Steps.{glance}
 use Rattle.engine_pages.specs.declared.view.View.{View}
 use Rattle.tx_runner.specs.Below.{IsOver}
-use Rattle.tx_runner.specs.Epochs.{IsMarkedUpTo}
 use Rattle.tx_runner.specs.Tries.{Lost}
+use Rattle.tx_script.specs.Readied.{ReadiedUpTo}
+use Rattle.tx_script.specs.Seen.{AreMarksInOrder}
 use Rattle.tx_script.specs.declared.outcome.Outcome.{Outcome}
 use Rattle.tx_script.specs.declared.outcome.Outcome.TheVariants.{Unrun}
 use Rattle.worker_logs.specs.Logs.{LogState}
 use Rattle.worker_logs.specs.Moves.{MovesLog}
 use Rattle.worker_logs.specs.Rows.{Blames, IsFull, IsLogUp, KeepsMarkIn, LogTakes, TakesCommit, full_after}
-use Rattle.worker_cells.specs.Rows.{AreInARow, ComesOf, Goes, IsSince, LineRan, lines_of, logged_of, outcomes_of, unrun}
+use Rattle.worker_logs.specs.Shown.{LogShows, Stood}
+use Rattle.worker_cells.specs.Rows.{AreInARow, ComesOf, Goes, IsSince, LineRan, lines_of, logged_of, outcomes_of}
+use Rattle.worker_cells.specs.Rows.{readied_of, unrun}
 use Rattle.worker_cells.specs.declared.cell.LogEnd.{LogEnd}
 
 -- ---- the mark on the words, and that of the log
@@ -36,17 +42,33 @@ pub record IsTied (mark : Mark) (marks : List core.Mark) : Type 0 where
   pub epoch : ℕ
   pub named : mark.epoch ≡ Some epoch
 
--- What a thread knows to stand on the words for its seat: nothing yet, or its log's mark.
-abbrev pub IsShown : Option Mark → Mark → List core.Mark → Type 0
-IsShown None mark marks = ⊤
-IsShown (Some shown) mark marks = (shown ≡ mark) × IsTied mark marks
+-- The mark that stood on the words stands there still, as the log has no other one; or the log's new one was set there,
+-- of the epoch before the one that the pass saw.
+abbrev pub ShowsMark : Mark → Mark → View → View → Type 0
+ShowsMark shown now v w = ((now ≡ shown) × (w.seat.marks ≡ v.seat.marks))
+    ⊎ (IsMark now × (now.epoch ≡ Some (w.epoch - 1)) × (w.seat.marks ≡ v.seat.marks ++ core_mark now ∷ []))
 
--- The log has this mark now, which is the one that it had, or of the epoch before this one of the clock. The one that
--- it had is what its thread knows to stand on the words, if it knows that.
-abbrev pub IsShownBefore : ℕ → Option Mark → Mark → List core.Mark → Type 0
-IsShownBefore clock None mark marks = ⊤
-IsShownBefore clock (Some shown) mark marks =
-    IsTied shown marks × ((mark ≡ shown) ⊎ (mark.epoch ≡ Some (clock - 1)))
+-- a mark that was shown, as the words have it
+abbrev pub core_of : Stood → core.Mark
+core_of m = core_mark m.mark
+
+-- the epochs of marks that were shown
+abbrev pub epochs_of : List Stood → List (Option ℕ)
+epochs_of marks = map (λ (m : Stood). m.mark.epoch) marks
+
+-- What the lines of a cell whose log's mark stood on the words as they began make of these marks, the first of which
+-- was that one: they were shown one after another, each of an epoch, and none of an earlier one than the one before.
+-- The last is the log's, and stands on the words. As each line began that was run, the last one then was at least the
+-- clock's epoch that had been loaded for the line, less 1.
+pub record RanShown (high : ℕ) (ran : List LineRan) (marks : List Stood) (v w : View) (new : LogState) : Type 0 where
+  pub last : IsTied new.mark w.seat.marks
+  pub earlier : List Stood
+  pub end : Stood
+  pub ends : marks ≡ earlier ++ end ∷ []
+  pub is : end.mark ≡ new.mark
+  pub small : AllByRecursion (λ (m : Stood). IsMark m.mark) marks
+  pub rise : AreMarksInOrder (epochs_of marks)
+  pub readied : ReadiedUpTo v.epoch 0 (epochs_of marks) (readied_of v ran) (outcomes_of ran) high (length earlier)
 
 -- The log's mark is of the epoch before the one that the pass saw, on the words too: no commit that is still to come is
 -- of the mark's epoch or an earlier one.
@@ -54,6 +76,24 @@ pub record IsMarkedBelow (mark : Mark) (v : View) : Type 0 where
   pub some : 1 ≤ v.epoch
   pub epoch : mark.epoch ≡ Some (v.epoch - 1)
   pub tied : IsTied mark v.seat.marks
+
+-- The word that the pass loaded last, no earlier than at this step of its, was the clock, in the epoch that it knows.
+pub record HasLookedSince (steps : ℕ) (v : View) : Type 0 where
+  pub step : ℕ
+  pub word : ℕ
+  pub since : steps ≤ step
+  pub last : v.last ≡ Some (glance step clock_at word)
+  pub epoch : word / 2 ^ 40 ≡ v.epoch
+
+-- the steps of the pass behind these lines
+abbrev pub steps_behind : ℕ → List LineRan → ℕ
+steps_behind steps [] = steps
+steps_behind steps (line ∷ more) = steps_behind line.after.steps more
+
+-- before each of these lines the clock was loaded anew
+abbrev pub AreLooked : ℕ → List LineRan → Type 0
+AreLooked steps [] = ⊤
+AreLooked steps (line ∷ more) = HasLookedSince steps line.before × AreLooked line.after.steps more
 
 -- An epoch that the pass has reached: none above the one that it saw last, or above the one behind its last mark. No
 -- later load of the clock finds an earlier one.
@@ -95,6 +135,20 @@ module _ {D : Type 0} (tells : D → Option (List ℕ)) (clock : D → ℕ) (ima
     (faults : D → ℕ) where
   -- ---- between lines
 
+  -- As a round begins: all that is durable was marked, of the epoch before the one that the pass saw, and the mark was
+  -- set on the words. Nothing else of the log has changed, and nothing of its log file.
+  pub record ShowsFirst (v w : View) (old new : LogState) (before now : D) : Type 0 where
+    pub goes : Goes v w
+    pub over : IsOver w
+    pub rises : v.epoch ≤ w.epoch
+    pub some : 1 ≤ w.epoch
+    pub moves : MovesLog tells clock image_at faults (w.epoch - 1) old new before now None
+    pub small : IsMark new.mark
+    pub epoch : new.mark.epoch ≡ Some (w.epoch - 1)
+    pub marks : w.seat.marks ≡ v.seat.marks ++ core_mark new.mark ∷ []
+    pub journal : new.journal ≡ old.journal
+    pub bank : now ≡ before
+
   -- The clock was loaded, and calls of the log were made at that epoch, which is none below the one that the pass saw,
   -- and above each mark that its seat had.
   pub record Readies (fault : Option LogFault) (v w : View) (old new : LogState) (before now : D) : Type 0 where
@@ -103,6 +157,9 @@ module _ {D : Type 0} (tells : D → Option (List ℕ)) (clock : D → ℕ) (ima
     pub rises : v.epoch ≤ w.epoch
     pub above : last_marked v.seat.marks < w.epoch
     pub moves : MovesLog tells clock image_at faults (w.epoch - 1) old new before now fault
+    pub shown : ShowsMark old.mark new.mark v w
+    pub steps : v.steps ≤ w.steps
+    pub looked : HasLookedSince v.steps w
 
   -- the same, whatever the log answered
   pub record ReadiesSome (v w : View) (old new : LogState) (before now : D) : Type 0 where
@@ -112,18 +169,23 @@ module _ {D : Type 0} (tells : D → Option (List ℕ)) (clock : D → ℕ) (ima
   -- ---- what the lines that were run did
 
   -- These lines were run from the one view to the other, at epochs from the one that the pass had seen as the round
-  -- began up to this one, and the log took what they changed.
-  pub record RanOver (tries high : ℕ) (ran : List LineRan) (v w : View) (old new : LogState) (before now : D)
-      : Type 0 where
+  -- began up to this one, and the log took what they changed. Before each line the clock was loaded anew. The words
+  -- showed these marks of the log more than the one that it had.
+  pub record RanOver (tries high : ℕ) (ran : List LineRan) (more : List Stood) (v w : View) (old new : LogState)
+      (before now : D) : Type 0 where
     pub row : AreInARow tries v ran w
     pub over : IsOver w
     pub later : v.epoch ≤ high
     pub reached : IsReached high w
     pub since : AllByRecursion (λ (line : LineRan). IsSince v.epoch line.outcome) ran
-    -- before each line the mark of the seat holds back no epoch before the one that the pass saw
-    pub marked : AllByRecursion (λ (line : LineRan). IsMarkedUpTo line.before.epoch line.before) ran
     pub lines_are : AllByRecursion (IsLineOf v.layout.decls) (logged_of ran)
-    pub takes : LogTakes tells clock image_at v.epoch high (logged_of ran) old new before now
+    pub steps : steps_behind v.steps ran ≤ w.steps
+    pub looked : AreLooked v.steps ran
+    pub shows : LogShows tells clock image_at v.epoch high (logged_of ran)
+        (record { mark = old.mark; since = clock before } ∷ more) old new before now
+    pub words : w.seat.marks ≡ v.seat.marks ++ map core_of more
+    pub shown : IsTied old.mark v.seat.marks
+        → IsMark old.mark → RanShown high ran (record { mark = old.mark; since = clock before } ∷ more) v w new
     pub mark : KeepsMarkIn v.epoch high old new
     pub blames : Blames faults before now new.journal
     pub reaches : Reaches tells now new.journal
@@ -131,10 +193,11 @@ module _ {D : Type 0} (tells : D → Option (List ℕ)) (clock : D → ℕ) (ima
 
   -- ---- what refused a line
 
-  -- A worker's log refused a line. It had what the lines before it changed, of the limit that it had, and was up; then a
-  -- call made its log file fail, or found that with one line more the file might get longer than it may.
+  -- A worker's log refused a line. It had what the lines before it changed, of the limit that it had, and was up; then
+  -- a call made its log file fail, or found that with one line more the file might get longer than it may.
   pub record RefusesLine (low : ℕ) (logged : List Commit) (old : LogState) (before : D) : Type 0 where
     pub high : ℕ
+    pub later : low ≤ high
     pub found : LogState
     pub at : D
     pub takes : LogTakes tells clock image_at low high logged old found before at
@@ -194,10 +257,11 @@ module _ {D : Type 0} (tells : D → Option (List ℕ)) (clock : D → ℕ) (ima
   pub record RunsLines (tries high : ℕ) (lines : List (List Op)) (outcomes : List Outcome) (full : Option ℕ)
       (v w : View) (old new : LogState) (before now : D) : Type 0 where
     pub ran : List LineRan
+    pub more : List Stood
     pub left : List (List Op)
     pub whole : lines ≡ lines_of ran ++ left
     pub told : outcomes ≡ outcomes_of ran ++ unrun left
-    pub did : RanOver tries high ran v w old new before now
+    pub did : RanOver tries high ran more v w old new before now
     pub full_is : (size : ℕ) → full ≡ Some size → IsFull size new.journal
     pub all : full ≡ None → new.journal.down ≡ None → left ≡ []
     pub refuses : (left ≡ [] → ⊥) → RefusesLine v.epoch (logged_of ran) old before
@@ -205,10 +269,9 @@ module _ {D : Type 0} (tells : D → Option (List ℕ)) (clock : D → ℕ) (ima
     pub none : lines ≡ [] → (new ≡ old) × (now ≡ before) × (w ≡ v)
 
   -- All lines of the worker were run, or left out. What waits was flushed then, and marked by the epoch that the pass
-  -- saw last, on the words too, if it had lines.
+  -- saw last, if it had lines.
   pub record RunsCell (tries : ℕ) (lines : List (List Op)) (outcomes : List Outcome) (end : LogEnd) (v w : View)
       (old new : LogState) (before now : D) : Type 0 where
     pub lines_run : RunsLines tries w.epoch lines outcomes end.full v w old new before now
     pub failed : end.failed ≡ is_some new.journal.down
     pub flushed : new.journal.down ≡ None → new.journal.lines ≡ []
-    pub tied : (lines ≡ [] → ⊥) → new.journal.down ≡ None → IsTied new.mark w.seat.marks

@@ -1,6 +1,6 @@
 -- What comes of a worker's lines on words that threads share, one after another.
-use Rattle.std.specs.Prelude.{◌≡◌, ◌+◌, ◌≤◌, ◌++◌, ℕ, List, [], ◌∷◌, cond, filter_map, flat_map, map, sum_by, Option}
-use Rattle.std.specs.Prelude.{Some, None, ⊤}
+use Rattle.std.specs.Prelude.{◌≡◌, ◌+◌, ◌-◌, ◌≤◌, ◌++◌, ℕ, List, [], ◌∷◌, cond, filter_map, flat_map, length, map}
+use Rattle.std.specs.Prelude.{sum_by, Option, Some, None, ⊤}
 use Rattle.serial_model.specs.declared.number.Change.{Change}
 use Rattle.serial_model.specs.declared.number.Commit.{Commit}
 use Rattle.serial_model.specs.declared.op.Op.{Op}
@@ -8,6 +8,7 @@ use Rattle.engine_pages.specs.declared.view.View.{View}
 use Rattle.engine_seats.specs.Cuts.{HasSeen}
 use Rattle.tx_runner.specs.LineEnds.{HasCommittedLine}
 use Rattle.tx_runner.specs.Tries.{HasConflicted, IsAtLimit, IsFullAt, Lost, ToClock, ToSlots, lost_to}
+use Rattle.tx_script.specs.Readied.{Readied}
 use Rattle.tx_script.specs.Run.{is_commit}
 use Rattle.tx_script.specs.declared.outcome.Outcome.{Outcome}
 use Rattle.tx_script.specs.declared.outcome.Outcome.TheVariants.{Committed, Conflict, Full, Wide, Limit, Unrun}
@@ -89,6 +90,14 @@ refused_of ran = flat_map (λ (line : LineRan). line.refused) ran
 -- what their log gets
 abbrev pub logged_of : List LineRan → List Commit
 logged_of ran = filter_map (λ (line : LineRan). line.logged) ran
+
+-- what the worker had as each of them began: the clock's epoch that it had loaded, and the place of its mark among
+-- those of the round, the first one being the last that its seat had in this view
+abbrev pub readied_of : View → List LineRan → List Readied
+readied_of v ran = map (λ (line : LineRan). record {
+  epoch = line.before.epoch;
+  place = length line.before.seat.marks - length v.seat.marks;
+}) ran
 
 -- how many numbers were drawn for a line: one for its commit, and those of its tries that were refused behind a draw
 abbrev pub drawn_in : LineRan → ℕ

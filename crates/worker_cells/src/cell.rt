@@ -4,7 +4,6 @@ use crate::gate_calls::GateCalls;
 use engine_pages::Pass;
 use tx_runner::{LineRoom, Txn};
 use tx_script::OutcomeRoom;
-use wire_form::Mark;
 use worker_logs::WorkerLog;
 
 /// What refused a worker's log in a round, and what the gate was told of its lines.
@@ -44,8 +43,6 @@ pub struct Cell<D> {
     /// Lent for the round.
     pub desk: Box<Desk>,
     pub log: WorkerLog,
-    /// What the thread knows to stand on the words for its seat: nothing as its lines begin, and then the log's mark.
-    pub shown: Option<Mark>,
     /// The log file that grows.
     pub bank: D,
     /// Room for the outcomes of its lines, which takes no memory as they are run.

@@ -5,6 +5,7 @@ ghost use Rattle.std.specs.List.{AllByRecursion};
 ghost use Rattle.std.specs.Option.{option_copied};
 ghost use Rattle.script_grammar.specs.Script.{lines_of_worker, ops_of_worker};
 ghost use Rattle.wire_form.specs.LogLine.{IsLogLine, IsLoggable};
+ghost use Rattle.wire_form.specs.Words.{IsMark};
 ghost use Rattle.log_writer.specs.Journal.{Reaches, end_of, free};
 ghost use Rattle.worker_logs.specs.Rows.{TakesCommit, full_after};
 ghost use Rattle.engine_pages.specs.declared.view.Role.TheVariants.{Worker};
@@ -12,7 +13,7 @@ ghost use Rattle.engine_pages.specs.Passes.{IsPassOf, view};
 ghost use Rattle.tx_runner.specs.Below.{IsOver};
 ghost use Rattle.tx_runner.specs.Lines.{HasNoTree, IsOnArray};
 ghost use Rattle.tx_script.specs.Run.{CanRun};
-ghost use Rattle.worker_cells.specs.Cells.{IsCell, IsMarkedBelow, IsShown, RunsCell, RunsOne, StepsOne, fails};
+ghost use Rattle.worker_cells.specs.Cells.{IsCell, IsMarkedBelow, IsTied, RunsCell, RunsOne, StepsOne, fails};
 ghost use Rattle.worker_cells.specs.Gates.{Before, IsOpen, IsTold, calls_for, calls_in, calls_of, is_run};
 ghost use Rattle.worker_cells.specs.Rows.{logged_by};
 
@@ -29,7 +30,8 @@ use worker_logs::WorkerLog;
 
 /// Runs the lines of the cell's worker, and then makes durable what waits and marks it. From the line on at which its
 /// log is refused it runs none. Each line that is run stands between two calls of the gate, which is told of no other
-/// line. Without lines nothing of the cell changes but that its end is told.
+/// line. Without lines nothing of the cell changes but that its end is told. As the lines begin the log's mark stands
+/// on the words.
 pub fn run_cell<D: Disk, G: LineGate>(
     engine: &Engine,
     cell: &mut Cell<D>,
@@ -39,6 +41,8 @@ pub fn run_cell<D: Disk, G: LineGate>(
 )
     requires of { IsPassOf engine.now cell.old.pass }
     requires cell { IsCell D.tells (view cell.old.pass) cell.old.log cell.old.bank }
+    requires tied { (lines_of_worker round.now cell.old.worker ≡ [] → ⊥)
+        → IsTied cell.old.log.mark (view cell.old.pass).seat.marks × IsMark cell.old.log.mark }
     requires worker { ((view cell.old.pass).role ≡ Worker cell.old.worker) × (cell.old.worker < 8) }
     requires lines { CanRun (view cell.old.pass).layout.decls round.now }
     requires arrays { HasNoTree (view cell.old.pass).layout.decls }
@@ -60,7 +64,6 @@ pub fn run_cell<D: Disk, G: LineGate>(
     let mut index = 0;
     let mut count = 0;
     cell.end = LogEnd::default();
-    cell.shown = None;
     while count < lines {
         if let Some(ops) = ops_of(round, index, cell.worker, &mut line_ops) {
             run_one(engine, cell, ops, tries, count, gate, &mut calls);
@@ -74,7 +77,6 @@ pub fn run_cell<D: Disk, G: LineGate>(
             engine,
             &mut cell.pass,
             cell.worker,
-            &mut cell.shown,
             &mut cell.log,
             &mut cell.bank,
         );
@@ -95,7 +97,7 @@ fn run_one<D: Disk, G: LineGate>(
     requires worker { ((view cell.old.pass).role ≡ Worker cell.old.worker) × (cell.old.worker < 8) }
     requires over { IsOver (view cell.old.pass) }
     requires draws { 1 ≤ (view cell.old.pass).layout.first.draw }
-    requires shown { IsShown cell.old.shown cell.old.log.mark (view cell.old.pass).seat.marks }
+    requires tied { IsTied cell.old.log.mark (view cell.old.pass).seat.marks }
     requires reaches { Reaches D.tells cell.old.bank cell.old.log.journal }
     requires up { cell.old.end.failed ≡ is_some cell.old.log.journal.down }
     requires arrays { AllByRecursion (IsOnArray (view cell.old.pass).layout.decls) ops.now }
@@ -109,7 +111,6 @@ fn run_one<D: Disk, G: LineGate>(
     ensures left { cell.new.outcomes.left ≡ cell.old.outcomes.left - 1 }
     ensures calls { IsTold is_run cell.new.worker (count + 1) (IsOpen cell.new.end) cell.new.outcomes.told
         (calls_in calls.new) }
-    ensures shown { IsShown cell.new.shown cell.new.log.mark (view cell.new.pass).seat.marks }
     ensures steps { StepsOne D.tells D.clock D.image_at D.faults tries ops.now
         cell.old.outcomes.told cell.new.outcomes.told cell.old.end cell.new.end
         (view cell.old.pass) (view cell.new.pass) cell.old.log cell.new.log cell.old.bank cell.new.bank }
@@ -122,7 +123,6 @@ fn run_one<D: Disk, G: LineGate>(
         engine,
         &mut cell.pass,
         cell.worker,
-        &mut cell.shown,
         &mut cell.log,
         &mut cell.bank,
     ) {
@@ -188,7 +188,7 @@ fn run_logged<D: Disk>(
         ++ Before cell.old.worker (length cell.old.outcomes.told) ∷ [] }
     ensures of { IsPassOf engine.now cell.new.pass }
     ensures kept { (cell.new.worker ≡ cell.old.worker) × (cell.new.bank ≡ cell.old.bank)
-        × (cell.new.end ≡ cell.old.end) × (cell.new.shown ≡ cell.old.shown) }
+        × (cell.new.end ≡ cell.old.end) }
     ensures left { cell.new.outcomes.left ≡ cell.old.outcomes.left - 1 }
     ensures runs { RunsOne tries ops.now cell.old.outcomes.told cell.new.outcomes.told
         (view cell.old.pass) (view cell.new.pass) cell.old.log cell.new.log }

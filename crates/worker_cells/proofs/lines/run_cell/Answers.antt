@@ -9,7 +9,7 @@ use Rattle.tx_runner.specs.Lines.{IsOnArray}
 use Rattle.worker_cells.specs.GateLaws.{told_none}
 use Rattle.worker_cells.specs.Gates.{IsOpen, calls_for, calls_in, is_run}
 use Rattle.worker_cells.proofs.CellLoop.{so_begin, so_layout, so_marked, so_noted, so_other, so_role, so_room}
-use Rattle.worker_cells.proofs.CellLoop.{so_step, so_within}
+use Rattle.worker_cells.proofs.CellLoop.{so_step, so_tied, so_within}
 use Rattle.worker_cells.proofs.LinesOf.{HasOps, on_arrays, runnable_at}
 use Rattle.worker_cells.proofs.lines.run_cell.Goals as goal
 use Rattle.worker_cells.proofs.lines.run_cell.Goals.{in-Some, in_default}
@@ -17,8 +17,8 @@ use Rattle.worker_cells.proofs.lines.run_cell.Goals.{in-Some, in_default}
 pub loop-count-init : goal.loop-count-init
 loop-count-init g c = (
   so_begin c.args.tries c.args.cell.now.worker c.args.round.now.lines c.args.cell.now.outcomes.told
-      c.default-cell.result None c.requires.cell c.requires.told c.default-cell.ensures.1.0
-      (c.default-cell.ensures.0 ∙ sym (ap is_some c.requires.cell.up.up)) tt,
+      c.default-cell.result c.requires.cell c.requires.told c.default-cell.ensures.1.0
+      (c.default-cell.ensures.0 ∙ sym (ap is_some c.requires.cell.up.up)),
   c.requires.of,
   refl,
   omega arith,
@@ -41,6 +41,11 @@ run_one-requires-clause-worker g c =
       so_role so.0 ∙ c.requires.worker.0 ∙ ap Worker (sym so.2),
       subst (λ n. n < 8) (sym so.2) c.requires.worker.1,
     )
+
+pub run_one-requires-clause-tied : goal.run_one-requires-clause-tied
+run_one-requires-clause-tied g c =
+    let tied = c.requires.tied (λ none. omega (arith, c.loop-count-test.true, c.requires.count, ap length none)) in
+    so_tied c.loop-count.invariant.0 tied.0 tied.1
 
 pub run_one-requires-clause-arrays : goal.run_one-requires-clause-arrays
 run_one-requires-clause-arrays g c =
@@ -72,7 +77,7 @@ loop-count-preserved g c =
           subst (λ n. HasOps n c.args.round.now.lines c.loop-count.index (Some w.in-Some.ops.now)) so.2
           w.in-Some.ensures in
           rw (w.cell-is, w.count-is, w.calls-is) (
-            so_step w.in-Some.ops.now has so.0 w.run_one.ensures.steps w.run_one.ensures.shown,
+            so_step w.in-Some.ops.now has so.0 w.run_one.ensures.steps,
             w.run_one.ensures.of,
             w.run_one.ensures.worker ∙ so.2,
             omega (
@@ -109,7 +114,6 @@ returns-then-count-gt0-clause-runs g c =
     so_marked c.flush_last-cell.result all (omega (arith, c.if-count-gt0.true))
     (so_noted c.loop-count.calls c.loop-count.invariant.0)
     c.flush_last-cell.ensures.readies c.flush_last-cell.ensures.failed c.flush_last-cell.ensures.flushed
-    c.flush_last-cell.ensures.tied
 
 pub returns-then-count-gt0-clause-calls : goal.returns-then-count-gt0-clause-calls
 returns-then-count-gt0-clause-calls g c =

@@ -8,7 +8,7 @@ use Rattle.worker_cells.proofs.lines.run_cell.Given as goal
 abbrev pub invariant-loop-count : goal.invariant-loop-count
 invariant-loop-count g l =
     SoFar g.D.Disk.tells g.D.Disk.clock g.D.Disk.image_at g.D.Disk.faults l.tries l.fn.cell.worker l.index l.round.lines
-    l.cell.outcomes.told l.cell.end l.cell.shown l.count (view l.fn.cell.pass) (view l.cell.pass) l.fn.cell.log
+    l.cell.outcomes.told l.cell.end l.count (view l.fn.cell.pass) (view l.cell.pass) l.fn.cell.log
     l.cell.log l.fn.cell.bank l.cell.bank
     × IsPassOf l.engine l.cell.pass × (l.cell.worker ≡ l.fn.cell.worker)
     × (l.count + l.cell.outcomes.left ≡ l.fn.cell.outcomes.left)

@@ -1,5 +1,5 @@
 -- Cells in the other order: from what is lent to threads to the workers one by one.
-use Rattle.std.proofs.Common.{◌≡◌, ◌∙◌, sym, ap, subst, refl, ℕ, suc, ◌+◌, ◌<◌, List, [], ◌∷◌, ◌++◌, length}
+use Rattle.std.proofs.Common.{◌≡◌, ◌∙◌, sym, ap, subst, refl, ℕ, suc, ◌+◌, ◌-◌, ◌<◌, List, [], ◌∷◌, ◌++◌, length}
 use Rattle.std.proofs.Common.{arith}
 use Rattle.std.proofs.Common.{Option}
 use Rattle.std.specs.Prelude.{◌≤◌, ⊤, slice_index_or}
@@ -8,15 +8,16 @@ use Rattle.script_grammar.specs.Script.{Round, lines_of_worker}
 use Rattle.engine_seats.specs.Cuts.{worker_view}
 use Rattle.engine_pages.specs.Passes.{view}
 use Rattle.engine_pages.specs.declared.engine.Engine.{Engine}
-use Rattle.engine_pages.specs.declared.layout.Layout.{Layout}
 use Rattle.engine_pages.specs.declared.view.Role.TheVariants.{Worker}
 use Rattle.engine_pages.specs.declared.view.View.{View}
+use Rattle.wire_form.specs.Words.{IsMark}
 use Rattle.worker_cells.specs.Below.{HasNoTree}
 use Rattle.tx_script.specs.Run.{CanRun}
-use Rattle.worker_cells.specs.Cells.{RunsCell}
+use Rattle.worker_cells.specs.Cells.{IsTied, RunsCell}
 use Rattle.worker_cells.specs.Gates.{calls_for, calls_in, is_run}
 use Rattle.worker_cells.specs.declared.cell.Cell.{Cell}
 use Rattle.worker_logs.specs.Logs.{LogState}
+use Rattle.shared_rounds.specs.Parts.{marks_parked}
 use Rattle.shared_rounds.specs.Rooms.{AreCounts}
 use Rattle.shared_rounds.specs.Seated.{AreRan, AreSeated, HasRun, IsBegun, IsRan, IsReady, IsSeated, MayEnd, backward}
 
@@ -32,6 +33,14 @@ all_push P (y ∷ xs) x all = let rest = all_push P xs x all.1 in ((all.0, rest.
 pub all_backward : {X : Type 0} (P : X → Type 0) (xs : List X) → AllByRecursion P (backward xs) → AllByRecursion P xs
 all_backward P [] all = tt
 all_backward P (x ∷ xs) all = let rest = all_push P (backward xs) x all in (rest.1, all_backward P xs rest.0)
+
+-- ---- how workers begin
+
+-- the workers from this one on begin so, on passes that were seated by the keeper of the second view
+abbrev pub AreBegun : Round → View → View → ℕ → List LogState → Type 0
+AreBegun round was mid worker [] = ⊤
+AreBegun round was mid worker (log ∷ logs) =
+    IsBegun round was worker (worker_view worker mid) log × AreBegun round was mid (worker + 1) logs
 
 -- ---- what was and what is, one for one
 
@@ -69,59 +78,69 @@ module _ {D : Type 0} (tells : D → Option (List ℕ)) (clock : D → ℕ) (ima
     (faults : D → ℕ) where
   -- ---- before the lines
 
-  ready_one : (words : Engine) (was : View) (counts : List ℕ) (worker : ℕ) (round : Round) (cell : Cell D)
-      (log : LogState) (bank : D) → CanRun was.layout.decls round → HasNoTree was.layout.decls
-      → AreCounts round counts → IsSeated tells words was counts worker cell log bank → IsReady tells words round cell
-  ready_one words was counts worker round cell log bank lines arrays counted s = record {
+  ready_one : (words : Engine) (was mid : View) (counts : List ℕ) (worker : ℕ) (round : Round) (cell : Cell D)
+      (log : LogState) (bank : D) → CanRun mid.layout.decls round → HasNoTree mid.layout.decls
+      → AreCounts round counts → IsBegun round was worker (worker_view worker mid) log
+      → IsSeated tells words mid counts worker cell log bank → IsReady tells words round cell
+  ready_one words was mid counts worker round cell log bank lines arrays counted begun s = record {
     of = s.of;
     ready = s.ready;
-    role = s.begun.goes.role ∙ ap Worker (sym s.number);
+    role = ap (λ (v : View). v.role) s.seat ∙ ap Worker (sym s.number);
     small = subst (λ n. n < 8) (sym s.number) s.small;
-    lines = subst (λ (l : Layout). CanRun l.decls round) (sym s.begun.goes.layout) lines;
-    arrays = subst (λ (l : Layout). HasNoTree l.decls) (sym s.begun.goes.layout) arrays;
+    lines = subst (λ (v : View). CanRun v.layout.decls round) (sym s.seat) lines;
+    arrays = subst (λ (v : View). HasNoTree v.layout.decls) (sym s.seat) arrays;
     none = s.none;
     count = s.lines ∙ counted.each worker s.small
         ∙ ap (λ n. length (lines_of_worker round n)) (sym s.number);
     room = let many = counted.each worker s.small in
         subst (λ n. length (lines_of_worker round n) ≤ cell.outcomes.left) (sym s.number)
         (omega (arith, many, s.room));
+    tied = λ some.
+        let named = begun.named (λ none. some (ap (lines_of_worker round) s.number ∙ none)) in
+        subst (λ (l : LogState). IsTied l.mark (view cell.pass).seat.marks × IsMark l.mark) (sym s.log_is)
+        (subst (λ (v : View). IsTied log.mark v.seat.marks × IsMark log.mark) (sym s.seat) (
+          record { earlier = marks_parked was worker; last = begun.marks; epoch = was.epoch - 1; named = named },
+          begun.small,
+        ));
   }
 
-  ready_all : (words : Engine) (was : View) (counts : List ℕ) (worker : ℕ) (round : Round) (cells : List (Cell D))
-      (logs : List LogState) (banks : List D) → CanRun was.layout.decls round → HasNoTree was.layout.decls
-      → AreCounts round counts → AreSeated tells words was counts worker cells logs banks
+  ready_all : (words : Engine) (was mid : View) (counts : List ℕ) (worker : ℕ) (round : Round) (cells : List (Cell D))
+      (logs : List LogState) (banks : List D) → CanRun mid.layout.decls round → HasNoTree mid.layout.decls
+      → AreCounts round counts → AreBegun round was mid worker logs
+      → AreSeated tells words mid counts worker cells logs banks
       → AllByRecursion (IsReady tells words round) cells
-  ready_all words was counts worker round [] logs banks lines arrays counted are = tt
-  ready_all words was counts worker round (cell ∷ cells) [] banks lines arrays counted are = absurd are
-  ready_all words was counts worker round (cell ∷ cells) (log ∷ logs) [] lines arrays counted are = absurd are
-  ready_all words was counts worker round (cell ∷ cells) (log ∷ logs) (bank ∷ banks) lines arrays counted are = (
-    ready_one words was counts worker round cell log bank lines arrays counted are.0,
-    ready_all words was counts (worker + 1) round cells logs banks lines arrays counted are.1,
-  )
+  ready_all words was mid counts worker round [] logs banks lines arrays counted begun are = tt
+  ready_all words was mid counts worker round (cell ∷ cells) [] banks lines arrays counted begun are = absurd are
+  ready_all words was mid counts worker round (cell ∷ cells) (log ∷ logs) [] lines arrays counted begun are = absurd are
+  ready_all words was mid counts worker round (cell ∷ cells) (log ∷ logs) (bank ∷ banks) lines arrays counted begun
+      are = (
+        ready_one words was mid counts worker round cell log bank lines arrays counted begun.0 are.0,
+        ready_all words was mid counts (worker + 1) round cells logs banks lines arrays counted begun.1 are.1,
+      )
 
   -- seated cells may run
-  pub cells_ready : (words : Engine) (was : View) (counts : List ℕ) (round : Round) (cells : List (Cell D))
-      (logs : List LogState) (banks : List D) → CanRun was.layout.decls round → HasNoTree was.layout.decls
-      → AreCounts round counts → AreSeated tells words was counts 0 (backward cells) logs banks
+  pub cells_ready : (words : Engine) (was mid : View) (counts : List ℕ) (round : Round) (cells : List (Cell D))
+      (logs : List LogState) (banks : List D) → CanRun mid.layout.decls round → HasNoTree mid.layout.decls
+      → AreCounts round counts → AreBegun round was mid 0 logs
+      → AreSeated tells words mid counts 0 (backward cells) logs banks
       → AllByRecursion (IsReady tells words round) cells
-  cells_ready words was counts round cells logs banks lines arrays counted are =
+  cells_ready words was mid counts round cells logs banks lines arrays counted begun are =
       all_backward (IsReady tells words round) cells
-      (ready_all words was counts 0 round (backward cells) logs banks lines arrays counted are)
+      (ready_all words was mid counts 0 round (backward cells) logs banks lines arrays counted begun are)
 
   -- ---- behind them
 
-  ran_one : (tries : ℕ) (round : Round) (words : Engine) (was : View) (counts : List ℕ) (worker : ℕ)
-      (old new : Cell D) (log : LogState) (bank : D) → AreCounts round counts
-      → IsSeated tells words was counts worker old log bank
+  ran_one : (tries : ℕ) (round : Round) (words : Engine) (was mid : View) (counts : List ℕ) (worker : ℕ)
+      (old new : Cell D) (log : LogState) (bank : D) → IsBegun round was worker (worker_view worker mid) log
+      → IsSeated tells words mid counts worker old log bank
       → HasRun tells clock image_at faults tries round words old new
       → IsRan tells clock image_at faults tries round words was worker new log bank
-  ran_one tries round words was counts worker old new log bank counted s ran = record {
+  ran_one tries round words was mid counts worker old new log bank begun s ran = record {
     of = ran.of;
     number = ran.number ∙ s.number;
     small = s.small;
     from = view old.pass;
-    begun = subst (λ n. IsBegun n log.mark.length (worker_view worker was) (view old.pass))
-        (counted.each worker s.small) s.begun;
+    begun = subst (λ (v : View). IsBegun round was worker v log) (sym s.seat) begun;
     runs = subst (λ (b : D). RunsCell tells clock image_at faults tries (lines_of_worker round worker)
         new.outcomes.told new.end (view old.pass) (view new.pass) log new.log b new.bank) s.bank_is
         (subst (λ (l : LogState). RunsCell tells clock image_at faults tries (lines_of_worker round worker)
@@ -132,32 +151,32 @@ module _ {D : Type 0} (tells : D → Option (List ℕ)) (clock : D → ℕ) (ima
     calls = subst (λ n. calls_in new.end.calls ≡ calls_for is_run n 0 new.outcomes.told) s.number ran.calls;
   }
 
-  ran_all : (tries : ℕ) (round : Round) (words : Engine) (was : View) (counts : List ℕ) (worker : ℕ)
-      (olds news : List (Cell D)) (logs : List LogState) (banks : List D) → AreCounts round counts
-      → AreSeated tells words was counts worker olds logs banks
+  ran_all : (tries : ℕ) (round : Round) (words : Engine) (was mid : View) (counts : List ℕ) (worker : ℕ)
+      (olds news : List (Cell D)) (logs : List LogState) (banks : List D) → AreBegun round was mid worker logs
+      → AreSeated tells words mid counts worker olds logs banks
       → BothBy (HasRun tells clock image_at faults tries round words) olds news
       → AreRan tells clock image_at faults tries round words was worker news logs banks
-  ran_all tries round words was counts worker [] [] [] [] counted are both = tt
-  ran_all tries round words was counts worker [] [] [] (b ∷ banks) counted are both = absurd are
-  ran_all tries round words was counts worker [] [] (l ∷ logs) banks counted are both = absurd are
-  ran_all tries round words was counts worker [] (n ∷ news) logs banks counted are both = absurd both
-  ran_all tries round words was counts worker (o ∷ olds) [] logs banks counted are both = absurd both
-  ran_all tries round words was counts worker (o ∷ olds) (n ∷ news) [] banks counted are both = absurd are
-  ran_all tries round words was counts worker (o ∷ olds) (n ∷ news) (l ∷ logs) [] counted are both = absurd are
-  ran_all tries round words was counts worker (o ∷ olds) (n ∷ news) (l ∷ logs) (b ∷ banks) counted are both = (
-    ran_one tries round words was counts worker o n l b counted are.0 both.0,
-    ran_all tries round words was counts (worker + 1) olds news logs banks counted are.1 both.1,
+  ran_all tries round words was mid counts worker [] [] [] [] begun are both = tt
+  ran_all tries round words was mid counts worker [] [] [] (b ∷ banks) begun are both = absurd are
+  ran_all tries round words was mid counts worker [] [] (l ∷ logs) banks begun are both = absurd are
+  ran_all tries round words was mid counts worker [] (n ∷ news) logs banks begun are both = absurd both
+  ran_all tries round words was mid counts worker (o ∷ olds) [] logs banks begun are both = absurd both
+  ran_all tries round words was mid counts worker (o ∷ olds) (n ∷ news) [] banks begun are both = absurd are
+  ran_all tries round words was mid counts worker (o ∷ olds) (n ∷ news) (l ∷ logs) [] begun are both = absurd are
+  ran_all tries round words was mid counts worker (o ∷ olds) (n ∷ news) (l ∷ logs) (b ∷ banks) begun are both = (
+    ran_one tries round words was mid counts worker o n l b begun.0 are.0 both.0,
+    ran_all tries round words was mid counts (worker + 1) olds news logs banks begun.1 are.1 both.1,
   )
 
   -- what threads made of seated cells
-  pub cells_ran : (tries : ℕ) (round : Round) (words : Engine) (was : View) (counts : List ℕ)
-      (olds news : List (Cell D)) (logs : List LogState) (banks : List D) → AreCounts round counts
-      → length news ≡ length olds → AreSeated tells words was counts 0 (backward olds) logs banks
+  pub cells_ran : (tries : ℕ) (round : Round) (words : Engine) (was mid : View) (counts : List ℕ)
+      (olds news : List (Cell D)) (logs : List LogState) (banks : List D) → AreBegun round was mid 0 logs
+      → length news ≡ length olds → AreSeated tells words mid counts 0 (backward olds) logs banks
       → ((k : ℕ) (d : Cell D) → k < length olds → HasRun tells clock image_at faults tries round words
       (slice_index_or olds k d) (slice_index_or news k d))
       → AreRan tells clock image_at faults tries round words was 0 (backward news) logs banks
-  cells_ran tries round words was counts olds news logs banks counted same are each =
-      ran_all tries round words was counts 0 (backward olds) (backward news) logs banks counted are
+  cells_ran tries round words was mid counts olds news logs banks begun same are each =
+      ran_all tries round words was mid counts 0 (backward olds) (backward news) logs banks begun are
       (both_backward (HasRun tells clock image_at faults tries round words) olds news
       (both_from (HasRun tells clock image_at faults tries round words) olds news same each))
 

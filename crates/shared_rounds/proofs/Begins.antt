@@ -49,7 +49,8 @@ unused l clock = record {
   resident = l.resident;
 }
 
-pub first_shared : (l : Layout) (clock : Number) (keeper : Pass) → OnlyFilled (opening_view l) (view keeper) → clock ≡ l.first
+pub first_shared : (l : Layout) (clock : Number) (keeper : Pass) → OnlyFilled (opening_view l) (view keeper)
+    → clock ≡ l.first
     → shared_by keeper clock ≡ unused l l.first
 first_shared l clock keeper is same =
     ap (λ (v : View). record {

@@ -43,7 +43,8 @@ refused_last (first ∷ losts) last = ap (λ l. try_refusal first ∷ l) (refuse
 
 -- the last of its tries was lost so
 ends_with : (ops : List Op) (tries : ℕ) (last : Lost) (refused : List Lost) (v w : View)
-    → (so : IsLostAt ops last tries v w) → refused ≡ so.losts ++ last ∷ [] → EndsWith tries (try_refusal last) (map try_refusal refused)
+    → (so : IsLostAt ops last tries v w) → refused ≡ so.losts ++ last ∷ []
+    → EndsWith tries (try_refusal last) (map try_refusal refused)
 ends_with ops tries last refused v w so is =
     subst (λ l. EndsWith tries (try_refusal last) (map try_refusal l)) (sym is) (record {
       before = map try_refusal so.losts;

@@ -53,7 +53,8 @@ clashes_lost ops (ToSet set ∷ losts) each = absurd each.0
 clashes_lost ops (ToClock clock ∷ losts) each = absurd each.0
 
 lost_at : (ops : List Op) (tries : ℕ) (last : Lost) (refused : List Lost) (v w : View)
-    → (so : IsLostAt ops last tries v w) → refused ≡ so.losts ++ last ∷ [] → IsLostOf ops last → AllByRecursion (IsLostOf ops) refused
+    → (so : IsLostAt ops last tries v w) → refused ≡ so.losts ++ last ∷ [] → IsLostOf ops last
+    → AllByRecursion (IsLostOf ops) refused
 lost_at ops tries last refused v w so is of =
     subst (AllByRecursion (IsLostOf ops)) (sym is)
     (all_push (IsLostOf ops) so.losts last (clashes_lost ops so.losts so.each) of)
@@ -104,7 +105,7 @@ part_conflicts : (tries : ℕ) (was ended : View) (worker : ℕ) (p : Part) → 
     → conflicts_in p.to.refused ≡ sum_by conflicts_among (share_of p).tries_refused
 part_conflicts tries was ended worker p part =
     ap conflicts_in (row_refused tries p.from p.ran p.to part.row
-    ∙ ap (λ (v : View). v.refused ++ whys_of (refused_of p.ran)) part.seated)
+    ∙ ap (λ (l : List RefusalCause). l ++ whys_of (refused_of p.ran)) part.seated.refused)
     ∙ sym (row_conflicts tries p.from p.ran p.left p.to part.row)
 
 push_conflicts : (parts : List Part) (p : Part)

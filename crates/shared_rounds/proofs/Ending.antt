@@ -76,7 +76,7 @@ mines_push (q ∷ parts) p = ap (λ (l : List (List Attempt)). q.to.mine ∷ l) 
 -- ---- pages
 
 -- where more are known now, they are longer
-longer_then : (was mid own now : List (List ℕ)) → (mid ≡ was) ⊎ (length was < length mid) → now ≡ longer mid own
+pub longer_then : (was mid own now : List (List ℕ)) → (mid ≡ was) ⊎ (length was < length mid) → now ≡ longer mid own
     → (now ≡ was) ⊎ (length was < length now)
 longer_then was mid own now so is = by_test (ltb (length mid) (length own)) refl so is
   where
@@ -95,7 +95,7 @@ longer_then was mid own now so is = by_test (ltb (length mid) (length own)) refl
 
 -- ---- seats and parts by their places
 
-set_here : (seats : List Seat) (i : ℕ) (seat : Seat) → i < length seats
+pub set_here : (seats : List Seat) (i : ℕ) (seat : Seat) → i < length seats
     → get_or (slice_set seats i seat) i bare_seat ≡ seat
 set_here [] i seat less = absurd (omega (arith, less))
 set_here (x ∷ seats) zero seat less = refl
@@ -154,35 +154,28 @@ told_push round worker next (q ∷ parts) (x ∷ outcomes) (y ∷ ends)
 
 module _ {D : Type 0} (tells : D → Option (List ℕ)) (clock : D → ℕ) (image_at : D → ℕ → List ℕ → Type 0)
     (faults : D → ℕ) where
-  left_push : (round : Round) (epoch worker next : ℕ) (parts : List Part) (logs_was logs : List LogState)
-      (banks_was banks : List D) (p : Part) (old new : LogState) (before now : D) → next ≡ worker + length parts
-      → AreLeft tells clock image_at faults round epoch worker parts logs_was logs banks_was banks
-      → LeavesLog tells clock image_at faults epoch p old new before now
-      → AreLeft tells clock image_at faults round epoch worker (parts ++ p ∷ []) (logs_was ++ old ∷ [])
-      (logs ++ new ∷ [])
+  left_push : (low high : ℕ) (parts : List Part) (logs_was logs : List LogState) (banks_was banks : List D) (p : Part)
+      (old new : LogState) (before now : D)
+      → AreLeft tells clock image_at faults low high parts logs_was logs banks_was banks
+      → LeavesLog tells clock image_at faults low high p old new before now
+      → AreLeft tells clock image_at faults low high (parts ++ p ∷ []) (logs_was ++ old ∷ []) (logs ++ new ∷ [])
       (banks_was ++ before ∷ []) (banks ++ now ∷ [])
-  left_push round epoch worker next [] [] [] [] [] p old new before now is are one =
-      (one, tt)
-  left_push round epoch worker next (q ∷ parts) (a ∷ lw) (b ∷ ls) (c ∷ bw)
-      (d ∷ bs) p old new before now is are one = (
-        are.0,
-        left_push round epoch (worker + 1) next parts lw ls bw bs p old new before now (omega (arith, is)) are.1 one,
-      )
-  left_push round epoch worker next [] [] [] [] (d ∷ bs) p old new before now is are one = absurd are
-  left_push round epoch worker next [] [] [] (c ∷ bw) bs p old new before now is are one = absurd are
-  left_push round epoch worker next [] [] (b ∷ ls) bw bs p old new before now is are one = absurd are
-  left_push round epoch worker next [] (a ∷ lw) ls bw bs p old new before now is are one = absurd are
-  left_push round epoch worker next (q ∷ parts) [] ls bw bs p old new before now is are one = absurd are
-  left_push round epoch worker next (q ∷ parts) (a ∷ lw) [] bw bs p old new before now is are one = absurd are
-  left_push round epoch worker next (q ∷ parts) (a ∷ lw) (b ∷ ls) [] bs p old new before now is are one = absurd
-      are
-  left_push round epoch worker next (q ∷ parts) (a ∷ lw) (b ∷ ls) (c ∷ bw) [] p old new before now is are one =
-      absurd are
+  left_push low high [] [] [] [] [] p old new before now are one = (one, tt)
+  left_push low high (q ∷ parts) (a ∷ lw) (b ∷ ls) (c ∷ bw) (d ∷ bs) p old new before now are one =
+      (are.0, left_push low high parts lw ls bw bs p old new before now are.1 one)
+  left_push low high [] [] [] [] (d ∷ bs) p old new before now are one = absurd are
+  left_push low high [] [] [] (c ∷ bw) bs p old new before now are one = absurd are
+  left_push low high [] [] (b ∷ ls) bw bs p old new before now are one = absurd are
+  left_push low high [] (a ∷ lw) ls bw bs p old new before now are one = absurd are
+  left_push low high (q ∷ parts) [] ls bw bs p old new before now are one = absurd are
+  left_push low high (q ∷ parts) (a ∷ lw) [] bw bs p old new before now are one = absurd are
+  left_push low high (q ∷ parts) (a ∷ lw) (b ∷ ls) [] bs p old new before now are one = absurd are
+  left_push low high (q ∷ parts) (a ∷ lw) (b ∷ ls) (c ∷ bw) [] p old new before now are one = absurd are
 
   -- One more seat was taken in, that of this part.
-  pub ends_one : (tries : ℕ) (round : Round) (was mid now u : View) (n count : ℕ) (logs_was logs : List LogState)
+  pub ends_one : (tries : ℕ) (round : Round) (was behind mid now u : View) (n count : ℕ) (logs_was logs : List LogState)
       (banks_was banks : List D) (outcomes : List (List Outcome)) (ends : List LogEnd)
-      → (so : EndedSoFar tells clock image_at faults tries round was mid count logs_was logs banks_was banks
+      → (so : EndedSoFar tells clock image_at faults tries round was behind mid count logs_was logs banks_was banks
       outcomes ends)
       → count < 8 → u.role ≡ Worker count → IsResting u.seat
       → HasTimed (ended mid u) n now → HasSeen mid now
@@ -191,9 +184,10 @@ module _ {D : Type 0} (tells : D → Option (List ℕ)) (clock : D → ℕ) (ima
       → (told : List (List Outcome)) (left : List LogEnd)
       → AreTold round 0 (so.parts ++ p ∷ []) told left (logs_was ++ old ∷ []) (logs ++ new ∷ [])
       → length told ≡ count + 1 → AreAllTold 0 told left
-      → EndedSoFar tells clock image_at faults tries round was now (count + 1) (logs_was ++ old ∷ []) (logs ++ new ∷ [])
+      → EndedSoFar tells clock image_at faults tries round was behind now (count + 1) (logs_was ++ old ∷ [])
+      (logs ++ new ∷ [])
       (banks_was ++ before ∷ []) (banks ++ bank ∷ []) told left
-  ends_one tries round was mid now u n count logs_was logs banks_was banks outcomes ends so less seat rests
+  ends_one tries round was behind mid now u n count logs_was logs banks_was banks outcomes ends so less seat rests
       timed seen
       p old new before bank is leaves told left then many calls =
       let here : count ≡ 0 + length so.parts = omega (arith, so.many) in
@@ -206,9 +200,11 @@ module _ {D : Type 0} (tells : D → Option (List ℕ)) (clock : D → ℕ) (ima
         role = ap (λ (v : View). v.role) timed.is ∙ so.role;
         seat = ap (λ (v : View). v.seat) timed.is ∙ so.seat;
         layout = ap (λ (v : View). v.layout) timed.is ∙ so.layout;
-        pages = longer_then was.pages mid.pages u.pages now.pages so.pages (ap (λ (v : View). v.pages) timed.is);
+        pages = longer_then behind.pages mid.pages u.pages now.pages so.pages (ap (λ (v : View). v.pages) timed.is);
         fills = ap (λ (v : View). v.fills) timed.is ∙ so.fills;
-        epoch = ap (λ (v : View). v.epoch) timed.is ∙ timed.keepers so.role ∙ so.epoch;
+        low = so.low;
+        epoch = here_epoch;
+        met = ap (λ (v : View). v.met) timed.is ∙ so.met;
         made = ap (λ (v : View). v.made) timed.is ∙ ap (λ w. without w mid.made) who ∙ ap (without count) so.made
             ∙ less_made count less;
         gathers = ap (λ (v : View). v.mine) timed.is ∙ ap (λ (l : List Attempt). gathered l u.mine) so.gathers
@@ -225,7 +221,7 @@ module _ {D : Type 0} (tells : D → Option (List ℕ)) (clock : D → ℕ) (ima
         draws =
             let drew : now.draws ≡ mid.draws + u.draws = ap (λ (v : View). v.draws) timed.is in
             let own : p.to.draws ≡ u.draws = ap (λ (v : View). v.draws) is in
-            let begun : p.from.draws ≡ 0 = ap (λ (v : View). v.draws) leaves.part.seated in
+            let begun : p.from.draws ≡ 0 = leaves.part.seated.draws in
             let row = row_draws tries p.from p.ran p.to leaves.part.row in
             let more : drawn_in_all (so.parts ++ p ∷ []) ≡ drawn_in_all so.parts + draws_of p.ran =
             sum_by_push (λ (q : Part). draws_of q.ran) so.parts p in
@@ -253,14 +249,17 @@ module _ {D : Type 0} (tells : D → Option (List ℕ)) (clock : D → ℕ) (ima
             (rests_set mid.parked (worker_of u.role) u.seat worker rests (so.parked worker small));
         taken = λ worker q there. ap (λ (v : View). get_or v.parked worker bare_seat) timed.is
             ∙ by_place worker q (cases_order worker count) there;
-        left = left_push round was.epoch 0 count so.parts logs_was logs banks_was banks p old new before bank here
-            so.left
-            leaves.log;
+        left = left_push was.epoch behind.epoch so.parts logs_was logs banks_was banks p old new before bank so.left
+            (subst (λ n. LeavesLog tells clock image_at faults was.epoch n p old new before bank) here_epoch
+            leaves.log);
         told = then;
         many_outcomes = many;
         calls = calls;
       }
     where
+      here_epoch : now.epoch ≡ behind.epoch
+      here_epoch = ap (λ (v : View). v.epoch) timed.is ∙ timed.keepers so.role ∙ so.epoch
+
       who : worker_of u.role ≡ count
       who = ap worker_of seat
 
@@ -268,12 +267,12 @@ module _ {D : Type 0} (tells : D → Option (List ℕ)) (clock : D → ℕ) (ima
       place = sym so.many
 
       seat_is : seat_number p.from.role ≡ suc count
-      seat_is = ap (λ (v : View). seat_number v.role) leaves.part.seated
+      seat_is = ap seat_number leaves.part.seated.role
 
       taken_here : (t : Touch) → Contains p.from.touched t ⊎ IsTakenBy (seat_number p.from.role) p.ran t
           → IsTakenBy (suc count) p.ran t
       taken_here t (inl before) = absurd (in_none t
-          (subst (λ (v : View). Contains v.touched t) leaves.part.seated before))
+          (subst (λ (l : List Touch). Contains l t) leaves.part.seated.touched before))
       taken_here t (inr own) = subst (λ n. IsTakenBy n p.ran t) seat_is own
 
       blamed_by : (worker : ℕ) (q : Part) → (worker ≡ count) ⊎ ((worker < count) ⊎ (count < worker))
@@ -285,7 +284,8 @@ module _ {D : Type 0} (tells : D → Option (List ℕ)) (clock : D → ℕ) (ima
           let own : u.blamed ≡ blames_of (suc worker) (refused_of q.ran) =
           ap (λ (v : View). v.blamed) (sym is)
           ∙ row_blamed tries p.from p.ran p.to leaves.part.row
-          ∙ ap (λ (v : View). v.blamed ++ blames_of (seat_number p.from.role) (refused_of p.ran)) leaves.part.seated
+          ∙ ap (λ (l : List Touch). l ++ blames_of (seat_number p.from.role) (refused_of p.ran))
+          leaves.part.seated.blamed
           ∙ ap (λ n. blames_of n (refused_of p.ran)) (seat_is ∙ ap suc (sym same))
           ∙ ap (λ (x : Part). blames_of (suc worker) (refused_of x.ran)) here in
           Contains-append_right mid.blamed u.blamed b (subst (λ (l : List Touch). Contains l b) (sym own) has)

@@ -33,14 +33,14 @@ seats_same decls (e ∷ es) (x ∷ xs) are =
 
 module _ {D : Type 0} (tells : D → Option (List ℕ)) (clock : D → ℕ) (image_at : D → ℕ → List ℕ → Type 0)
     (faults : D → ℕ) where
-  pub gathered_so : (tries : ℕ) (round : Round) (was ended now : View) (logs_was logs : List LogState)
+  pub gathered_so : (tries : ℕ) (round : Round) (was behind ended now : View) (logs_was logs : List LogState)
       (banks_was banks : List D) (ran : WorkersRan)
-      → EndedSoFar tells clock image_at faults tries round was ended 8 logs_was logs banks_was banks ran.outcomes
+      → EndedSoFar tells clock image_at faults tries round was behind ended 8 logs_was logs banks_was banks ran.outcomes
       ran.ends.items
       → IsKept was → (word count : ℕ) → HasAudited ended word count now
       → HasGathered was.layout.decls round ran.outcomes was.mine now.mine
-  gathered_so tries round was ended now logs_was logs banks_was banks ran so kept word count audited =
-      let r = round_is tells clock image_at faults tries round was ended now logs_was logs banks_was banks
+  gathered_so tries round was behind ended now logs_was logs banks_was banks ran so kept word count audited =
+      let r = round_is tells clock image_at faults tries round was behind ended now logs_was logs banks_was banks
       ran.outcomes ran.ends.items so kept word count audited in
       let lines = told_lines round 0 so.parts ran.outcomes ran.ends.items logs_was logs so.told
       ∙ ap (lines_from round 0) so.many in
@@ -48,7 +48,8 @@ module _ {D : Type 0} (tells : D → Option (List ℕ)) (clock : D → ℕ) (ima
       let same : (index : ℕ) → entries_of_workers index 0 ran.outcomes (worker_lines round)
       ≡ entries_in index (shares_of so.parts) =
       λ index. ap (λ o. entries_of_workers index 0 o (worker_lines round)) told
-      ∙ ap (λ l. entries_of_workers index 0 (map (λ (share : Share). share.outcomes) (shares_of so.parts)) l) (sym lines) in
+      ∙ ap (λ l. entries_of_workers index 0 (map (λ (share : Share). share.outcomes) (shares_of so.parts)) l)
+      (sym lines) in
       let pairs : (index : ℕ)
       → ArePairs was.layout.decls (entries_in index (shares_of so.parts)) (joined (mines_of so.parts)) =
       λ index. joined_pairs tries was ended index 0 so.parts so.are in
@@ -62,5 +63,6 @@ module _ {D : Type 0} (tells : D → Option (List ℕ)) (clock : D → ℕ) (ima
             (pairs_attempts was.layout.decls (entries_in index (shares_of so.parts)) (joined (mines_of so.parts))
             (pairs index));
         seats = λ index. ap (map (λ (e : Entry). suc e.worker)) (same index)
-            ∙ seats_same was.layout.decls (entries_in index (shares_of so.parts)) (joined (mines_of so.parts)) (pairs index);
+            ∙ seats_same was.layout.decls (entries_in index (shares_of so.parts)) (joined (mines_of so.parts))
+            (pairs index);
       }

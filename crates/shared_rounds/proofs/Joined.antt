@@ -3,13 +3,11 @@ use Rattle.std.proofs.Common.{◌≡◌, ◌∙◌, sym, ap, subst, refl, ℕ, s
 use Rattle.std.specs.List.{AllByRecursion, Contains}
 use Rattle.std.proofs.lemmas.List.Elements.{Contains-append_cases}
 use Rattle.lists.specs.Elements.{in_head, in_none}
-use Rattle.lists.specs.Fronts.{front_refl}
 use Rattle.serial_model.specs.declared.number.Number.{Number}
 use Rattle.serial_model.specs.declared.op.Op.{Op}
 use Rattle.serial_model.specs.History.{Entry}
 use Rattle.commit_core.specs.declared.attempt.Attempt.{Attempt}
 use Rattle.commit_core.specs.Keys.{IsUpTo, opening_number}
-use Rattle.engine_seats.specs.Cuts.{HasSeen}
 use Rattle.engine_seats.specs.Gathered.{joined, up_from_opening}
 use Rattle.engine_pages.specs.Rule.{IsInOrder}
 use Rattle.engine_pages.specs.Views.{seat_number}
@@ -50,23 +48,22 @@ pub record PartMade (was ended : View) (worker : ℕ) (p : Part) : Type 0 where
 pub part_made : (tries : ℕ) (was ended : View) (worker : ℕ) (p : Part) → IsPart tries was ended worker p
     → PartMade was ended worker p
 part_made tries was ended worker p part =
-    let layout : p.from.layout ≡ was.layout = ap (λ (v : View). v.layout) part.seated in
+    let layout : p.from.layout ≡ was.layout = part.seated.layout in
     let made = made_row was.layout.decls was.epoch worker tries p.from p.ran p.to
-    (ap (λ (l : Layout). l.decls) layout) (ap (λ (v : View). v.role) part.seated) part.since part.row in
+    (ap (λ (l : Layout). l.decls) layout) part.seated.role part.since part.row in
     let mine : p.to.mine ≡ made.attempts =
-    made.mine ∙ ap (λ (v : View). v.mine ++ made.attempts) part.seated in
-    let seen : HasSeen was p.from = subst (λ (v : View). HasSeen was v) (sym part.seated)
-    (record { history = front_refl was.history; decided = front_refl was.decided }) in record {
+    made.mine ∙ ap (λ (l : List Attempt). l ++ made.attempts) part.seated.mine in
+    record {
       pairs = λ index.
           subst (λ (es : List Entry). ArePairs was.layout.decls es p.to.mine)
           (sym (ran_alone index worker 0 p.ran p.left))
           (subst (ArePairs was.layout.decls (entries_of_worker index worker 0 (outcomes_of p.ran) (lines_of p.ran)))
           (sym mine) (made.pairs index 0));
       logged = made.logged_is ∙ ap logged_from (sym mine);
-      each = λ a has. made_wider was.epoch was p.from p.to ended a seen layout part.seen
+      each = λ a has. made_wider was.epoch was p.from p.to ended a part.seated.seen layout part.seen
           (made.each a (subst (λ (l : List Attempt). Contains l a) mine has));
       seats = λ a has. made.seats a (subst (λ (l : List Attempt). Contains l a) mine has)
-          ∙ ap (λ (v : View). seat_number v.role) part.seated;
+          ∙ ap seat_number part.seated.role;
       ascend = subst Ascend (sym mine) made.ascend;
     }
 

@@ -1,5 +1,6 @@
 mod Backward
 mod Begins
+mod Besides
 mod Claimed
 mod Comes
 mod Conflicts
@@ -9,13 +10,14 @@ mod Counts
 mod Declared
 mod Draws
 mod Ending
+mod FirstMarks
 mod Gathering
 mod Halves
 mod Joined
 mod Kept
 mod Left
-mod Looked
 mod LoggedAlong
+mod Looked
 mod Made
 mod Meets
 mod NewPages

@@ -12,14 +12,15 @@ use Rattle.shared_rounds.specs.Ended.{EndedSoFar}
 use Rattle.shared_rounds.proofs.Shared.{parts_later}
 
 module _ {D : Type 0} (tells : D → Option (List ℕ)) (clock : D → ℕ) (image_at : D → ℕ → List ℕ → Type 0)
-    (faults : D → ℕ) (tries : ℕ) (round : Round) (was mid now : View) (logs_was logs : List LogState)
+    (faults : D → ℕ) (tries : ℕ) (round : Round) (was behind mid now : View) (logs_was logs : List LogState)
     (banks_was banks : List D) (outcomes : List (List Outcome)) (ends : List LogEnd) where
   -- the load changes nothing of what the seats left
   pub ended_looked : (count : ℕ) → now ≡ glanced published_at count mid
-      → EndedSoFar tells clock image_at faults tries round was mid 8 logs_was logs banks_was banks outcomes ends
-      → EndedSoFar tells clock image_at faults tries round was now 8 logs_was logs banks_was banks outcomes ends
+      → EndedSoFar tells clock image_at faults tries round was behind mid 8 logs_was logs banks_was banks outcomes ends
+      → EndedSoFar tells clock image_at faults tries round was behind now 8 logs_was logs banks_was banks outcomes ends
   ended_looked count is so =
-      subst (λ (v : View). EndedSoFar tells clock image_at faults tries round was v 8 logs_was logs banks_was banks
+      subst (λ (v : View). EndedSoFar tells clock image_at faults tries round was behind v 8 logs_was logs
+      banks_was banks
       outcomes ends) (sym is) (record {
         parts = so.parts;
         many = so.many;
@@ -31,7 +32,9 @@ module _ {D : Type 0} (tells : D → Option (List ℕ)) (clock : D → ℕ) (ima
         layout = so.layout;
         pages = so.pages;
         fills = so.fills;
+        low = so.low;
         epoch = so.epoch;
+        met = so.met;
         made = so.made;
         gathers = so.gathers;
         conflicts = so.conflicts;

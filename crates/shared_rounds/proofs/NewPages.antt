@@ -54,7 +54,8 @@ all_pages all front known is at = ap (λ n. front ++ drop n all) at ∙ front_re
 pub can_name : (pages : List Page) (contents : Contents) (v : View) (known : ℕ)
     → SnapshotStands (words_of pages) (length pages) contents → length (words_of pages) ≡ length pages
     → decls_of contents ≡ v.layout.decls → IsFront v.pages (words_of pages) → known ≡ length v.pages
-    → CanNameAll (drop known (words_of pages)) (named_places (words_of pages) (newest_in v.layout.decls (words_of pages))) v
+    → CanNameAll (drop known (words_of pages))
+    (named_places (words_of pages) (newest_in v.layout.decls (words_of pages))) v
 can_name pages contents v known stands many same front at =
     let words : List (List ℕ) = words_of pages in
     let here : CatalogueAt words (length words) contents =
@@ -103,7 +104,8 @@ pages_same all v w only front most =
       pages = ps;
       leads = v.leads;
       fills = w.fills;
-    }) (front_same v.pages all all front (front_refl all) (let less = front_length v.pages all front in omega (arith, less, most)))
+    }) (front_same v.pages all all front (front_refl all)
+    (let less = front_length v.pages all front in omega (arith, less, most)))
     ∙ ap (λ (l : List Lead). record v { steps = w.steps; last = w.last; pages = all; leads = l; fills = w.fills })
     (sym (ap (λ (z : View). z.leads) only)))
 

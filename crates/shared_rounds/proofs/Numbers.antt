@@ -1,5 +1,5 @@
 -- The numbers of a round's commits lie between the clocks.
-use Rattle.std.proofs.Common.{◌≡◌, ◌∙◌, sym, ap, subst, refl, ℕ, ◌+◌, ◌/◌, ◌%◌, ◌^◌, ◌≤◌, List, [], ◌∷◌}
+use Rattle.std.proofs.Common.{◌≡◌, sym, ap, subst, refl, ℕ, ◌+◌, ◌/◌, ◌%◌, ◌^◌, ◌≤◌, List, [], ◌∷◌}
 use Rattle.std.proofs.Common.{◌++◌, length, arith}
 use Rattle.std.proofs.Common.{inl, inr, length-append}
 use Rattle.std.specs.List.{Contains}
@@ -44,9 +44,13 @@ epoch_up a number (inl less) = omega arith
 epoch_up a number (inr same) = let epoch = same.0 in omega arith
 
 module _ (tries : ℕ) (was now : View) (parts : List Part) (r : IsRound tries was now parts) where
-  -- the epoch is that of the round's begin
-  pub same_epoch : r.clock / 2 ^ 40 ≡ was.epoch
-  same_epoch = r.audited.1.keepers r.role ∙ r.epoch
+  -- the clock's epoch is that which the keeper knew behind the lines
+  pub ended_epoch : r.clock / 2 ^ 40 ≡ r.ended.epoch
+  ended_epoch = r.audited.1.keepers r.role
+
+  -- none before that of the round's begin
+  pub later_epoch : was.epoch ≤ r.clock / 2 ^ 40
+  later_epoch = omega (arith, r.epoch, ended_epoch)
 
   -- all draws of the round are below the clock
   pub ended_draws : was.layout.first.draw + length r.ended.history ≤ r.clock % 2 ^ 40

@@ -1,10 +1,15 @@
 -- The commits of a round are a serial run, in the order of their numbers.
-use Rattle.std.proofs.Common.{◌≡◌, ◌∙◌, sym, ap, subst, ℕ, ◌+◌, Bool, List, ◌++◌}
-use Rattle.std.proofs.Common.{arith}
-use Rattle.std.specs.List.{AllByRecursion, Contains, filter}
+use Rattle.std.proofs.Common.{◌≡◌, ◌∙◌, sym, ap, subst, ℕ, ◌+◌, ◌<◌, Bool, true, List, ◌∷◌, [], ◌++◌, length}
+use Rattle.std.proofs.Common.{arith, inl, inr, Some}
+use Rattle.std.specs.List.{AllByRecursion, Contains, filter, slice_get}
+use Rattle.std.proofs.lemmas.Bool.{cases_order}
+use Rattle.std.proofs.lemmas.List.Elements.{Contains-append_right}
+use Rattle.std.proofs.lemmas.Option.{same_Some}
 use Rattle.std.proofs.lemmas.List.Sorted.{Contains-permutation, IsPermutation-sym}
-use Rattle.lists.specs.Each.{all_weaker}
+use Rattle.lists.specs.Fronts.{front_then}
 use Rattle.lists.specs.Elements.{filter_only, in_filter, in_filtered}
+use Rattle.serial_model.specs.Numbers.{IsBelow, not_below_itself, not_both_below}
+use Rattle.serial_model.specs.declared.key.Key.{Key}
 use Rattle.serial_model.specs.declared.number.Number.{Number}
 use Rattle.serial_model.specs.Keys.{IsKeyBelow}
 use Rattle.serial_model.specs.State.{State}
@@ -16,6 +21,7 @@ use Rattle.serial_bridge.specs.Bridge.{Agrees, after_attempts}
 use Rattle.serial_bridge.specs.Transaction.{AreAttemptsOf}
 use Rattle.serial_bridge.specs.WriteLaws.{each_in, runs_behind, writes_behind}
 use Rattle.serial_bridge.specs.WriteSets.{keys_of}
+use Rattle.engine_seats.specs.Between.{counts}
 use Rattle.engine_seats.specs.Gathered.{joined}
 use Rattle.engine_pages.specs.declared.view.View.{View}
 use Rattle.tx_script.specs.Run.{IsBetween, of_worker}
@@ -25,19 +31,19 @@ use Rattle.shared_rounds.specs.Parts.{IsClockOf, IsRound, Part, clock_number}
 use Rattle.shared_rounds.specs.Shares.{AreOrdered, entries_in}
 use Rattle.shared_rounds.specs.Standing.{Standing}
 use Rattle.shared_rounds.proofs.Contents.{run_leaves}
-use Rattle.shared_rounds.proofs.Counted.{serial_now, split}
+use Rattle.shared_rounds.proofs.Counted.{counts_now, ended_seen, serial, serial_now, split}
 use Rattle.shared_rounds.proofs.Joined.{joined_made, joined_pairs, mines_of, shares_of}
 use Rattle.shared_rounds.proofs.LoggedAlong.{AllRise, logged_along}
 use Rattle.shared_rounds.proofs.Made.{Ascend, IsMade, logged_from}
-use Rattle.shared_rounds.proofs.Numbers.{made_between, same_epoch}
+use Rattle.shared_rounds.proofs.Numbers.{made_between}
 use Rattle.shared_rounds.proofs.Orders.{ascend_filter, ascend_same, draws_rise, is_on, logged_on, pairs_each, pairs_on}
-use Rattle.shared_rounds.proofs.Orders.{pairs_rise, rise_pairs}
+use Rattle.shared_rounds.proofs.Orders.{at_end_of, pairs_rise, placed_below, rise_pairs}
 use Rattle.shared_rounds.proofs.Pairs.{ArePairs, pairs_attempts, pairs_permuted}
 use Rattle.shared_rounds.proofs.Seats.{mine_ascends, mine_at, mine_logged, mine_on}
 
--- where the engine stands, with the layout's storages
-abbrev pub standing_at : View → State → Number → List Attempt → ℕ → Bool → Standing
-standing_at v state clock mine conflicts done = record {
+-- where the engine stands, with the layout's storages and these pages
+abbrev pub standing_at : View → State → Number → List Attempt → ℕ → List (List ℕ) → Bool → Standing
+standing_at v state clock mine conflicts pages done = record {
   decls = v.layout.decls;
   state = state;
   opening = v.layout.opening;
@@ -45,7 +51,7 @@ standing_at v state clock mine conflicts done = record {
   mine = mine;
   conflicts = conflicts;
   slots = v.layout.slots;
-  pages = v.pages;
+  pages = pages;
   resident = v.layout.resident;
   ended = done;
 }
@@ -109,13 +115,50 @@ module _ (tries : ℕ) (was now : View) (parts : List Part) (r : IsRound tries w
       (in_new a (in_filter (is_on worker) a (joined (mines_of parts)) there))
       (filter_only (is_on worker) a (joined (mines_of parts)) there))
 
+  -- a new one is among those that count, where the history has it
+  new_placed : (a : Attempt) → Contains (split tries was now parts r).new a
+      → (place : ℕ) × (slice_get now.history place ≡ Some a) × (a.number.draw ≡ was.layout.first.draw + place)
+      × (counts now.decided a ≡ true)
+  new_placed a has =
+      let m = new_made a has in
+      let seen = ended_seen tries was now parts r in
+      let among = subst (λ (l : List Attempt). Contains l a) (sym (counts_now tries was now parts r))
+      (Contains-append_right was.mine (split tries was now parts r).new a has) in (
+        length m.all,
+        at_end_of m.all now.history a (front_then (m.all ++ a ∷ []) r.ended.history now.history m.order seen.history),
+        m.draw,
+        filter_only (counts now.decided) a now.history among,
+      )
+
+  -- the later one of two was drawn later
+  new_draws : (a b : Attempt) → Contains (split tries was now parts r).new a
+      → Contains (split tries was now parts r).new b → IsBelow a.number b.number → a.number.draw < b.number.draw
+  new_draws a b has there below =
+      let one = new_placed a has in
+      let two = new_placed b there in
+      elim (cases_order one.0 two.0) [
+        | inl same ↦
+            let is : a ≡ b = same_Some a b (sym one.1 ∙ ap (slice_get now.history) same ∙ two.1) in
+            absurd (not_below_itself a.number b.number (ap (λ (x : Attempt). x.number) is) below)
+        | inr other ↦ elim other [
+          | inl less ↦ omega (arith, less, one.2, two.2)
+          | inr more ↦ absurd (not_both_below a.number b.number below
+              (placed_below (counts now.decided) (content_at was.layout.opening some_key).number now.history two.0 one.0
+              b a ((serial tries was now parts r).rising some_key) two.1 one.1 more two.3 one.3))
+        ]
+      ]
+    where
+      some_key : Key
+      some_key = record { storage = 0; key = 0 }
+
   pub ordered_so : (index : ℕ) (state : State) (clock : Number) (mine_was mine : List Attempt)
-      (before after : ℕ) (done : Bool)
+      (before after : ℕ) (first_pages last_pages : List (List ℕ)) (done : Bool)
       → Agrees was.layout.decls state (after_attempts (content_at was.layout.opening) was.mine) → IsClockOf clock was
-      → AreOrdered index (standing_at was state clock mine_was before done)
-      (standing_at was (after_commits state (split tries was now parts r).new) (clock_number r.clock) mine after done)
+      → AreOrdered index (standing_at was state clock mine_was before first_pages done)
+      (standing_at was (after_commits state (split tries was now parts r).new)
+      (clock_number r.clock) mine after last_pages done)
       (shares_of parts)
-  ordered_so index state clock mine_was mine before after done agrees at =
+  ordered_so index state clock mine_was mine before after first_pages last_pages done agrees at =
       let decls = was.layout.decls in
       let new = (split tries was now parts r).new in
       let moved = pairs_permuted decls (entries_in index (shares_of parts)) (joined (mines_of parts)) new
@@ -129,15 +172,11 @@ module _ (tries : ℕ) (was now : View) (parts : List Part) (r : IsRound tries w
       let numbers : AllByRecursion (λ (e : Entry). IsBetween clock (clock_number r.clock) e.number) fs =
       pairs_each (IsBetween clock (clock_number r.clock)) decls fs new pairs
       (λ a has. made_between tries was now parts r clock at a (new_in a has)) in
-      let epochs : AllByRecursion (λ (e : Entry). e.number.epoch ≡ was.epoch) fs =
-      all_weaker (λ (e : Entry). IsBetween clock (clock_number r.clock) e.number)
-      (λ (e : Entry). e.number.epoch ≡ was.epoch)
-      (λ e b. let from = b.epoch_from in let to = b.epoch_to in let here = at.epoch in
-      let there = same_epoch tries was now parts r in omega arith) fs numbers in record {
+      record {
         ordered = fs;
         same = moved.1;
         serial = runs.run;
-        draws = draws_rise was.epoch fs epochs runs.run.rising;
+        draws = draws_rise decls fs new pairs ascend new_draws;
         after = run_leaves decls state fs new
             (after_attempts (content_at was.layout.opening) (was.mine ++ new)) runs;
         numbers = numbers;

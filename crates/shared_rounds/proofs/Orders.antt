@@ -1,16 +1,20 @@
 -- Orders of attempts and of their entries.
-use Rattle.std.proofs.Common.{◌≡◌, ◌∙◌, sym, ap, subst, refl, ℕ, suc, ◌<◌, Bool, true, false, cond, List}
+use Rattle.std.proofs.Common.{◌≡◌, ◌∙◌, sym, ap, subst, refl, ℕ, zero, suc, ◌<◌, length, drop, Some, Bool, true}
+use Rattle.std.proofs.Common.{false, cond, List}
 use Rattle.std.proofs.Common.{[], ◌∷◌}
 use Rattle.std.proofs.Common.{◌++◌, inl, inr, ◌⊎◌, arith, None}
 use Rattle.std.specs.Prelude.{◌==◌, option_to_list}
-use Rattle.std.specs.List.{AllByRecursion, Contains, filter}
+use Rattle.std.specs.List.{AllByRecursion, Contains, filter, slice_get}
+use Rattle.std.proofs.lemmas.Bool.{cond-true}
+use Rattle.lists.specs.Fronts.{IsFront, front_rest}
 use Rattle.std.proofs.lemmas.Bool.Decides.{nat_tests}
-use Rattle.lists.specs.Elements.{in_cases, in_filter, in_head, in_none, in_tail}
+use Rattle.lists.specs.Elements.{at_in, in_cases, in_filter, in_filtered, in_head, in_none, in_tail}
 use Rattle.serial_model.specs.declared.decl.Decl.{Decl}
 use Rattle.serial_model.specs.declared.number.Commit.{Commit}
 use Rattle.serial_model.specs.declared.number.Number.{Number}
 use Rattle.serial_model.specs.History.{Entry, InOrder, Precedes, Rises}
-use Rattle.serial_model.specs.Numbers.{IsBelow, not_below_itself, not_both_below}
+use Rattle.serial_model.specs.Numbers.{IsBelow, below_then, not_below_itself, not_both_below}
+use Rattle.commit_core.specs.Serial.{RisesFrom}
 use Rattle.commit_core.specs.declared.attempt.Attempt.{Attempt}
 use Rattle.shared_rounds.proofs.LoggedAlong.{logged_as, logged_by}
 use Rattle.shared_rounds.proofs.Made.{Ascend, logged_from}
@@ -67,23 +71,74 @@ rise_pairs decls (e ∷ es) (x ∷ xs) are rises = (
   rise_pairs decls es xs are.1 rises.1,
 )
 
--- in one epoch numbers rise as their draws do
-draws_before : (epoch : ℕ) (e : Entry) (es : List Entry) → e.number.epoch ≡ epoch
-    → AllByRecursion (λ (f : Entry). f.number.epoch ≡ epoch) es → Precedes (λ e f. IsBelow e.number f.number) e es
+-- and their draws, where those of the attempts do
+draws_from : (decls : List Decl) (n : Number) (e : Entry) (es : List Entry) (xs : List Attempt) → e.number ≡ n
+    → ArePairs decls es xs → ((a : Attempt) → Contains xs a → n.draw < a.number.draw)
     → Precedes (λ e f. e.number.draw < f.number.draw) e es
-draws_before epoch e [] here each before = tt
-draws_before epoch e (f ∷ es) here each before =
-    (by_order before.0, draws_before epoch e es here each.1 before.1)
-  where
-    by_order : IsBelow e.number f.number → e.number.draw < f.number.draw
-    by_order (inl less) = let there : f.number.epoch ≡ epoch = each.0 in absurd (omega arith)
-    by_order (inr same) = same.1
+draws_from decls n e [] xs is are below = tt
+draws_from decls n e (f ∷ es) [] is are below = absurd are
+draws_from decls n e (f ∷ es) (x ∷ xs) is are below = (
+  subst (λ (m : Number). m.draw < f.number.draw) (sym is)
+      (subst (λ (m : Number). n.draw < m.draw) (sym are.0.0.number) (below x (in_head x xs))),
+  draws_from decls n e es xs is are.1 (λ a has. below a (in_tail a x xs has)),
+)
 
-pub draws_rise : (epoch : ℕ) (es : List Entry) → AllByRecursion (λ (e : Entry). e.number.epoch ≡ epoch) es → Rises es
+pub draws_rise : (decls : List Decl) (es : List Entry) (xs : List Attempt) → ArePairs decls es xs → Ascend xs
+    → ((a b : Attempt) → Contains xs a → Contains xs b → IsBelow a.number b.number → a.number.draw < b.number.draw)
     → InOrder (λ e f. e.number.draw < f.number.draw) es
-draws_rise epoch [] each rises = tt
-draws_rise epoch (e ∷ es) each rises =
-    (draws_before epoch e es each.0 each.1 rises.0, draws_rise epoch es each.1 rises.1)
+draws_rise decls [] xs are ascend by = tt
+draws_rise decls (e ∷ es) [] are ascend by = absurd are
+draws_rise decls (e ∷ es) (x ∷ xs) are ascend by = (
+  draws_from decls x.number e es xs are.0.0.number are.1
+      (λ a has. by x a (in_head x xs) (in_tail a x xs has) (ascend.0 a has)),
+  draws_rise decls es xs are.1 ascend.1 (λ a b has there. by a b (in_tail a x xs has) (in_tail b x xs there)),
+)
+
+-- ---- places in the history
+
+-- whatever comes later in a list whose numbers rise is above
+rises_below : (low : Number) (xs : List Attempt) (y : Attempt) → RisesFrom low xs → Contains xs y → IsBelow low y.number
+rises_below low [] y rises has = absurd (in_none y has)
+rises_below low (x ∷ xs) y rises has = elim (in_cases y x xs has) [
+  | inl same ↦ subst (λ (a : Attempt). IsBelow low a.number) same rises.0
+  | inr later ↦ below_then low x.number y.number rises.0 (rises_below x.number xs y rises.1 later)
+]
+
+-- those of a list that pass a test rise: so one at an earlier place is below one at a later place
+pub placed_below : (p : Attempt → Bool) (low : Number) (history : List Attempt) (i j : ℕ) (x y : Attempt)
+    → RisesFrom low (filter p history) → slice_get history i ≡ Some x → slice_get history j ≡ Some y → i < j
+    → p x ≡ true → p y ≡ true → IsBelow x.number y.number
+placed_below p low [] i j x y rises at there less one two = absurd (let no : slice_get [] i ≡ Some x = at in cc)
+placed_below p low (h ∷ history) zero zero x y rises at there less one two = absurd (omega (arith, less))
+placed_below p low (h ∷ history) (suc i) zero x y rises at there less one two = absurd (omega (arith, less))
+placed_below p low (h ∷ history) zero (suc j) x y rises at there less one two =
+    let same : h ≡ x = cc in
+    let kept : p h ≡ true = ap p same ∙ one in
+    let tail : RisesFrom low (h ∷ filter p history) =
+    subst (λ (l : List Attempt). RisesFrom low l)
+    (cond-true (p h) (h ∷ filter p history) (filter p history) kept) rises in
+    subst (λ (a : Attempt). IsBelow a.number y.number) same
+    (rises_below h.number (filter p history) y tail.1 (in_filtered p y history (at_in history j y there) two))
+placed_below p low (h ∷ history) (suc i) (suc j) x y rises at there less one two =
+    by_test (p h) rises (λ bound rest. placed_below p bound history i j x y rest at there (omega (arith, less)) one two)
+  where
+    by_test : (b : Bool) → RisesFrom low (cond b (h ∷ filter p history) (filter p history))
+        → ((bound : Number) → RisesFrom bound (filter p history) → IsBelow x.number y.number)
+        → IsBelow x.number y.number
+    by_test true rest by = by h.number rest.1
+    by_test false rest by = by low rest
+
+-- where a list that begins another one ends
+pub at_end_of : (all history : List Attempt) (a : Attempt) → IsFront (all ++ a ∷ []) history
+    → slice_get history (length all) ≡ Some a
+at_end_of all history a front =
+    ap (λ l. slice_get l (length all)) (sym (front_rest (all ++ a ∷ []) history front))
+    ∙ in_first all a (drop (length (all ++ a ∷ [])) history)
+  where
+    in_first : (xs : List Attempt) (x : Attempt) (ys : List Attempt)
+        → slice_get ((xs ++ x ∷ []) ++ ys) (length xs) ≡ Some x
+    in_first [] x ys = refl
+    in_first (z ∷ xs) x ys = in_first xs x ys
 
 -- ---- attempts whose numbers rise
 

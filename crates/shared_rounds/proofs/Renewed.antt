@@ -31,7 +31,7 @@ use Rattle.shared_rounds.specs.SharedState.{IsKept, opened, state_of}
 use Rattle.shared_rounds.proofs.Contents.{changes_over, commits_append, opened_is}
 use Rattle.shared_rounds.proofs.Counted.{now_counted, now_layout, split}
 use Rattle.shared_rounds.proofs.Claimed.{claimed_still}
-use Rattle.shared_rounds.proofs.Numbers.{epoch_of_word, same_epoch}
+use Rattle.shared_rounds.proofs.Numbers.{epoch_of_word, later_epoch}
 use Rattle.shared_rounds.proofs.Records.{records_stay}
 
 -- ---- contents
@@ -93,7 +93,8 @@ module _ (tries : ℕ) (was now : View) (parts : List Part) (r : IsRound tries w
             (sym (ap (λ (v : View). v.layout) r.audited.2.is)) r.audited.2.serial;
         parked_are = parked_now (λ l. length l ≡ 8) parked_are;
         parked = λ worker less. parked_now (λ l. IsResting (get_or l worker bare_seat)) (parked worker less);
-        rests = subst IsResting (sym (ap (λ (v : View). v.seat) r.audited.2.is ∙ ap (λ (v : View). v.seat) r.audited.1.is
+        rests = subst IsResting
+            (sym (ap (λ (v : View). v.seat) r.audited.2.is ∙ ap (λ (v : View). v.seat) r.audited.1.is
             ∙ own)) kept.rests;
         some_slots = subst (λ (l : Layout). 0 < l.slots) (sym layout) kept.some_slots;
         few = subst (λ (l : Layout). l.resident ≤ 65536) (sym layout) kept.few;
@@ -113,7 +114,7 @@ module _ (tries : ℕ) (was now : View) (parts : List Part) (r : IsRound tries w
       let first = kept.first.some_draw in
       let draws = r.audited.1.draws in
       let layout : r.ended.layout.first.draw ≡ was.layout.first.draw = ap (λ (l : Layout). l.first.draw) r.layout in
-      let same = same_epoch tries was now parts r in
+      let later = later_epoch tries was now parts r in
       let some = number.some_epoch in
       let word = epoch_of_word r.audited.1.number r.clock r.audited.1.found r.audited.1.small in
       let high = r.audited.1.small.epoch in record {

@@ -10,14 +10,13 @@ use Rattle.views.specs.Sums.{one_at, times, total-append}
 use Rattle.engine_seats.specs.Cuts.{seated, worker_view}
 use Rattle.engine_pages.specs.Passes.{IsPassOf, view}
 use Rattle.engine_pages.specs.declared.engine.Engine.{Engine}
-use Rattle.engine_pages.specs.declared.layout.Layout.{Layout}
 use Rattle.engine_pages.specs.declared.view.View.{View}
 use Rattle.tx_script.specs.Room.{RoomState}
 use Rattle.worker_cells.specs.declared.cell.Cell.{Cell}
 use Rattle.worker_logs.specs.Logs.{LogState}
 use Rattle.worker_logs.specs.Rows.{AreLogsUp}
 use Rattle.shared_rounds.specs.Rooms.{AreRooms}
-use Rattle.shared_rounds.specs.Seated.{AreSeated, IsBegun, SeatedSoFar, backward}
+use Rattle.shared_rounds.specs.Seated.{AreSeated, SeatedSoFar, backward}
 use Rattle.shared_rounds.specs.Seating.{CanSeat, seats_from, with_made}
 use Rattle.shared_rounds.proofs.Backward.{backward_push}
 
@@ -98,12 +97,12 @@ module _ {D : Type 0} (tells : D → Option (List ℕ)) where
       → worker < 8 → length rest ≡ worker → length others ≡ worker
       → logs ≡ rest ++ cell.log ∷ [] → banks ≡ others ++ cell.bank ∷ []
       → IsPassOf words cell.pass → cell.worker ≡ worker → cell.lines ≡ get_or counts worker 0
-      → IsBegun (get_or counts worker 0) cell.log.mark.length (worker_view worker was) (view cell.pass)
-      → IsOver (view cell.pass) → cell.outcomes.told ≡ [] → cell.outcomes.left ≡ get_or counts worker 0
+      → view cell.pass ≡ worker_view worker was → IsOver (view cell.pass) → cell.outcomes.told ≡ []
+      → cell.outcomes.left ≡ get_or counts worker 0
       → SeatedSoFar tells words was counts (worker + 1) cells logs_was logs banks_was banks
       → SeatedSoFar tells words was counts worker (cells ++ cell ∷ []) logs_was rest banks_was others
   seats_one words was counts worker cells logs_was logs rest banks_was banks others cell can up flushed less place
-      bank_place log_is bank_is of number lines begun over none room so =
+      bank_place log_is bank_is of number lines seat over none room so =
       let logs_here : logs_was ≡ (rest ++ cell.log ∷ []) ++ so.their_logs =
       so.logs_are ∙ ap (λ (l : List LogState). l ++ so.their_logs) log_is in
       let banks_here : banks_was ≡ (others ++ cell.bank ∷ []) ++ so.their_banks =
@@ -125,12 +124,12 @@ module _ {D : Type 0} (tells : D → Option (List ℕ)) where
                 number = number;
                 small = less;
                 lines = lines;
-                begun = begun;
+                seat = seat;
                 log_is = refl;
                 bank_is = refl;
                 ready = record {
                   over = over;
-                  draws = subst (λ (l : Layout). 1 ≤ l.first.draw) (sym begun.goes.layout) can.draws;
+                  draws = subst (λ (v : View). 1 ≤ v.layout.first.draw) (sym seat) can.draws;
                   up = up worker cell.log cell.bank at bank_at;
                   flushed = all_at_place (λ (log : LogState). log.journal.lines ≡ []) rest cell.log so.their_logs
                       (subst (AllByRecursion (λ (log : LogState). log.journal.lines ≡ [])) logs_here flushed);

@@ -36,17 +36,18 @@ pub record OwnsBehind (v : View) : Type 0 where
 
 module _ {D : Type 0} (tells : D → Option (List ℕ)) (clock : D → ℕ) (image_at : D → ℕ → List ℕ → Type 0)
     (faults : D → ℕ) where
-  -- what the workers from this one on, whose lines were run in this epoch, left of their logs and log files, and of
-  -- their lines
-  abbrev pub AreLeft : Round → ℕ → ℕ → List Part → List LogState → List LogState → List D → List D → Type 0
-  AreLeft round epoch worker [] [] [] [] [] = ⊤
-  AreLeft round epoch worker (p ∷ parts) (old ∷ logs_was) (new ∷ logs) (before ∷ banks_was) (now ∷ banks) =
-      LeavesLog tells clock image_at faults epoch p old new before now
-      × AreLeft round epoch (worker + 1) parts logs_was logs banks_was banks
-  AreLeft round epoch worker _ _ _ _ _ = ⊥
+  -- what the workers from this one on, whose lines were run at epochs from the first of these to the last, left of
+  -- their logs and log files
+  abbrev pub AreLeft : ℕ → ℕ → List Part → List LogState → List LogState → List D → List D → Type 0
+  AreLeft low high [] [] [] [] [] = ⊤
+  AreLeft low high (p ∷ parts) (old ∷ logs_was) (new ∷ logs) (before ∷ banks_was) (now ∷ banks) =
+      LeavesLog tells clock image_at faults low high p old new before now
+      × AreLeft low high parts logs_was logs banks_was banks
+  AreLeft low high _ _ _ _ _ = ⊥
 
-  -- The first workers' seats were taken in again, so many of eight.
-  pub record EndedSoFar (tries : ℕ) (round : Round) (was now : View) (count : ℕ) (logs_was logs : List LogState)
+  -- The first workers' seats were taken in again, so many of eight, by the keeper who had the first of these views as
+  -- the round began, and the second one behind the lines.
+  pub record EndedSoFar (tries : ℕ) (round : Round) (was behind now : View) (count : ℕ) (logs_was logs : List LogState)
       (banks_was banks : List D) (outcomes : List (List Outcome)) (ends : List LogEnd) : Type 0 where
     pub parts : List Part
     pub many : length parts ≡ count
@@ -55,9 +56,11 @@ module _ {D : Type 0} (tells : D → Option (List ℕ)) (clock : D → ℕ) (ima
     pub role : now.role ≡ Keeper
     pub seat : now.seat ≡ was.seat
     pub layout : now.layout ≡ was.layout
-    pub pages : (now.pages ≡ was.pages) ⊎ (length was.pages < length now.pages)
-    pub fills : now.fills ≡ was.fills
-    pub epoch : now.epoch ≡ was.epoch
+    pub pages : (now.pages ≡ behind.pages) ⊎ (length behind.pages < length now.pages)
+    pub fills : now.fills ≡ behind.fills
+    pub low : was.epoch ≤ behind.epoch
+    pub epoch : now.epoch ≡ behind.epoch
+    pub met : now.met ≡ behind.met
     pub made : now.made ≡ seats_from (8 - count) count
     pub gathers : now.mine ≡ gathered_all was.mine (map (λ (p : Part). p.to.mine) parts)
     pub conflicts : conflicts_in now.refused
@@ -69,14 +72,15 @@ module _ {D : Type 0} (tells : D → Option (List ℕ)) (clock : D → ℕ) (ima
     pub parked : (worker : ℕ) → worker < 8 → IsResting (get_or now.parked worker bare_seat)
     pub taken : (worker : ℕ) (p : Part) → slice_get parts worker ≡ Some p
         → get_or now.parked worker bare_seat ≡ p.to.seat
-    pub left : AreLeft round was.epoch 0 parts logs_was logs banks_was banks
+    pub left : AreLeft was.epoch behind.epoch parts logs_was logs banks_was banks
     pub told : AreTold round 0 parts outcomes ends logs_was logs
     pub many_outcomes : length outcomes ≡ count
     pub calls : AreAllTold 0 outcomes ends
 
   -- Some first workers' seats were taken in again, and the cells of the others, the last one first, are as they were.
-  pub record EndsOn (tries : ℕ) (round : Round) (words : Engine) (was now : View) (count : ℕ) (cells : List (Cell D))
-      (logs_was logs : List LogState) (banks_was banks : List D) (outcomes : List (List Outcome))
+  pub record EndsOn (tries : ℕ) (round : Round) (words : Engine) (was behind now : View) (count : ℕ)
+      (cells : List (Cell D)) (logs_was logs : List LogState) (banks_was banks : List D)
+      (outcomes : List (List Outcome))
       (ends : List LogEnd) : Type 0 where
     pub logs_done : List LogState
     pub logs_left : List LogState
@@ -84,5 +88,5 @@ module _ {D : Type 0} (tells : D → Option (List ℕ)) (clock : D → ℕ) (ima
     pub banks_left : List D
     pub logs_are : logs_was ≡ logs_done ++ logs_left
     pub banks_are : banks_was ≡ banks_done ++ banks_left
-    pub so_far : EndedSoFar tries round was now count logs_done logs banks_done banks outcomes ends
+    pub so_far : EndedSoFar tries round was behind now count logs_done logs banks_done banks outcomes ends
     pub ran : AreRan tells clock image_at faults tries round words was count (backward cells) logs_left banks_left

@@ -17,3 +17,7 @@ pub mod Gathers
 pub mod Published
 pub mod Rooms
 pub mod Marks
+pub mod First
+pub mod FirstLaws
+pub mod Beside
+pub mod Together

@@ -1,31 +1,39 @@
 -- What the workers of a round did on their own seats, between two counts of the maintenance thread's pass.
-use Rattle.std.specs.Prelude.{◌≡◌, ◌+◌, ◌/◌, ◌%◌, ◌^◌, ◌++◌, ℕ, List, [], ◌∷◌, length, map, sum_by}
-use Rattle.std.specs.Prelude.{Contains, Option, None, Some, slice_get, suc, ⊤}
+use Rattle.std.specs.Prelude.{◌≡◌, ◌≤◌, ◌+◌, ◌/◌, ◌%◌, ◌^◌, ◌++◌, ℕ, List, [], ◌∷◌, length, map, sum_by}
+use Rattle.std.specs.Prelude.{Contains, Option, None, Some, get_or, slice_get, suc, ⊤}
 use Rattle.std.specs.List.{AllByRecursion}
 use Rattle.serial_model.specs.declared.number.Number.{Number}
 use Rattle.serial_model.specs.declared.op.Op.{Op}
 use Rattle.wire_form.specs.LogFile.{IsLineOf}
+use Rattle.wire_form.specs.Words.{IsMark}
 use Rattle.serial_bridge.specs.WriteSets.{HasNoTree}
-use Rattle.engine_seats.specs.Cuts.{HasSeen, worker_view}
+use Rattle.commit_core.specs.declared.seat.Mark.{Mark}
+use Rattle.engine_seats.specs.Cuts.{HasSeen}
 use Rattle.engine_seats.specs.Gathered.{gathered_all}
 use Rattle.engine_seats.specs.Counts.{HasAudited}
-use Rattle.engine_pages.specs.declared.view.Role.TheVariants.{Keeper}
+use Rattle.engine_pages.specs.declared.view.Role.TheVariants.{Keeper, Worker}
 use Rattle.engine_pages.specs.declared.view.Touch.{Touch}
 use Rattle.engine_pages.specs.declared.view.View.{View}
+use Rattle.engine_pages.specs.Views.{bare_seat}
 use Rattle.worker_cells.specs.Below.{blames_of, Lost, ToClock, ToOther, ToSet, ToSlots}
+use Rattle.worker_cells.specs.Cells.{core_of, epochs_of}
 use Rattle.worker_cells.specs.InARow.{IsTakenBy}
 use Rattle.worker_cells.specs.Rows.{AreInARow, IsSince, LineRan, draws_of, lines_of, logged_of, outcomes_of, refused_of}
-use Rattle.worker_cells.specs.Rows.{unrun}
+use Rattle.worker_cells.specs.Rows.{readied_of, unrun}
+use Rattle.worker_logs.specs.Shown.{Stood}
+use Rattle.tx_script.specs.Readied.{AreReadied}
+use Rattle.tx_script.specs.Seen.{AreMarksInOrder}
 use Rattle.tx_script.specs.Run.{LogRefusal, TryRefusal, InConflict, NoNumber, NoRoom, NoSlot}
 use Rattle.shared_rounds.specs.SharedState.{IsCounted, conflicts_in}
-use Rattle.shared_rounds.specs.Shares.{Share, all_conflicts}
+use Rattle.shared_rounds.specs.Shares.{BeginsAt, Share, all_conflicts}
 
 -- ---- one worker
 
--- A worker's part of a round: the lines that were run, those that were left out as its log was refused so, and what its
--- pass knew as it was seated and behind the lines.
+-- A worker's part of a round: the lines that were run, the marks of its log that the words showed meanwhile, the lines
+-- that were left out as its log was refused so, and what its pass knew as it was seated and behind the lines.
 pub record Part : Type 0 where
   pub ran : List LineRan
+  pub marks : List Stood
   pub left : List (List Op)
   pub refusal : Option LogRefusal
   pub from : View
@@ -54,16 +62,41 @@ share_of p = record {
   tries_refused = tries_of p.ran ++ no_tries p.left;
   refusal = p.refusal;
   logged = logged_of p.ran;
+  marks = p.marks;
+  readied = readied_of p.from p.ran;
 }
 
--- The part of the worker, who was seated by the one view of the keeper's and is taken into the other.
+-- The pass of the worker as its lines begin, by the view that the keeper had as the round began.
+pub record IsSeatedFrom (was : View) (worker : ℕ) (from : View) : Type 0 where
+  pub role : from.role ≡ Worker worker
+  pub epoch : from.epoch ≡ was.epoch
+  pub layout : from.layout ≡ was.layout
+  pub seen : HasSeen was from
+  pub mine : from.mine ≡ []
+  pub draws : from.draws ≡ 0
+  pub refused : from.refused ≡ []
+  pub touched : from.touched ≡ []
+  pub blamed : from.blamed ≡ []
+
+-- the marks that the worker's seat had set as the keeper had this view
+abbrev pub marks_parked : View → ℕ → List Mark
+marks_parked v worker = (get_or v.parked worker bare_seat).marks
+
+-- The part of the worker, who was seated by the keeper that had the one view as the round began, and is taken into the
+-- other.
 pub record IsPart (tries : ℕ) (was ended : View) (worker : ℕ) (p : Part) : Type 0 where
-  pub seated : p.from ≡ worker_view worker was
+  pub seated : IsSeatedFrom was worker p.from
   pub row : AreInARow tries p.from p.ran p.to
   pub since : AllByRecursion (λ (line : LineRan). IsSince was.epoch line.outcome) p.ran
   pub lines_are : AllByRecursion (IsLineOf was.layout.decls) (logged_of p.ran)
   pub all : p.refusal ≡ None → p.left ≡ []
   pub seen : HasSeen p.to ended
+  pub words : p.to.seat.marks ≡ marks_parked was worker ++ map core_of p.marks
+  pub small : AllByRecursion (λ (m : Stood). IsMark m.mark) p.marks
+  pub begins : BeginsAt was.epoch (lines_of p.ran ++ p.left) p.marks
+  pub rise : AreMarksInOrder (epochs_of p.marks)
+  pub readied : AreReadied was.epoch 0 (epochs_of p.marks) (readied_of p.from p.ran)
+      (outcomes_of p.ran ++ unrun p.left)
 
 -- the parts of the workers from this one on
 abbrev pub AreParts : ℕ → View → View → ℕ → List Part → Type 0
@@ -96,8 +129,8 @@ abbrev pub HasBlames : List Part → View → Type 0
 HasBlames parts v = (worker : ℕ) (p : Part) → slice_get parts worker ≡ Some p
     → (b : Touch) → Contains (blames_of (suc worker) (refused_of p.ran)) b → Contains v.blamed b
 
--- Between two counts eight workers were seated, and taken in again with these parts. Numbers were drawn for their lines
--- alone, and locks were taken for them alone.
+-- Between two counts eight workers were seated, and taken in again with these parts; the keeper may have gone on to
+-- later epochs meanwhile. Numbers were drawn for their lines alone, and locks were taken for them alone.
 pub record IsRound (tries : ℕ) (was now : View) (parts : List Part) : Type 0 where
   pub arrays : HasNoTree was.layout.decls
   pub counted : IsCounted was
@@ -107,7 +140,7 @@ pub record IsRound (tries : ℕ) (was now : View) (parts : List Part) : Type 0 w
   pub layout : ended.layout ≡ was.layout
   pub role : ended.role ≡ Keeper
   pub made : ended.made ≡ []
-  pub epoch : ended.epoch ≡ was.epoch
+  pub epoch : was.epoch ≤ ended.epoch
   pub gathers : ended.mine ≡ gathered_all was.mine (map (λ (p : Part). p.to.mine) parts)
   pub seen : HasSeen was ended
   pub conflicts : conflicts_in ended.refused

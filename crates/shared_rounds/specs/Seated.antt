@@ -1,5 +1,5 @@
 -- The cells of a round's workers, as their lines begin and behind them.
-use Rattle.std.specs.Prelude.{◌≡◌, ◌<◌, ◌+◌, ◌++◌, get_or, ℕ, List, [], ◌∷◌, Option, None, ⊤}
+use Rattle.std.specs.Prelude.{◌≡◌, ◌<◌, ◌+◌, ◌-◌, ◌++◌, get_or, ℕ, List, [], ◌∷◌, Option, None, Some, ⊤}
 use Rattle.std.specs.Prelude.{◌≤◌, length}
 use Rattle.script_grammar.specs.Script.{Round, lines_of_worker}
 use Rattle.engine_seats.specs.Cuts.{worker_view}
@@ -7,27 +7,29 @@ use Rattle.engine_pages.specs.Passes.{IsPassOf, view}
 use Rattle.engine_pages.specs.declared.engine.Engine.{Engine}
 use Rattle.engine_pages.specs.declared.view.Role.TheVariants.{Worker}
 use Rattle.engine_pages.specs.declared.view.View.{View}
+use Rattle.wire_form.specs.Words.{IsMark}
 use Rattle.worker_cells.specs.Below.{HasNoTree, IsOver}
 use Rattle.tx_script.specs.Run.{CanRun}
-use Rattle.worker_cells.specs.Cells.{IsCell, RunsCell}
+use Rattle.worker_cells.specs.Cells.{IsCell, IsTied, RunsCell, core_mark}
 use Rattle.worker_cells.specs.Gates.{calls_for, calls_in, is_run}
-use Rattle.worker_cells.specs.Rows.{Goes}
 use Rattle.worker_cells.specs.declared.cell.Cell.{Cell}
 use Rattle.worker_logs.specs.Logs.{LogState}
-use Rattle.shared_rounds.specs.SharedState.{last_mark}
+use Rattle.shared_rounds.specs.Parts.{IsSeatedFrom, marks_parked}
 
 -- the same in the other order
 abbrev pub backward : {X : Type 0} → List X → List X
 backward [] = []
 backward (x ∷ xs) = backward xs ++ x ∷ []
 
--- A pass of a worker of so many lines as these begin: it is as it was seated, and without a line its mark is idle, and
--- has this length.
-pub record IsBegun (lines size : ℕ) (from now : View) : Type 0 where
-  pub goes : Goes from now
-  pub epoch : now.epoch ≡ from.epoch
-  pub stands : (lines ≡ 0 → ⊥) → now ≡ from
-  pub rests : lines ≡ 0 → last_mark now.seat.marks ≡ record { epoch = None; length = size }
+-- A worker's pass as its lines begin, and its log then, by the view that the keeper had as the round began: the log's
+-- mark is the one that its seat has set since. It names the epoch before where the worker has lines, and is idle where
+-- it has none.
+pub record IsBegun (round : Round) (was : View) (worker : ℕ) (from : View) (log : LogState) : Type 0 where
+  pub seated : IsSeatedFrom was worker from
+  pub marks : from.seat.marks ≡ marks_parked was worker ++ core_mark log.mark ∷ []
+  pub named : (lines_of_worker round worker ≡ [] → ⊥) → log.mark.epoch ≡ Some (was.epoch - 1)
+  pub idle : lines_of_worker round worker ≡ [] → log.mark.epoch ≡ None
+  pub small : IsMark log.mark
 
 module _ {D : Type 0} (tells : D → Option (List ℕ)) where
   -- The worker's cell, with this log and log file.
@@ -37,7 +39,7 @@ module _ {D : Type 0} (tells : D → Option (List ℕ)) where
     pub number : cell.worker ≡ worker
     pub small : worker < 8
     pub lines : cell.lines ≡ get_or counts worker 0
-    pub begun : IsBegun (get_or counts worker 0) log.mark.length (worker_view worker was) (view cell.pass)
+    pub seat : view cell.pass ≡ worker_view worker was
     pub log_is : cell.log ≡ log
     pub bank_is : cell.bank ≡ bank
     pub ready : IsCell tells (view cell.pass) cell.log cell.bank
@@ -72,6 +74,8 @@ module _ {D : Type 0} (tells : D → Option (List ℕ)) where
     pub none : cell.outcomes.told ≡ []
     pub count : cell.lines ≡ length (lines_of_worker round cell.worker)
     pub room : length (lines_of_worker round cell.worker) ≤ cell.outcomes.left
+    pub tied : (lines_of_worker round cell.worker ≡ [] → ⊥)
+        → IsTied cell.log.mark (view cell.pass).seat.marks × IsMark cell.log.mark
 
 -- a cell whose seat may end
 pub record MayEnd {D : Type 0} (words : Engine) (cell : Cell D) : Type 0 where
@@ -95,7 +99,7 @@ module _ {D : Type 0} (tells : D → Option (List ℕ)) (clock : D → ℕ) (ima
     pub number : cell.worker ≡ worker
     pub small : worker < 8
     pub from : View
-    pub begun : IsBegun (length (lines_of_worker round worker)) log.mark.length (worker_view worker was) from
+    pub begun : IsBegun round was worker from log
     pub runs : RunsCell tells clock image_at faults tries (lines_of_worker round worker) cell.outcomes.told cell.end
         from (view cell.pass) log cell.log bank cell.bank
     pub calls : calls_in cell.end.calls ≡ calls_for is_run worker 0 cell.outcomes.told

@@ -2,6 +2,7 @@
 use Rattle.std.specs.Prelude.{◌≡◌, ◌<◌, ◌≤◌, ◌+◌, ℕ, zero, suc, List, [], ◌∷◌, ◌++◌, get_or, length}
 use Rattle.serial_model.specs.Decls.{AreDecls}
 use Rattle.engine_pages.specs.Views.{IsResting, bare_seat}
+use Rattle.engine_seats.specs.Cuts.{HasSeen}
 use Rattle.engine_pages.specs.declared.view.Role.TheVariants.{Keeper}
 use Rattle.engine_pages.specs.declared.view.Touch.{Touch}
 use Rattle.engine_pages.specs.declared.view.View.{View}
@@ -33,9 +34,19 @@ pub record CanSeat (v : View) : Type 0 where
   pub draws : 1 ≤ v.layout.first.draw
   pub parked : (worker : ℕ) → worker < 8 → IsResting (get_or v.parked worker bare_seat)
 
--- All eight workers are seated by the keeper whose view was this one.
+-- The keeper has this view, who had the other one as the round began, with all eight workers seated since. It has done
+-- nothing of a worker's own meanwhile; the clock may have come further, and more pages may be published.
 pub record StandsFor (was now : View) : Type 0 where
-  pub is : now ≡ with_made (seats_from 8 0) was
-  pub role : was.role ≡ Keeper
-  pub parked_are : length was.parked ≡ 8
-  pub parked : (worker : ℕ) → worker < 8 → IsResting (get_or was.parked worker bare_seat)
+  pub role : now.role ≡ Keeper
+  pub made : now.made ≡ seats_from 8 0
+  pub layout : now.layout ≡ was.layout
+  pub epoch : was.epoch ≤ now.epoch
+  pub seen : HasSeen was now
+  pub seat : now.seat ≡ was.seat
+  pub mine : now.mine ≡ was.mine
+  pub draws : now.draws ≡ was.draws
+  pub refused : now.refused ≡ was.refused
+  pub touched : now.touched ≡ []
+  pub blamed : now.blamed ≡ []
+  pub parked_are : length now.parked ≡ 8
+  pub parked : (worker : ℕ) → worker < 8 → IsResting (get_or now.parked worker bare_seat)

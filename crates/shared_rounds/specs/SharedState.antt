@@ -115,8 +115,8 @@ pub record IsCounted (v : View) : Type 0 where
 
 -- What the keeper's pass knows between two rounds: nobody is seated, and no seat, its own or a worker's, has a
 -- transaction or a lock; each storage is an array, and only their keys have values; the attempts that count are its
--- own, and serial; each number was drawn by this pass, or by one that was ended into it; and all room for snapshot pages
--- behind those that are published is its own to fill.
+-- own, and serial; each number was drawn by this pass, or by one that was ended into it; and all room for snapshot
+-- pages behind those that are published is its own to fill.
 pub record IsKept (v : View) : Type 0 where
   pub role : v.role ≡ Keeper
   pub made : v.made ≡ []

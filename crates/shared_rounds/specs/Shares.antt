@@ -1,7 +1,8 @@
 -- What the workers' lines of a round come to, whichever engine ran them: what came of each line, and an order in which
 -- the commits are serial. Nothing is said of the order in which the workers ran: their commits may lie among each
 -- other, in any order of their numbers.
-use Rattle.std.specs.Prelude.{◌≡◌, ◌<◌, ◌+◌, ℕ, zero, suc, List, [], ◌∷◌, filter, length, map, sum_by, Option}
+use Rattle.std.specs.Prelude.{◌≡◌, ◌<◌, ◌≤◌, ◌+◌, ◌-◌, ℕ, zero, suc, List, [], ◌∷◌, filter, length, map, sum_by, Option}
+use Rattle.std.specs.Prelude.{None, Some}
 use Rattle.std.specs.List.{AllByRecursion}
 use Rattle.std.specs.List.Sorted.{IsPermutation}
 use Rattle.serial_model.specs.History.{Entry, InOrder, IsSerialRun, Rises, state_after_all}
@@ -14,13 +15,17 @@ use Rattle.tx_script.specs.Causes.{IsTryCause}
 use Rattle.tx_script.specs.Conflicts.{WorkersMet}
 use Rattle.tx_script.specs.Draws.{commit_count, lost_of}
 use Rattle.tx_script.specs.Run.{IsBetween, LogRefusal, TryRefusal, entries_of_workers, of_worker}
+use Rattle.tx_script.specs.Readied.{AreReadied, Readied}
+use Rattle.tx_script.specs.Seen.{AreMarksInOrder}
 use Rattle.tx_script.specs.Tries.{AllCome, is_conflict}
 use Rattle.tx_script.specs.declared.outcome.Outcome.{Outcome}
+use Rattle.worker_logs.specs.Shown.{Stood}
 use Rattle.shared_rounds.specs.Changes.{AreLogged}
 use Rattle.shared_rounds.specs.Standing.{Standing}
 
 -- A worker's share of a round: its lines, what came of each of them, the refusals of the tries of each, what refused
--- its log, if anything did, and what its commits logged. The engine counts the conflicts among the refusals
+-- its log, if anything did, and what its commits logged; the marks of its log that others were shown meanwhile, and
+-- what it had as each line began that was run. The engine counts the conflicts among the refusals
 -- (`RunsShares.conflicts`).
 pub record Share : Type 0 where
   pub lines : List (List Op)
@@ -28,6 +33,12 @@ pub record Share : Type 0 where
   pub tries_refused : List (List TryRefusal)
   pub refusal : Option LogRefusal
   pub logged : List Commit
+  pub marks : List Stood
+  pub readied : List Readied
+
+-- the epochs of marks that were shown
+abbrev pub shown_epochs : List Stood → List (Option ℕ)
+shown_epochs marks = map (λ (m : Stood). m.mark.epoch) marks
 
 -- what the worker of this number logged
 abbrev pub logged_in : List Share → ℕ → List Commit
@@ -35,14 +46,24 @@ logged_in [] n = []
 logged_in (share ∷ shares) zero = share.logged
 logged_in (share ∷ shares) (suc n) = logged_in shares n
 
--- A worker's share: each line has an outcome with its cause, behind a line that was left out none was run, and what
--- was logged are log lines.
-pub record IsShare (decls : List Decl) (first last tries : ℕ) (share : Share) : Type 0 where
+-- The marks of a worker with these lines begin so, in a round that began in this epoch: without a line it has one,
+-- which is idle; else the first one is of the epoch before.
+abbrev pub BeginsAt : ℕ → List (List Op) → List Stood → Type 0
+BeginsAt epoch lines [] = ⊥
+BeginsAt epoch [] (m ∷ more) = (m.mark.epoch ≡ None) × (more ≡ [])
+BeginsAt epoch (ops ∷ lines) (m ∷ more) = m.mark.epoch ≡ Some (epoch - 1)
+
+-- A worker's share, of a round that began in this epoch: each line has an outcome with its cause, behind a line that
+-- was left out none was run, and what was logged are log lines. The epochs of its marks never fall; as each line began
+-- that was run, its mark was at least the clock's epoch that it had loaded for the line, less 1.
+pub record IsShare (decls : List Decl) (epoch first last tries : ℕ) (share : Share) : Type 0 where
   pub one_each : length share.outcomes ≡ length share.lines
   pub come : AllCome first last tries share.refusal share.outcomes share.tries_refused
   pub unrun_last : UnrunLast share.outcomes
   pub lines_are : AllByRecursion (IsLineOf decls) share.logged
   pub none : share.lines ≡ [] → share.logged ≡ []
+  pub rise : AreMarksInOrder (shown_epochs share.marks)
+  pub readied : AreReadied epoch 0 (shown_epochs share.marks) share.readied share.outcomes
 
 -- ---- the commits
 
@@ -73,14 +94,14 @@ abbrev pub all_conflicts : List (List (List TryRefusal)) → ℕ
 all_conflicts refused = sum_by (λ of_worker. sum_by conflicts_among of_worker) refused
 
 -- The lines of eight workers were run from s to t, each with so many tries. Contents, clock, the attempts that count
--- and the count of conflicts change alone; the epoch stays, as long as the maintenance thread's lines don't run beside
--- them. Each number was drawn for a commit of theirs, or for a try of theirs that was refused behind its draw. Each
--- conflict that is told of a line at a record is with a line of another worker; the engine counted each, and no others.
--- Where a try found no slot usable, the words of all slots are told.
+-- and the count of conflicts change alone, and which pages are published; the clock may be in a later epoch then, where
+-- the maintenance thread's lines ran beside them. Each number was drawn for a commit of theirs, or for a try of theirs
+-- that was refused behind its draw. Each conflict that is told of a line at a record is with a line of another worker;
+-- the engine counted each, and no others. Where a try found no slot usable, the words of all slots are told.
 pub record RunsShares (tries : ℕ) (s t : Standing) (shares : List Share) : Type 0 where
   pub workers : length shares ≡ 8
-  pub only : t ≡ record s { state = t.state; clock = t.clock; mine = t.mine; conflicts = t.conflicts }
-  pub epoch : t.clock.epoch ≡ s.clock.epoch
+  pub only : t ≡ record s { state = t.state; clock = t.clock; mine = t.mine; conflicts = t.conflicts; pages = t.pages }
+  pub epoch : s.clock.epoch ≤ t.clock.epoch
   pub draw : t.clock.draw ≡ s.clock.draw + commit_count (map (λ (share : Share). share.outcomes) shares)
       + lost_of (map (λ (share : Share). share.tries_refused) shares)
   pub met : WorkersMet (map (λ (share : Share). share.lines) shares) 0 (map (λ (share : Share). share.lines) shares)
@@ -88,5 +109,5 @@ pub record RunsShares (tries : ℕ) (s t : Standing) (shares : List Share) : Typ
   pub caused : AllByRecursion (λ (share : Share).
       AllByRecursion (AllByRecursion (IsTryCause s.slots)) share.tries_refused) shares
   pub conflicts : t.conflicts ≡ s.conflicts + all_conflicts (map (λ (share : Share). share.tries_refused) shares)
-  pub each : AllByRecursion (IsShare s.decls s.clock.draw t.clock.draw tries) shares
+  pub each : AllByRecursion (IsShare s.decls s.clock.epoch s.clock.draw t.clock.draw tries) shares
   pub ordered : (index : ℕ) → AreOrdered index s t shares

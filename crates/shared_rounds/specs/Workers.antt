@@ -1,7 +1,7 @@
 -- What the workers' lines of a round leave of their logs and log files, whichever engine ran them.
-use Rattle.std.specs.Prelude.{◌≡◌, ◌<◌, ◌+◌, ℕ, Bool, true, false, List, [], ◌∷◌, length, map}
+use Rattle.std.specs.Prelude.{◌≡◌, ◌<◌, ◌≤◌, ◌+◌, ◌-◌, ℕ, Bool, true, false, List, [], ◌∷◌, ◌++◌, length, map, ⊤}
 use Rattle.std.specs.Prelude.{Option, Some, None, is_some, slice_get}
-use Rattle.std.specs.List.{Contains}
+use Rattle.std.specs.List.{AllByRecursion, Contains}
 use Rattle.std.specs.Option.{option_map}
 use Rattle.lists.specs.Fronts.{IsFront}
 use Rattle.serial_model.specs.declared.number.Commit.{Commit}
@@ -14,9 +14,11 @@ use Rattle.tx_script.specs.declared.outcome.Outcome.{Outcome}
 use Rattle.tx_script.specs.declared.outcome.Outcome.TheVariants.{Unrun}
 use Rattle.worker_logs.specs.Logs.{LogState, idle_log}
 use Rattle.worker_logs.specs.Rows.{Blames, KeepsMarkIn, LogTakes}
+use Rattle.worker_logs.specs.Shown.{LogShows, Stood}
+use Rattle.tx_script.specs.Readied.{Readied}
 use Rattle.worker_cells.specs.Cells.{RefusesLine}
 use Rattle.worker_cells.specs.declared.cell.LogEnd.{LogEnd}
-use Rattle.shared_rounds.specs.Shares.{RunsShares, Share}
+use Rattle.shared_rounds.specs.Shares.{BeginsAt, RunsShares, Share}
 use Rattle.shared_rounds.specs.Standing.{Standing}
 
 -- ---- workers without a line
@@ -53,12 +55,26 @@ IsRefusedBy None journal = journal.down ≡ None
 IsRefusedBy (Some LogFailed) journal = is_some journal.down ≡ true
 IsRefusedBy (Some (LogFull size)) journal = (size ≡ end_of journal) × (journal.limit < size + longest_line)
 
+-- a mark is idle, or of an epoch before this one
+abbrev pub IsEpochBefore : ℕ → Option ℕ → Type 0
+IsEpochBefore high None = ⊤
+IsEpochBefore high (Some epoch) = epoch ≤ high - 1
+
+-- the first of the marks, if there are any, was shown at this moment
+abbrev pub IsFirstAt : ℕ → List Stood → Type 0
+IsFirstAt since [] = ⊤
+IsFirstAt since (m ∷ more) = m.since ≡ since
+
 module _ {D : Type 0} (tells : D → Option (List ℕ)) (clock : D → ℕ) (image_at : D → ℕ → List ℕ → Type 0)
     (faults : D → ℕ) where
   -- What a worker's share leaves of its log, at epochs of the clock from the first of these to the last: it took what
-  -- was logged, and no line behind what refused it.
-  pub record LeftBy (low high : ℕ) (logged : List Commit) (refusal : Option LogRefusal) (old new : LogState)
-      (before now : D) : Type 0 where
+  -- was logged, and no line behind what refused it; others were shown these marks of it, the first one from the begin
+  -- on.
+  pub record LeftBy (low high : ℕ) (logged : List Commit) (marks : List Stood) (refusal : Option LogRefusal)
+      (old new : LogState) (before now : D) : Type 0 where
+    pub shows : LogShows tells clock image_at low high logged marks old new before now
+    pub first : IsFirstAt (clock before) marks
+    pub below : AllByRecursion (λ (m : Stood). IsEpochBefore high m.mark.epoch) marks
     pub takes : LogTakes tells clock image_at low high logged old new before now
     pub mark : KeepsMarkIn low high old new
     pub blames : Blames faults before now new.journal
@@ -84,14 +100,24 @@ module _ {D : Type 0} (tells : D → Option (List ℕ)) (clock : D → ℕ) (ima
     pub each : (i : ℕ) (share : Share) (old new : LogState) (before now : D) → slice_get shares i ≡ Some share
         → slice_get logs_was i ≡ Some old → slice_get logs i ≡ Some new
         → slice_get banks_was i ≡ Some before → slice_get banks i ≡ Some now
-        → LeftBy s.clock.epoch t.clock.epoch share.logged share.refusal old new before now
+        → LeftBy s.clock.epoch t.clock.epoch share.logged share.marks share.refusal old new before now
 
   -- All lines of a round were run, or left out: what is told of them, and what was found of each log. The log of a
-  -- worker without a line is as it was; where a log is up none of its lines waits. A line that is told unrun was left
-  -- out behind one that its log refused.
+  -- worker without a line is as it was; where a log is up none of its lines waits. The last mark that was shown of a
+  -- log is its own. A line that is told unrun was left out behind one that its log refused. Of each worker these marks
+  -- were shown, the first one idle or of the epoch before the round's, and this is what it had as each line began that
+  -- was run.
   pub record RunsWorkers (tries : ℕ) (round : Round) (s t : Standing) (outcomes : List (List Outcome))
-      (ends : List LogEnd) (logs_was logs : List LogState) (banks_was banks : List D) : Type 0 where
+      (ends : List LogEnd) (marks : List (List Stood)) (readied : List (List Readied)) (logs_was logs : List LogState)
+      (banks_was banks : List D) : Type 0 where
     pub shares : List Share
+    pub marks_are : map (λ (share : Share). share.marks) shares ≡ marks
+    pub readied_are : map (λ (share : Share). share.readied) shares ≡ readied
+    pub begins : (i : ℕ) (share : Share) → slice_get shares i ≡ Some share
+        → BeginsAt s.clock.epoch share.lines share.marks
+    pub last : (i : ℕ) (share : Share) (log : LogState) → slice_get shares i ≡ Some share
+        → slice_get logs i ≡ Some log
+        → (earlier : List Stood) × (end : Stood) × (share.marks ≡ earlier ++ end ∷ []) × (end.mark ≡ log.mark)
     pub over : RunsOver tries s t shares logs_was logs banks_was banks
     pub lines : map (λ (share : Share). share.lines) shares ≡ worker_lines round
     pub told : outcomes ≡ map (λ (share : Share). share.outcomes) shares
@@ -106,10 +132,14 @@ module _ {D : Type 0} (tells : D → Option (List ℕ)) (clock : D → ℕ) (ima
         → slice_get logs_was i ≡ Some old → slice_get banks_was i ≡ Some before
         → LeavesOut s.clock.epoch (Contains share.outcomes Unrun) share.logged share.refusal old before
 
-  -- Memory was wanted: some first lines of each worker were run.
-  pub record StopsWorkers (tries : ℕ) (round : Round) (s t : Standing) (logs_was logs : List LogState)
-      (banks_was banks : List D) : Type 0 where
+  -- Memory was wanted: some first lines of each worker were run, behind the first of its marks.
+  pub record StopsWorkers (tries : ℕ) (round : Round) (s t : Standing) (marks : List (List Stood))
+      (readied : List (List Readied)) (logs_was logs : List LogState) (banks_was banks : List D) : Type 0 where
     pub shares : List Share
+    pub marks_are : map (λ (share : Share). share.marks) shares ≡ marks
+    pub readied_are : map (λ (share : Share). share.readied) shares ≡ readied
     pub over : RunsOver tries s t shares logs_was logs banks_was banks
+    pub begins : (i : ℕ) (share : Share) → slice_get shares i ≡ Some share
+        → BeginsAt s.clock.epoch (lines_of_worker round i) share.marks
     pub fronts : (i : ℕ) (share : Share) → slice_get shares i ≡ Some share
         → IsFront share.lines (lines_of_worker round i)

@@ -1,17 +1,13 @@
 // The cells of a round's workers: made, lent to threads, and taken apart again.
-ghost use Rattle.std.specs.Prelude.{◌≡◌, ◌<◌, ◌≤◌, ◌^◌, ℕ, [], length, slice_index_or, vec_capacity, vec_len};
+ghost use Rattle.std.specs.Prelude.{◌≡◌, ◌<◌, ◌≤◌, ℕ, [], length, slice_index_or, vec_capacity, vec_len};
 ghost use Rattle.std.specs.List.{AllByRecursion};
 ghost use Rattle.std.specs.Thread.{IsSend, IsSync};
 ghost use Rattle.worker_logs.specs.Logs.{LogState};
 ghost use Rattle.worker_logs.specs.Rows.{AreLogsUp};
-ghost use Rattle.views.specs.Sums.{times};
-ghost use Rattle.engine_seats.specs.Cuts.{seated, worker_view};
 ghost use Rattle.engine_pages.specs.Passes.{IsPassOf, view};
-ghost use Rattle.engine_pages.specs.declared.view.Role.TheVariants.{Keeper};
 ghost use Rattle.shared_rounds.specs.Rooms.{AreRooms};
-ghost use Rattle.shared_rounds.specs.Seated.{AreSeated, HasRun, IsBegun, IsReady, backward};
+ghost use Rattle.shared_rounds.specs.Seated.{AreSeated, HasRun, IsReady, backward};
 ghost use Rattle.shared_rounds.specs.Seating.{CanSeat, seats_from, with_made};
-ghost use Rattle.worker_cells.specs.Below.{IsOver};
 
 use engine_pages::{Engine, Pass};
 use engine_seats::seat;
@@ -19,11 +15,10 @@ use outside::Disk;
 use serial_model::WORKERS;
 use std::thread::{Threads, for_each_mut, join_mut};
 use tx_script::{OutcomeRoom, Round};
-use worker_cells::{Cell, Desk, LineGate, LogEnd, idle, run_cell};
+use worker_cells::{Cell, Desk, LineGate, LogEnd, run_cell};
 use worker_logs::WorkerLog;
 
-/// Seats the workers, the last one first, each with its log, its log file, its room and a desk. Those that have none of
-/// so many lines hold no epoch back from then on.
+/// Seats the workers, the last one first, each with its log, its log file, its room and a desk.
 pub(crate) fn seat_all<D: Disk + Drop>(
     engine: &Engine,
     keeper: &mut Pass,
@@ -68,39 +63,18 @@ pub(crate) fn seat_all<D: Disk + Drop>(
         };
         let index = WORKERS - 1 - count;
         let worker = index as u8;
-        let pass = seat_one(engine, keeper, worker, counts[index], log.mark().length);
+        let pass = seat(engine, keeper, worker);
         cells.push_reserved(Cell {
             worker,
             lines: counts[index],
             pass,
             desk,
             log,
-            shown: None,
             bank,
             outcomes,
             end: LogEnd::default(),
         });
     }
-}
-
-// Seats a worker of so many lines. Without one its mark is idle, at this length.
-fn seat_one(engine: &Engine, keeper: &mut Pass, worker: u8, lines: u32, length: u64) -> Pass
-    requires of { IsPassOf engine.now keeper.old }
-    requires keeper { (view keeper.old).role ≡ Keeper }
-    requires locks { (view keeper.old).seat.locks ≡ [] }
-    requires worker { (worker < 8) × (times worker (view keeper.old).made ≡ 0) }
-    requires over { IsOver (worker_view worker (view keeper.old)) }
-    requires length { length < 2 ^ 40 }
-    ensures of { IsPassOf engine.now keeper.new × IsPassOf engine.now result }
-    ensures keeper { view keeper.new ≡ seated worker (view keeper.old) }
-    ensures begun { IsBegun lines length (worker_view worker (view keeper.old)) (view result) }
-    ensures over { IsOver (view result) }
-{
-    let mut pass = seat(engine, keeper, worker);
-    if lines == 0 {
-        idle(engine, &mut pass, worker, length);
-    }
-    pass
 }
 
 /// Runs the lines of each cell's worker. There are as many threads as cells with lines, of which this thread is one; a

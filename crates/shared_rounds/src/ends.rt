@@ -55,7 +55,8 @@ pub(crate) fn end_all<D: Disk + Drop>(
         → StandsFor was (view keeper.old)
         → AreRan D.tells D.clock D.image_at D.faults tries round engine.now was 0
         (backward cells.items) logs_was banks_was
-        → EndedSoFar D.tells D.clock D.image_at D.faults tries round was (view keeper.new) 8 logs_was logs.new.items
+        → EndedSoFar D.tells D.clock D.image_at D.faults tries round was (view keeper.old) (view keeper.new)
+        8 logs_was logs.new.items
         banks_was growing.new.items result.outcomes result.ends.items }
 {
     let mut ends = ArrayVec::new();
@@ -66,7 +67,6 @@ pub(crate) fn end_all<D: Disk + Drop>(
             pass,
             desk,
             log,
-            shown: _,
             bank,
             outcomes,
             end: log_end,

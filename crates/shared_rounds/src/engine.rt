@@ -10,7 +10,7 @@ ghost use Rattle.engine_pages.specs.Views.{opening_view};
 ghost use Rattle.page_opening.specs.Making.{CanMake};
 ghost use Rattle.resident_pages.specs.Fills.{AreClaimed};
 ghost use Rattle.resident_pages.specs.Publishes.{OnlyFilled};
-ghost use Rattle.shared_rounds.specs.SharedState.{is_array, opened};
+ghost use Rattle.shared_rounds.specs.SharedState.{are_arrays, is_array, opened};
 
 use crate::publishing::publish_new;
 use engine_pages::{Engine, Pass, Start};
@@ -96,6 +96,7 @@ impl SharedEngine {
         ensures value { result ≡ self.now.clock }
         ensures number { IsNumber result }
         ensures some_slots { 0 < self.now.slots }
+        ensures arrays { are_arrays self.now.decls self.now.state ≡ true }
     {
         self.clock
     }

@@ -16,27 +16,42 @@
 //! came to the history, each the attempt of its line's transaction (`HasGathered`). Behind the lines the mark of a
 //! worker without a line is idle, and that of one with lines, whose log is up, is its log's (`AreMarksBehind`). After
 //! it the engine is kept as between two rounds.
+//!
+//! Beside the lines runs what the maintenance thread has to do ([`Beside`]; [`Alone`] does nothing). Before it and the
+//! lines begin each worker's mark is set on the words (`ShowsMarks`): of the epoch before the clock's where the worker
+//! has lines, else idle. The marks that the words show of a worker then are told one after another, each with the
+//! moment of the log file since when every image has what it counts, and their epochs never fall (`Share.marks`); as a
+//! line begins the last one is at least the clock's epoch that its worker had loaded for it, less 1
+//! (`Share.readied`). Each mark that the maintenance thread met stands at its place among these (`BesideRan`); it seats
+//! nobody meanwhile, draws no number and takes no lock (`Went`). Epochs may go on beside the lines: the clock behind
+//! them has the maintenance thread's.
+//!
 //! Terms: *standing*, the storages, their contents and the clock; *share*, a worker's lines with what came of them;
 //! *keeper*, the pass of the maintenance thread; *part*, a share with what the worker's pass knew at its begin and
 //! behind its lines; *room*, memory that was taken before it is wanted.
 //! Layout: specs/SharedState.antt, the engine between two rounds; specs/Contents.antt, what attempts leave of a state;
 //! specs/Rooms.antt, room for a round; specs/Shares.antt, the lines;
-//! specs/Workers.antt, the logs and log files; specs/Marks.antt, the marks on the words; specs/Parts.antt, the workers'
-//! seats, and specs/Left.antt, their logs.
+//! specs/Workers.antt, the logs and log files; specs/First.antt, the marks that are set first, and specs/Marks.antt,
+//! those behind the lines; specs/Parts.antt, the workers' seats, and specs/Left.antt, their logs; specs/Beside.antt,
+//! what is done beside the lines, and specs/Together.antt, both.
 //! Design: docs/COMMIT.md, docs/DURABILITY.md.
 #![tactic(auto)]
 
+mod beside;
 mod cells;
 mod ends;
 mod engine;
+mod marking;
 mod opening;
 mod publishing;
 mod rooms;
 mod workers;
 
+pub use beside::{Alone, Beside};
 pub use ends::WorkersRan;
 pub use engine::SharedEngine;
 pub use opening::are_arrays;
-pub use rooms::{Rooms, make_rooms};
-pub use worker_cells::{GateCalls, LineGate, LogEnd};
+pub use publishing::publish_new;
+pub use rooms::{Rooms, count_lines, make_rooms};
+pub use worker_cells::{GateCalls, LineGate, LogEnd, advance, load_epoch, marks};
 pub use workers::run_workers;

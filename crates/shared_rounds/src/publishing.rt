@@ -16,7 +16,7 @@ use std::marker::Brand;
 
 /// Publishes those pages of the store that stand behind the ones that the keeper knows, with names for all places that
 /// the newest snapshot's roots lead to.
-pub(crate) fn publish_new(words: &Engine, keeper: &mut Pass, store: &SnapStore)
+pub fn publish_new(words: &Engine, keeper: &mut Pass, store: &SnapStore)
     requires of { IsPassOf words.now keeper.old }
     requires keeper { (view keeper.old).role ≡ Keeper }
     requires claimed { AreClaimed (view keeper.old) }

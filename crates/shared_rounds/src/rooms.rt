@@ -39,8 +39,8 @@ pub fn make_rooms<D: Disk + Drop>(alloc: Global, round: &Round<'_>) -> Result<Ro
     })
 }
 
-// How many lines of the round each worker has.
-fn count_lines(round: &Round<'_>) -> [u32; WORKERS]
+/// How many lines of the round each worker has.
+pub fn count_lines(round: &Round<'_>) -> [u32; WORKERS]
     requires { length round.now.lines ≤ 65536 }
     ensures { AreCounts round.now result }
 {

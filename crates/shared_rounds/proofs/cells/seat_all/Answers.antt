@@ -1,14 +1,13 @@
 use Rattle.std.proofs.Common.{rules, ◌≡◌, ◌∙◌, ◌<◌, ◌+◌, ◌-◌, [], ◌∷◌, ◌++◌, length, vec_len, arith, ap}
 use Rattle.std.proofs.Common.{sym, subst}
 use Rattle.std.specs.Prelude.{get_or}
-use Rattle.wire_form.specs.declared.clock.Mark.{Mark}
 use Rattle.worker_cells.specs.Below.{seat_over, IsOver}
 use Rattle.views.specs.Sums.{times}
 use Rattle.engine_seats.specs.Cuts.{seated, worker_view}
 use Rattle.engine_pages.specs.Passes.{view}
 use Rattle.engine_pages.specs.declared.view.View.{View}
 use Rattle.shared_rounds.specs.Rooms.{AreRooms}
-use Rattle.shared_rounds.specs.Seated.{IsBegun, SeatedSoFar}
+use Rattle.shared_rounds.specs.Seated.{SeatedSoFar}
 use Rattle.shared_rounds.specs.Seating.{seats_from, with_made}
 use Rattle.shared_rounds.proofs.Seated.{last_room, none_seated, not_seated, seated_made, seats_more, seats_one}
 use Rattle.shared_rounds.proofs.cells.seat_all.Goals as goal
@@ -38,23 +37,17 @@ loop-count-init g c =
     unmade : (v : View) → v.made ≡ [] → v ≡ with_made [] v
     unmade v none = ap (λ l. record v { made = l }) none
 
-pub seat_one-pass-requires-clause-worker : goal.seat_one-pass-requires-clause-worker
-seat_one-pass-requires-clause-worker g c =
+pub seat-pass-requires-clause-worker : goal.seat-pass-requires-clause-worker
+seat-pass-requires-clause-worker g c =
     let less : c.loop-count.count < 8 = omega (arith, c.loop-count-test.true) in (
       omega arith,
       ap (λ (v : View). times (7 - c.loop-count.count) v.made) c.loop-count.invariant.keeper
           ∙ not_seated c.loop-count.count (8 - c.loop-count.count) (7 - c.loop-count.count) (omega (arith, less)),
     )
 
-pub seat_one-pass-requires-clause-locks : goal.seat_one-pass-requires-clause-locks
-seat_one-pass-requires-clause-locks g c =
+pub seat-pass-requires-clause-locks : goal.seat-pass-requires-clause-locks
+seat-pass-requires-clause-locks g c =
     ap (λ (v : View). v.seat.locks) c.loop-count.invariant.keeper ∙ c.requires.keeper.locks
-
-pub seat_one-pass-requires-clause-over : goal.seat_one-pass-requires-clause-over
-seat_one-pass-requires-clause-over g c =
-    subst (λ (v : View). IsOver (worker_view (7 - c.loop-count.count) v)) (sym c.loop-count.invariant.keeper)
-    (seat_over (view c.args.keeper.now) (7 - c.loop-count.count) c.requires.keeper.decls
-    (c.requires.keeper.parked (7 - c.loop-count.count) (omega arith)))
 
 pub loop-count-preserved : goal.loop-count-preserved
 loop-count-preserved g c =
@@ -84,7 +77,7 @@ loop-count-preserved g c =
     (subst (AreRooms c.args.counts.now) room_is inv.rooms_are) in
     record {
       of = search rules;
-      keeper = c.seat_one-pass.ensures.keeper ∙ ap (seated (7 - c.loop-count.count)) inv.keeper
+      keeper = c.seat-pass.ensures.keeper ∙ ap (seated (7 - c.loop-count.count)) inv.keeper
           ∙ seated_made (seats_from c.loop-count.count (8 - c.loop-count.count)) (7 - c.loop-count.count)
           (view c.args.keeper.now)
           ∙ ap (λ l. with_made l (view c.args.keeper.now)) (seats_more c.loop-count.count less);
@@ -105,16 +98,13 @@ loop-count-preserved g c =
           (8 - (c.loop-count.count + 1)) c.loop-count.cells.items c.args.logs.now.items c.loop-count.logs.items
           c.pop.new.self.items c.args.growing.now.items c.loop-count.growing.items c.pop-in-loop-count.new.self.items _
           c.requires.keeper c.requires.up c.requires.flushed (omega arith) (logs_place ∙ logs_count)
-          (banks_place ∙ banks_count) log_is bank_is c.seat_one-pass.ensures.of.1 number
+          (banks_place ∙ banks_count) log_is bank_is c.seat-pass.ensures.of.1 number
           (ap (λ n. get_or c.args.counts.now n 0) number)
-          (subst (λ n. IsBegun (get_or c.args.counts.now n 0) c.in-Some.log.mark.length
-          (worker_view n (view c.args.keeper.now)) (view c.seat_one-pass.result)) number
-          (subst (λ (v : View). IsBegun (get_or c.args.counts.now (7 - c.loop-count.count) 0)
-          c.in-Some.log.mark.length (worker_view (7 - c.loop-count.count) v) (view c.seat_one-pass.result)) inv.keeper
-          (subst (λ (m : Mark). IsBegun (get_or c.args.counts.now (7 - c.loop-count.count) 0) m.length
-          (worker_view (7 - c.loop-count.count) (view c.loop-count.keeper)) (view c.seat_one-pass.result))
-          c.mark.ensures.mark c.seat_one-pass.ensures.begun)))
-          c.seat_one-pass.ensures.over rooms.0
+          (c.seat-pass.ensures.seat ∙ ap (worker_view (7 - c.loop-count.count)) inv.keeper
+          ∙ ap (λ n. worker_view n (view c.args.keeper.now)) number)
+          (subst IsOver (sym (c.seat-pass.ensures.seat ∙ ap (worker_view (7 - c.loop-count.count)) inv.keeper))
+          (seat_over (view c.args.keeper.now) (7 - c.loop-count.count) c.requires.keeper.decls
+          (c.requires.keeper.parked (7 - c.loop-count.count) (omega (arith, less))))) rooms.0
           (rooms.1 ∙ ap (λ n. get_or c.args.counts.now n 0) (rooms_place ∙ rooms_count))
           (subst (λ w. SeatedSoFar g.D.Disk.tells c.args.engine.now (view c.args.keeper.now) c.args.counts.now w
           c.loop-count.cells.items c.args.logs.now.items c.loop-count.logs.items c.args.growing.now.items

@@ -98,7 +98,8 @@ loop-cell-preserved g c =
           (subst (AllByRecursion (MayEnd c.args.engine.now)) is inv.cells)).0;
       ended = λ tries round was logs_was banks_was stands ran.
           ends_next_is g.D.Disk.tells g.D.Disk.clock g.D.Disk.image_at g.D.Disk.faults tries round c.args.engine.now was
-          (view c.loop-cell.keeper) (view c.end.new.keeper) timed.0 (8 - vec_len c.loop-cell.cells)
+          (view c.args.keeper.now) (view c.loop-cell.keeper) (view c.end.new.keeper) timed.0
+          (8 - vec_len c.loop-cell.cells)
           (8 - vec_len c.pop.new.self) c.loop-cell.cells.items c.pop.new.self.items c.in-Some.cell logs_was
           c.loop-cell.logs.items c.push_reserved.new.self.items banks_was c.loop-cell.growing.items
           c.push_reserved-in-Some.new.self.items c.loop-cell.told.items c.push_reserved-in-Some-2.new.self.items
@@ -113,14 +114,16 @@ returns-clause-ended g c = λ tries round was logs_was banks_was stands ran.
     let none : c.loop-cell.cells.items ≡ [] = search rules in
     let len : vec_len c.loop-cell.cells ≡ 0 = search rules in
     ended_looked g.D.Disk.tells g.D.Disk.clock g.D.Disk.image_at g.D.Disk.faults tries round was
-    (view c.loop-cell.keeper) (view c.look_at_pages.new.pass) logs_was c.loop-cell.logs.items banks_was
+    (view c.args.keeper.now) (view c.loop-cell.keeper) (view c.look_at_pages.new.pass) logs_was c.loop-cell.logs.items
+    banks_was
     c.loop-cell.growing.items c.from_vec.result c.loop-cell.ends.items c.look_at_pages.result
     c.look_at_pages.ensures.looks.is
     (subst (λ l. EndedSoFar g.D.Disk.tells g.D.Disk.clock g.D.Disk.image_at g.D.Disk.faults tries round was
-    (view c.loop-cell.keeper) 8 logs_was c.loop-cell.logs.items banks_was c.loop-cell.growing.items l
+    (view c.args.keeper.now) (view c.loop-cell.keeper) 8 logs_was c.loop-cell.logs.items banks_was
+    c.loop-cell.growing.items l
     c.loop-cell.ends.items) (sym c.from_vec.ensures)
     (ends_all_is g.D.Disk.tells g.D.Disk.clock g.D.Disk.image_at g.D.Disk.faults tries round c.args.engine.now was
-    (view c.loop-cell.keeper) (8 - vec_len c.loop-cell.cells) c.loop-cell.cells.items logs_was
+    (view c.args.keeper.now) (view c.loop-cell.keeper) (8 - vec_len c.loop-cell.cells) c.loop-cell.cells.items logs_was
     c.loop-cell.logs.items banks_was c.loop-cell.growing.items c.loop-cell.told.items c.loop-cell.ends.items
     (omega (arith, len)) none (inv.ended tries round was logs_was banks_was stands ran)))
 

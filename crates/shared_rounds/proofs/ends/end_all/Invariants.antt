@@ -29,8 +29,10 @@ invariant-loop-cell g l = record {
       → StandsFor was (view l.fn.keeper)
       → AreRan g.D.Disk.tells g.D.Disk.clock g.D.Disk.image_at g.D.Disk.faults tries round l.engine was 0
       (backward l.initial.cells.items) logs_was banks_was
-      → EndsOn g.D.Disk.tells g.D.Disk.clock g.D.Disk.image_at g.D.Disk.faults tries round l.engine was (view l.keeper)
-      (8 - vec_len l.cells) l.cells.items logs_was l.logs.items banks_was l.growing.items l.told.items l.ends.items;
+      → EndsOn g.D.Disk.tells g.D.Disk.clock g.D.Disk.image_at g.D.Disk.faults tries round l.engine was
+      (view l.fn.keeper)
+      (view l.keeper) (8 - vec_len l.cells) l.cells.items logs_was l.logs.items banks_was l.growing.items l.told.items
+      l.ends.items;
 }
 
 abbrev pub decreases-loop-cell : goal.decreases-loop-cell

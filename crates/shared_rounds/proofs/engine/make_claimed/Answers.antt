@@ -22,7 +22,8 @@ pub returns : goal.returns
 returns c = record {
   ok = (
     c.claim_rest.ensures.of,
-    subst (λ (v : View). OnlyFilled v (view c.claim_rest.new.pass)) c.in_ok-words.ensures.ok.1 c.claim_rest.ensures.only,
+    subst (λ (v : View). OnlyFilled v (view c.claim_rest.new.pass)) c.in_ok-words.ensures.ok.1
+        c.claim_rest.ensures.only,
     c.claim_rest.ensures.claims c.if-not-claim_rest.false,
   );
 }

@@ -4,6 +4,7 @@ pub run_cell-requires : goal.run_cell-requires
 run_cell-requires g c = record {
   of = c.requires.1.of;
   cell = c.requires.1.ready;
+  tied = c.requires.1.tied;
   worker = (c.requires.1.role, c.requires.1.small);
   lines = c.requires.1.lines;
   arrays = c.requires.1.arrays;

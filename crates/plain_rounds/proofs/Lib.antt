@@ -11,3 +11,4 @@ mod FewWords
 mod Apart
 mod Fronts
 mod Lent
+mod Marked

@@ -1,5 +1,5 @@
 -- What one line, and the end of a worker's lines, do to its log.
-use Rattle.std.proofs.Common.{◌≡◌, ◌≢◌, ◌∙◌, ◌<◌, ◌-◌, inl, sym, ap, subst, refl, ℕ, List, [], Bool, true, false}
+use Rattle.std.proofs.Common.{◌≡◌, ◌≢◌, ◌∙◌, ◌<◌, ◌-◌, inl, sym, ap, subst, refl, ℕ, zero, suc, List, [], Bool, true, false}
 use Rattle.std.proofs.Common.{Option, Some, None, arith, cond}
 use Rattle.std.specs.Prelude.{MatchBool, IfSome, IsTrue, is_some, nat_lt, option_to_list, Result, Ok, Err, OnErr, OnOk}
 use Rattle.std.specs.List.{AllByRecursion}
@@ -15,7 +15,9 @@ use Rattle.serial_model.specs.declared.number.Commit.{Commit}
 use Rattle.serial_model.specs.declared.op.Op.{Op}
 use Rattle.wire_form.specs.LogFile.{IsLineOf}
 use Rattle.wire_form.specs.LogLine.{IsLogLine}
-use Rattle.log_writer.specs.Journal.{Reaches}
+use Rattle.log_writer.specs.Journal.{JournalState, Reaches}
+use Rattle.wire_form.specs.declared.clock.Mark.{Mark}
+use Rattle.shared_rounds.specs.First.{MarkedFor}
 use Rattle.log_writer.specs.declared.journal.LogFault.{LogFault}
 use Rattle.log_writer.specs.declared.journal.LogFault.TheVariants.{Device, Down, Limit}
 use Rattle.worker_logs.specs.Changes.{IsLogged}
@@ -119,6 +121,19 @@ takes_nothing s ops log none = record {
   takes = refl;
 }
 
+-- what was marked, and not refused, is of the epoch before
+first_named : {T : Type 0} (at : ℕ) (result : Result T LogFault) (new : LogState) → refusal result ≡ None
+    → OnOk result (IsJoined at new) → new.mark.epoch ≡ Some (at - 1)
+first_named at (Ok done) new none joined = ap (λ (m : Mark). m.epoch) joined.marked
+first_named at (Err fault) new none joined = absurd cc
+
+-- the log of a worker without a line is as it was
+pub marks_none : {D : Type 0} (tells : D → Option (List ℕ)) (clock : D → ℕ) (image_at : D → ℕ → List ℕ → Type 0)
+    (faults : D → ℕ) (lines at : ℕ) (log : LogState) (bank : D) → lines ≡ 0 → (lines ≡ 0 → log.mark.epoch ≡ None)
+    → MarkedFor tells clock image_at faults lines at log log bank
+marks_none tells clock image_at faults zero at log bank none idle = (refl, idle refl)
+marks_none tells clock image_at faults (suc n) at log bank none idle = absurd (omega (arith, none))
+
 -- ---- the end of the lines
 
 -- what no call does to a log
@@ -180,3 +195,32 @@ module _ {D : Type 0} {tells : D → Option (List ℕ)} {clock : D → ℕ} {ima
   flushed_up at (Err (Down count)) moves not_full joined up =
       absurd (let no = sym (moves.stays_up (λ is. cc) ∙ (moves.down count).0 refl) ∙ up in cc)
   flushed_up at (Err (Limit length)) moves not_full joined up = absurd (not_full length refl)
+
+  -- ---- as a round begins
+
+  -- a log that is up, with nothing that waits, is refused nothing
+  first_done : {T : Type 0} {epoch : ℕ} {old new : LogState} {before now : D} (result : Result T LogFault)
+      → MovesLog tells clock image_at faults epoch old new before now (refusal result)
+      → ((length : ℕ) → result ≢ Err (Limit length)) → new.journal ≡ old.journal → old.journal.down ≡ None
+      → refusal result ≡ None
+  first_done (Ok done) moves not_full same up = refl
+  first_done (Err Device) moves not_full same up =
+      absurd (let no = sym (moves.goes_down refl) ∙ ap (λ (j : JournalState). j.down) same ∙ up in cc)
+  first_done (Err (Down count)) moves not_full same up =
+      absurd (let no = sym ((moves.down count).0 refl) ∙ up in cc)
+  first_done (Err (Limit length)) moves not_full same up = absurd (not_full length refl)
+
+  -- so its log has a new mark, of a worker with some lines
+  pub marks_first : {T : Type 0} (lines at : ℕ) {old new : LogState} {before now : D} (result : Result T LogFault)
+      → (lines ≡ 0 → ⊥) → MovesLog tells clock image_at faults (at - 1) old new before now (refusal result)
+      → ((length : ℕ) → result ≢ Err (Limit length)) → OnOk result (IsJoined at new) → new.journal ≡ old.journal
+      → now ≡ before → old.journal.down ≡ None → MarkedFor tells clock image_at faults lines at old new before
+  marks_first zero at result some moves not_full joined same bank up = absurd (some refl)
+  marks_first (suc n) at {old = old} {new = new} {before = before} {now = now} result some moves not_full joined same bank
+      up =
+      let done = first_done result moves not_full same up in record {
+        moves = subst (λ b. MovesLog tells clock image_at faults (at - 1) old new before b None) bank
+            (subst (MovesLog tells clock image_at faults (at - 1) old new before now) done moves);
+        named = first_named at result new done joined;
+        journal = same;
+      }

@@ -23,8 +23,8 @@ use Rattle.worker_logs.specs.Moves.{MovesLog}
 use Rattle.worker_logs.specs.Rows.{IsFull, IsLogUp, KeepsMark, TakesCommit, full_after}
 use Rattle.worker_logs.specs.RowLaws.{never_up}
 use Rattle.worker_logs.specs.RowLaws.{blames_move, blames_none, blames_took, full_at, keeps_commit, keeps_then}
-use Rattle.worker_logs.specs.RowLaws.{limit_took, reaches_took, room_left, still_down, still_full, takes_commit}
-use Rattle.worker_logs.specs.RowLaws.{takes_move, takes_none, was_up}
+use Rattle.worker_logs.specs.RowLaws.{limit_took, reaches_took, room_left, still_down, still_full, was_up}
+use Rattle.worker_logs.specs.ShownLaws.{shows_commit, shows_move, shows_none, shows_one, shows_takes}
 use Rattle.plain_rounds.specs.Parts.{IsLoggedAt, unrun}
 use Rattle.plain_rounds.specs.Plainly.{after_line, after_lines, has_number, next_number, outcome_at, outcomes_at}
 use Rattle.shared_rounds.specs.Standing.{Standing}
@@ -106,7 +106,7 @@ module _ {D : Type 0} {tells : D → Option (List ℕ)} {clock : D → ℕ} {ima
       standing = refl;
       logged_are = refl;
       lines_are = tt;
-      takes = takes_none s.clock.epoch s.clock.epoch log bank;
+      shows = shows_one (shows_none s.clock.epoch s.clock.epoch log bank);
       mark = inl refl;
       blames = blames_none bank log.journal up.up;
       reaches = up.reaches;
@@ -166,13 +166,13 @@ module _ {D : Type 0} {tells : D → Option (List ℕ)} {clock : D → ℕ} {ima
               (subst (λ m. IsLoggedAt m ops took.first) so.standing took.logged);
           lines_are = all_append (IsLineOf s.decls) so.logged (option_to_list took.first) so.lines_are
               (subst (λ ds. AllByRecursion (IsLineOf ds) (option_to_list took.first)) same_decls took.line);
-          takes = takes_commit took.first some (omega arith)
+          shows = shows_commit took.first some (omega arith)
               (λ c has. omega (
                 arith,
                 logged_number mid.decls mid.state ops mid.clock (has_number mid) took.first
                     took.logged c has ∙ same_epoch,
               ))
-              (takes_move (omega arith) (omega arith) so.takes moves.runs) took.takes;
+              (shows_move (omega arith) (omega arith) so.shows moves.runs) took.takes;
           mark = keeps_commit s.clock.epoch s.clock.epoch old ready left took.first
               (keeps_then s.clock.epoch s.clock.epoch s.clock.epoch old log ready (omega arith) (omega arith) so.mark mark)
               took.takes;
@@ -211,7 +211,7 @@ module _ {D : Type 0} {tells : D → Option (List ℕ)} {clock : D → ℕ} {ima
           standing = so.standing;
           logged_are = so.logged_are;
           lines_are = so.lines_are;
-          takes = takes_move (omega arith) (omega arith) so.takes moves.runs;
+          shows = shows_move (omega arith) (omega arith) so.shows moves.runs;
           mark = keeps_then s.clock.epoch s.clock.epoch s.clock.epoch old log left (omega arith) (omega arith) so.mark mark;
           blames = blames_move (Some fault) so.blames moves;
           reaches = moves.reaches;
@@ -220,9 +220,10 @@ module _ {D : Type 0} {tells : D → Option (List ℕ)} {clock : D → ℕ} {ima
           all = λ none up. absurd (never_up fault full moves none up);
           refuses = λ some. by_left so.left so.refuses (λ none. record {
             high = s.clock.epoch;
+            later = omega arith;
             found = log;
             at = bank;
-            takes = so.takes;
+            takes = shows_takes so.shows;
             limit = so.limit;
             up = on.up none;
             fault = fault;
@@ -254,7 +255,7 @@ module _ {D : Type 0} {tells : D → Option (List ℕ)} {clock : D → ℕ} {ima
     standing = so.standing;
     logged_are = so.logged_are;
     lines_are = so.lines_are;
-    takes = takes_move (omega arith) (omega arith) so.takes marks.moves.runs;
+    shows = shows_move (omega arith) (omega arith) so.shows marks.moves.runs;
     mark = keeps_then s.clock.epoch s.clock.epoch s.clock.epoch old log left (omega arith) (omega arith) so.mark
         marks.mark;
     blames = blames_move marks.fault so.blames marks.moves;

@@ -16,7 +16,8 @@ use Rattle.tx_script.specs.declared.outcome.Outcome.TheVariants.{Limit as AtLimi
 use Rattle.worker_logs.specs.Logs.{LogState}
 use Rattle.worker_logs.specs.Moves.{MovesLog}
 use Rattle.worker_logs.specs.Rows.{full_after}
-use Rattle.worker_logs.specs.RowLaws.{blames_move, keeps_then, room_left, still_full, takes_move, was_up}
+use Rattle.worker_logs.specs.RowLaws.{blames_move, keeps_then, room_left, still_full, was_up}
+use Rattle.worker_logs.specs.ShownLaws.{shows_move}
 use Rattle.shared_rounds.specs.Below.{is_run}
 use Rattle.plain_rounds.specs.Plainly.{after_line, committed, has_number, outcome_at}
 use Rattle.shared_rounds.specs.Standing.{Standing}
@@ -128,7 +129,7 @@ module _ (D : Type 0) (tells : D → Option (List ℕ)) (clock : D → ℕ) (ima
     standing = so.0.runs.standing;
     logged_are = so.0.runs.logged_are;
     lines_are = so.0.runs.lines_are;
-    takes = takes_move (omega arith) (omega arith) so.0.runs.takes moves.runs;
+    shows = shows_move (omega arith) (omega arith) so.0.runs.shows moves.runs;
     mark = keeps_then s.clock.epoch s.clock.epoch s.clock.epoch old log left (omega arith) (omega arith) so.0.runs.mark
         moves.mark;
     blames = blames_move fault so.0.runs.blames moves;
@@ -149,7 +150,7 @@ module _ (D : Type 0) (tells : D → Option (List ℕ)) (clock : D → ℕ) (ima
     standing = so.runs.standing;
     logged_are = so.runs.logged_are;
     lines_are = so.runs.lines_are;
-    takes = so.runs.takes;
+    shows = so.runs.shows;
     mark = so.runs.mark;
     blames = so.runs.blames;
     reaches = so.runs.reaches;

@@ -1,27 +1,35 @@
 -- The workers' lines, one worker after another.
-use Rattle.std.proofs.Common.{◌≡◌, ◌≢◌, ◌∙◌, ◌≤◌, ◌<◌, ◌+◌, ◌⊎◌, ◌++◌, ◌∷◌, inl, inr, sym, ap, subst, refl, ℕ, zero, suc}
+use Rattle.std.proofs.Common.{◌≡◌, ◌≢◌, ◌∙◌, ◌≤◌, ◌<◌, ◌+◌, ◌-◌, ◌⊎◌, ◌++◌, ◌∷◌, inl, inr, sym, ap, subst, refl, ℕ, zero}
+use Rattle.std.proofs.Common.{suc}
 use Rattle.std.proofs.Common.{List, [], length, length-append, map, take, Bool, true, false, Option, Some, None, arith}
 use Rattle.std.specs.Prelude.{is_some, slice_get, Result, Ok, Err}
+use Rattle.std.specs.List.{AllByRecursion}
 use Rattle.std.specs.Option.{option_map}
 use Rattle.std.proofs.lemmas.Bool.{cases_eq}
 use Rattle.std.proofs.lemmas.List.{length-map, take_more}
 use Rattle.std.proofs.lemmas.Option.{get_or_from_slice_get, same_Some, slice_get_within}
-use Rattle.lists.specs.Fronts.{IsFront, front_append}
+use Rattle.lists.specs.Fronts.{IsFront, front_append, front_length}
 use Rattle.lists.specs.declared.memory.Memory.{Memory}
 use Rattle.serial_model.specs.declared.op.Op.{Op}
 use Rattle.script_grammar.specs.Script.{Round, lines_of_worker, worker_lines}
 use Rattle.tx_script.specs.Run.{LogFailed, LogFull}
 use Rattle.tx_script.specs.declared.outcome.Outcome.{Outcome}
 use Rattle.worker_logs.specs.Logs.{LogState}
-use Rattle.worker_logs.specs.Rows.{IsFull}
+use Rattle.worker_logs.specs.Rows.{IsBeforeOne, IsFull}
+use Rattle.worker_logs.specs.Shown.{LogShows, Stood}
+use Rattle.worker_logs.specs.ShownLaws.{shows_one, shows_takes}
+use Rattle.wire_form.specs.declared.clock.Mark.{Mark}
+use Rattle.serial_model.specs.declared.number.Commit.{Commit}
+use Rattle.tx_script.specs.Seen.{AreEpochs, AreMarksInOrder}
+use Rattle.shared_rounds.specs.Shares.{BeginsAt, shown_epochs}
 use Rattle.log_writer.specs.Journal.{JournalState}
 use Rattle.shared_rounds.specs.Workers.{IsRefusedBy}
-use Rattle.plain_rounds.specs.Parts.{AreParts, IsPart, Part, after_parts, lines_in, outcomes_in, outcomes_of}
+use Rattle.plain_rounds.specs.Parts.{AreParts, IsHeld, IsPart, Part, after_parts, lines_in, outcomes_in, outcomes_of}
 use Rattle.plain_rounds.specs.Plainly.{after_lines}
 use Rattle.shared_rounds.specs.Standing.{Standing}
 use Rattle.plain_rounds.specs.InTurn.{AreFirstLines, RunsFirst, StopsInTurn, RunsLines, RunsWorker, StopsLines}
-use Rattle.plain_rounds.specs.InTurn.{WorkersSoFar}
-use Rattle.shared_rounds.specs.Workers.{LeavesOut, LeftBy, refusal_of, refused_as}
+use Rattle.plain_rounds.specs.InTurn.{AreMarkedAs, IsMarkedAs, WorkersSoFar, stood_now}
+use Rattle.shared_rounds.specs.Workers.{IsEpochBefore, IsFirstAt, LeavesOut, LeftBy, refusal_of, refused_as}
 use Rattle.shared_rounds.specs.Below.{all_told_push, LogEnd}
 use Rattle.plain_rounds.proofs.Logged.{parts_push}
 use Rattle.plain_rounds.proofs.PlainRun.{plain_kept}
@@ -134,15 +142,108 @@ module _ {D : Type 0} (tells : D → Option (List ℕ)) (clock : D → ℕ) (ima
       → (left : LogState) × (now : D) × (slice_get logs_now w ≡ Some left) × (slice_get banks_now w ≡ Some now)
       × RunsWorker tells clock image_at faults round w s t log left bank now result
 
+-- ---- marks
+
+-- the marks of a worker with these lines, of which this is the first one, and that is its log's behind them
+abbrev pub marks_for : List (List Op) → Stood → Stood → List Stood
+marks_for [] first last = first ∷ []
+marks_for (ops ∷ lines) first last = first ∷ last ∷ []
+
+pub one_in_order : (e : Option ℕ) → AreMarksInOrder (e ∷ [])
+one_in_order None = refl
+one_in_order (Some e) = tt
+
+two_in_order : (low high : ℕ) (e : Option ℕ) → IsBeforeOne low high e → AreEpochs (low - 1) (e ∷ [])
+two_in_order low high None is = absurd is
+two_in_order low high (Some e) is = (is.0, tt)
+
+one_before : (low high : ℕ) (e : Option ℕ) → IsBeforeOne low high e → IsEpochBefore high e
+one_before low high None is = absurd is
+one_before low high (Some e) is = is.1
+
+begins_for : (epoch : ℕ) (lines : List (List Op)) (first last : Stood) → IsMarkedAs epoch lines first.mark
+    → BeginsAt epoch lines (marks_for lines first last)
+begins_for epoch [] first last is = (is, refl)
+begins_for epoch (ops ∷ lines) first last is = is
+
+pub begins_one : (epoch : ℕ) (lines : List (List Op)) (first : Stood) → IsMarkedAs epoch lines first.mark
+    → BeginsAt epoch lines (first ∷ [])
+begins_one epoch [] first is = (is, refl)
+begins_one epoch (ops ∷ lines) first is = is
+
+-- the log keeps its mark behind the lines, or has another one of that epoch
+abbrev IsKeptIn : ℕ → Stood → Stood → Type 0
+IsKeptIn epoch first last = (last.mark ≡ first.mark) ⊎ IsBeforeOne epoch epoch last.mark.epoch
+
+rises_for : (epoch : ℕ) (lines : List (List Op)) (first last : Stood) → IsMarkedAs epoch lines first.mark
+    → IsKeptIn epoch first last → AreMarksInOrder (shown_epochs (marks_for lines first last))
+rises_for epoch [] first last is keeps = one_in_order first.mark.epoch
+rises_for epoch (ops ∷ lines) first last is (inl same) =
+    subst (λ e. AreMarksInOrder (e ∷ last.mark.epoch ∷ [])) (sym is)
+    (subst (λ e. AreEpochs (epoch - 1) (e ∷ [])) (sym (ap (λ (m : Mark). m.epoch) same ∙ is)) (omega arith, tt))
+rises_for epoch (ops ∷ lines) first last is (inr set) =
+    subst (λ e. AreMarksInOrder (e ∷ last.mark.epoch ∷ [])) (sym is) (two_in_order epoch epoch last.mark.epoch set)
+
+pub first_below : (epoch : ℕ) (lines : List (List Op)) (first : Stood) → IsMarkedAs epoch lines first.mark
+    → IsEpochBefore epoch first.mark.epoch
+first_below epoch [] first is = subst (IsEpochBefore epoch) (sym is) tt
+first_below epoch (ops ∷ lines) first is = subst (IsEpochBefore epoch) (sym is) (omega arith)
+
+below_for : (epoch : ℕ) (lines : List (List Op)) (first last : Stood) → IsMarkedAs epoch lines first.mark
+    → IsKeptIn epoch first last
+    → AllByRecursion (λ (m : Stood). IsEpochBefore epoch m.mark.epoch) (marks_for lines first last)
+below_for epoch [] first last is keeps = (first_below epoch [] first is, tt)
+below_for epoch (ops ∷ lines) first last is (inl same) =
+    let low = first_below epoch (ops ∷ lines) first is in
+    (low, (subst (λ (m : Mark). IsEpochBefore epoch m.epoch) (sym same) low, tt))
+below_for epoch (ops ∷ lines) first last is (inr set) =
+    (first_below epoch (ops ∷ lines) first is, (one_before epoch epoch last.mark.epoch set, tt))
+
+held_one : (epoch : ℕ) (lines ran : List (List Op)) (first : Stood) (more : List Stood)
+    → IsMarkedAs epoch lines first.mark → length ran ≤ length lines → IsHeld epoch ran (first ∷ more)
+held_one epoch lines [] first more is few = tt
+held_one epoch [] (ops ∷ ran) first more is few = absurd (omega (arith, few))
+held_one epoch (head ∷ lines) (ops ∷ ran) first more is few = (epoch - 1, ap Some is, omega arith)
+
+held_for : (epoch : ℕ) (lines ran : List (List Op)) (first last : Stood) → IsMarkedAs epoch lines first.mark
+    → length ran ≤ length lines → IsHeld epoch ran (marks_for lines first last)
+held_for epoch [] ran first last is few = held_one epoch [] ran first [] is few
+held_for epoch (ops ∷ lines) ran first last is few = held_one epoch (ops ∷ lines) ran first (last ∷ []) is few
+
+last_for : (lines : List (List Op)) (first last : Stood) → (lines ≡ [] → last.mark ≡ first.mark)
+    → (earlier : List Stood) × (end : Stood) × (marks_for lines first last ≡ earlier ++ end ∷ [])
+    × (end.mark ≡ last.mark)
+last_for [] first last none = ([], first, refl, sym (none refl))
+last_for (ops ∷ lines) first last none = (first ∷ [], last, refl, refl)
+
+first_for : (since : ℕ) (lines : List (List Op)) (first last : Stood) → first.since ≡ since
+    → IsFirstAt since (marks_for lines first last)
+first_for since [] first last is = is
+first_for since (ops ∷ lines) first last is = is
+
+module _ {D : Type 0} {tells : D → Option (List ℕ)} {clock : D → ℕ} {image_at : D → ℕ → List ℕ → Type 0} where
+  -- behind the lines the log's mark is shown, too
+  shows_for : (lines : List (List Op)) {low high : ℕ} {logged : List Commit} {first new : LogState} {before now : D}
+      → LogShows tells clock image_at low high logged (stood_now clock first before ∷ []) first new before now
+      → LogShows tells clock image_at low high logged
+      (marks_for lines (stood_now clock first before) (stood_now clock new now)) first new before now
+  shows_for [] shows = shows
+  shows_for (ops ∷ lines) shows = shows_one shows
+
 module _ {D : Type 0} {tells : D → Option (List ℕ)} {clock : D → ℕ} {image_at : D → ℕ → List ℕ → Type 0}
     {faults : D → ℕ} where
   -- what a worker whose lines were run so leaves of its log
-  left_by : {lines : List (List Op)} {s t : Standing} {outcomes : List Outcome} {full : Option ℕ} {old new : LogState}
-      {before now : D} (failed : Bool) → failed ≡ is_some new.journal.down
+  left_by : (lines : List (List Op)) {s t : Standing} {outcomes : List Outcome} {full : Option ℕ}
+      {old new : LogState} {before now : D} (failed : Bool) → failed ≡ is_some new.journal.down
+      → IsMarkedAs s.clock.epoch lines old.mark
       → (runs : RunsLines tells clock image_at faults lines s t outcomes full old new before now)
-      → LeftBy tells clock image_at faults s.clock.epoch s.clock.epoch runs.logged (refused_as failed full) old new before now
-  left_by {full = full} {new = new} failed is runs = record {
-    takes = runs.takes;
+      → LeftBy tells clock image_at faults s.clock.epoch s.clock.epoch runs.logged
+      (marks_for lines (stood_now clock old before) (stood_now clock new now)) (refused_as failed full) old new before now
+  left_by lines {s = s} {full = full} {old = old} {new = new} {before = before} {now = now} failed is marked runs = record {
+    shows = shows_for lines runs.shows;
+    first = first_for (clock before) lines (stood_now clock old before) (stood_now clock new now) refl;
+    below = below_for s.clock.epoch lines (stood_now clock old before) (stood_now clock new now) marked runs.mark;
+    takes = shows_takes runs.shows;
     mark = runs.mark;
     blames = runs.blames;
     reaches = runs.reaches;
@@ -152,12 +253,16 @@ module _ {D : Type 0} {tells : D → Option (List ℕ)} {clock : D → ℕ} {ima
   }
 
   -- and one that stopped
-  left_stopped : {lines : List (List Op)} {s t : Standing} {old new : LogState} {before now : D}
+  left_stopped : (lines : List (List Op)) {s t : Standing} {old new : LogState} {before now : D}
+      → IsMarkedAs s.clock.epoch lines old.mark
       → (stops : StopsLines tells clock image_at faults lines s t old new before now)
-      → LeftBy tells clock image_at faults s.clock.epoch s.clock.epoch stops.logged (refused_as (is_some new.journal.down) None) old new
-      before now
-  left_stopped {new = new} stops = record {
-    takes = stops.takes;
+      → LeftBy tells clock image_at faults s.clock.epoch s.clock.epoch stops.logged (stood_now clock old before ∷ [])
+      (refused_as (is_some new.journal.down) None) old new before now
+  left_stopped lines {s = s} {old = old} {new = new} {before = before} marked stops = record {
+    shows = stops.shows;
+    first = refl;
+    below = (first_below s.clock.epoch lines (stood_now clock old before) marked, tt);
+    takes = shows_takes stops.shows;
     mark = stops.mark;
     blames = stops.blames;
     reaches = stops.reaches;
@@ -189,6 +294,8 @@ module _ {D : Type 0} {tells : D → Option (List ℕ)} {clock : D → ℕ} {ima
     flushed = λ i log below. absurd (omega (arith, below));
     ends_are = refl;
     left_out = λ i p old before is. absurd cc;
+    begins = λ i p is. absurd cc;
+    last = λ i p log is. absurd cc;
     many_outcomes = refl;
     calls = tt;
   }
@@ -200,7 +307,7 @@ module _ {D : Type 0} {tells : D → Option (List ℕ)} {clock : D → ℕ} {ima
       → IsPart mid p → t ≡ after_lines mid p.ran
       → slice_get logs w ≡ Some log → slice_get banks w ≡ Some bank
       → slice_get logs_now w ≡ Some left → slice_get banks_now w ≡ Some now
-      → LeftBy tells clock image_at faults mid.clock.epoch mid.clock.epoch p.logged p.refusal log left bank now
+      → LeftBy tells clock image_at faults mid.clock.epoch mid.clock.epoch p.logged p.marks p.refusal log left bank now
       → ((other : ℕ) → other ≢ w → slice_get logs_now other ≡ slice_get logs other)
       → ((other : ℕ) → other ≢ w → slice_get banks_now other ≡ slice_get banks other)
       → length logs_now ≡ length logs → length banks_now ≡ length banks
@@ -227,12 +334,12 @@ module _ {D : Type 0} {tells : D → Option (List ℕ)} {clock : D → ℕ} {ima
               let before_is : bank ≡ before = same_Some bank before (sym bank_at ∙ first.rest_banks w (omega arith) ∙ ap (slice_get _) (sym here) ∙ bank_was) in
               let new_is : left ≡ new = same_Some left new (sym at_now ∙ ap (slice_get _) (sym here) ∙ is_now) in
               let after_is : now ≡ after = same_Some now after (sym bank_now ∙ ap (slice_get _) (sym here) ∙ bank_is) in
-              subst (λ (q : Part). LeftBy tells clock image_at faults s.clock.epoch s.clock.epoch q.logged q.refusal old new before after) newest.1
-              (subst (λ e. LeftBy tells clock image_at faults e e p.logged p.refusal old new before after) epoch
-              (subst (λ x. LeftBy tells clock image_at faults mid.clock.epoch mid.clock.epoch p.logged p.refusal x new before after) old_is
-              (subst (λ x. LeftBy tells clock image_at faults mid.clock.epoch mid.clock.epoch p.logged p.refusal log x before after) new_is
-              (subst (λ x. LeftBy tells clock image_at faults mid.clock.epoch mid.clock.epoch p.logged p.refusal log left x after) before_is
-              (subst (λ x. LeftBy tells clock image_at faults mid.clock.epoch mid.clock.epoch p.logged p.refusal log left bank x) after_is leaves)))))
+              subst (λ (q : Part). LeftBy tells clock image_at faults s.clock.epoch s.clock.epoch q.logged q.marks q.refusal old new before after) newest.1
+              (subst (λ e. LeftBy tells clock image_at faults e e p.logged p.marks p.refusal old new before after) epoch
+              (subst (λ x. LeftBy tells clock image_at faults mid.clock.epoch mid.clock.epoch p.logged p.marks p.refusal x new before after) old_is
+              (subst (λ x. LeftBy tells clock image_at faults mid.clock.epoch mid.clock.epoch p.logged p.marks p.refusal log x before after) new_is
+              (subst (λ x. LeftBy tells clock image_at faults mid.clock.epoch mid.clock.epoch p.logged p.marks p.refusal log left x after) before_is
+              (subst (λ x. LeftBy tells clock image_at faults mid.clock.epoch mid.clock.epoch p.logged p.marks p.refusal log left bank x) after_is leaves)))))
         ];
         rest_logs = λ i above. logs_stay i (λ same. omega (arith, above, same)) ∙ first.rest_logs i (omega (arith, above));
         rest_banks = λ i above. banks_stay i (λ same. omega (arith, above, same)) ∙ first.rest_banks i (omega (arith, above));
@@ -242,23 +349,34 @@ module _ {D : Type 0} {tells : D → Option (List ℕ)} {clock : D → ℕ} {ima
       {banks_was banks banks_now : List D} where
     -- all lines of one worker more were run, or left out
     pub workers_more : {told : List (List Outcome)} {outcomes : List Outcome} {ends : List LogEnd} (end : LogEnd)
-        → w < 8 → w < length logs → w < length banks
+        → w < 8 → w < length logs → w < length banks → AreMarkedAs s.clock.epoch round logs_was
         → WorkersSoFar tells clock image_at faults round w s mid told ends logs_was logs banks_was banks
         → RanAt tells clock image_at faults round w mid t logs logs_now banks banks_now (Ok (outcomes, end))
         → Others w logs logs_now banks banks_now
         → WorkersSoFar tells clock image_at faults round (w + 1) s t (told ++ outcomes ∷ []) (ends ++ end ∷ []) logs_was
         logs_now banks_was banks_now
-    workers_more {told = told} {outcomes = outcomes} {ends = ends} end small log_in bank_in so ran others =
+    workers_more {told = told} {outcomes = outcomes} {ends = ends} end small log_in bank_in marks so ran others =
         let log = item_at logs w log_in in
         let bank = item_at banks w bank_in in
         let one = ran log.0 bank.0 log.1 bank.1 in
         let runs = one.4.0 in
+        let lines = lines_of_worker round w in
+        let shown : Stood = stood_now clock log.0 bank.0 in
+        let last : Stood = stood_now clock one.0 one.1 in
         let p : Part = record {
           ran = runs.ran;
           left = runs.left;
           refusal = refusal_of end;
           logged = runs.logged;
+          marks = marks_for lines shown last;
         } in
+        let few : length runs.ran ≤ length lines =
+        omega (arith, ap length runs.whole, length-append runs.ran runs.left) in
+        let epoch : mid.clock.epoch ≡ s.clock.epoch =
+        ap (λ (x : Standing). x.clock.epoch) so.first.standing ∙ (plain_kept so.parts s).1 in
+        let marked : IsMarkedAs mid.clock.epoch lines log.0.mark =
+        subst (λ e. IsMarkedAs e lines log.0.mark) (sym epoch)
+        (marks w log.0 (sym (so.first.rest_logs w (omega arith)) ∙ log.1)) in
         let ends_many : length ends ≡ length so.parts =
         sym (length-map ends refusal_of) ∙ ap length so.ends_are ∙ length-map so.parts (λ (q : Part). q.refusal) in
         let is : IsPart mid p = record {
@@ -267,11 +385,13 @@ module _ {D : Type 0} {tells : D → Option (List ℕ)} {clock : D → ℕ} {ima
           all = λ none.
               let up = not_refused end.failed end.full none in
               runs.all up.1 (none_there _ (sym one.4.1 ∙ up.0));
+          rise = rises_for mid.clock.epoch lines shown last marked runs.mark;
+          held = held_for mid.clock.epoch lines runs.ran shown last marked few;
         } in
         record {
           parts = so.parts ++ p ∷ [];
           first = first_more p so.first is runs.standing log.1 bank.1 one.2 one.3
-              (left_by end.failed one.4.1 runs) others.logs_stay others.banks_stay others.logs_many others.banks_many;
+              (left_by lines end.failed one.4.1 marked runs) others.logs_stay others.banks_stay others.logs_many others.banks_many;
           lines = map_push lines_in so.parts p ∙ ap (λ l. l ++ lines_in p ∷ []) so.lines
               ∙ ap (λ x. take w (worker_lines round) ++ x ∷ []) (sym runs.whole) ∙ sym (take_worker round w small);
           lines_each = λ i q has. elim (at_push_cases so.parts p q i has) [
@@ -322,8 +442,6 @@ module _ {D : Type 0} {tells : D → Option (List ℕ)} {clock : D → ℕ} {ima
                 (sym log.1 ∙ so.first.rest_logs w (omega arith) ∙ ap (slice_get logs_was) (sym here) ∙ was) in
                 let before_is : bank.0 ≡ before = same_Some bank.0 before
                 (sym bank.1 ∙ so.first.rest_banks w (omega arith) ∙ ap (slice_get banks_was) (sym here) ∙ bank_was) in
-                let epoch : mid.clock.epoch ≡ s.clock.epoch =
-                ap (λ (x : Standing). x.clock.epoch) so.first.standing ∙ (plain_kept so.parts s).1 in
                 let out : LeavesOut tells clock image_at faults mid.clock.epoch (p.left ≡ [] → ⊥) p.logged p.refusal
                 log.0 bank.0 = record {
                   refuses = runs.refuses;
@@ -338,6 +456,28 @@ module _ {D : Type 0} {tells : D → Option (List ℕ)} {clock : D → ℕ} {ima
                 (subst (λ x. LeavesOut tells clock image_at faults mid.clock.epoch (p.left ≡ [] → ⊥) p.logged p.refusal
                 log.0 x) before_is out)))
           ];
+          begins = λ i q has. elim (at_push_cases so.parts p q i has) [
+            | inl older ↦ so.begins i q older
+            | inr newest ↦ subst (λ (q : Part). BeginsAt s.clock.epoch (lines_in q) q.marks) newest.1
+                (subst (λ e. BeginsAt e (lines_in p) p.marks) epoch
+                (subst (λ l. BeginsAt mid.clock.epoch l p.marks) runs.whole (begins_for mid.clock.epoch lines shown
+                last marked)))
+          ];
+          last = λ i q l has is_now. elim (at_push_cases so.parts p q i has) [
+            | inl older ↦
+                let within = slice_get_within so.parts i q older in
+                let other : i ≢ w = λ same. omega (arith, within, so.first.count, same) in
+                so.last i q l older (sym (others.logs_stay i other) ∙ is_now)
+            | inr newest ↦
+                let here : i ≡ w = newest.0 ∙ so.first.count in
+                let new_is : one.0 ≡ l = same_Some one.0 l (sym one.2 ∙ ap (slice_get logs_now) (sym here) ∙ is_now) in
+                let end_of = last_for lines shown last (λ none. ap (λ (x : LogState). x.mark) (runs.none none)) in (
+                  end_of.0,
+                  end_of.1,
+                  ap (λ (x : Part). x.marks) (sym newest.1) ∙ end_of.2,
+                  end_of.3 ∙ ap (λ (x : LogState). x.mark) new_is,
+                )
+          ];
           many_outcomes = length-append told (outcomes ∷ []) ∙ ap (λ n. n + 1) so.many_outcomes;
           calls = all_told_push 0 w told ends outcomes end (omega (arith, so.many_outcomes)) so.calls one.4.3;
         }
@@ -351,8 +491,16 @@ without_left p = record p { left = [] }
 -- they are parts as well, and leave the engine at the same
 pub alone_are : (parts : List Part) (s : Standing) → AreParts s parts → AreParts s (map without_left parts)
 alone_are [] s are = tt
-alone_are (p ∷ parts) s are =
-    (record { logged = are.0.logged; lines = are.0.lines; all = λ none. refl }, alone_are parts (after_lines s p.ran) are.1)
+alone_are (p ∷ parts) s are = (
+  record {
+    logged = are.0.logged;
+    lines = are.0.lines;
+    all = λ none. refl;
+    rise = are.0.rise;
+    held = are.0.held;
+  },
+  alone_are parts (after_lines s p.ran) are.1,
+)
 
 pub alone_after : (parts : List Part) (s : Standing) → after_parts s (map without_left parts) ≡ after_parts s parts
 alone_after [] s = refl
@@ -379,7 +527,7 @@ module _ {D : Type 0} {tells : D → Option (List ℕ)} {clock : D → ℕ} {ima
         let at = map_at without_left parts i q has in
         subst (λ (q : Part). slice_get logs_was i ≡ Some old → slice_get logs i ≡ Some new
         → slice_get banks_was i ≡ Some before → slice_get banks i ≡ Some now
-        → LeftBy tells clock image_at faults s.clock.epoch s.clock.epoch q.logged q.refusal old new before now) at.2
+        → LeftBy tells clock image_at faults s.clock.epoch s.clock.epoch q.logged q.marks q.refusal old new before now) at.2
         (first.each i at.0 old new before now at.1);
     rest_logs = first.rest_logs;
     rest_banks = first.rest_banks;
@@ -388,12 +536,14 @@ module _ {D : Type 0} {tells : D → Option (List ℕ)} {clock : D → ℕ} {ima
   -- all lines of the first workers were run, or left out
   alone_lines : {told : List (List Outcome)} {ends : List LogEnd}
       → (so : WorkersSoFar tells clock image_at faults round w s t told ends logs_was logs banks_was banks)
-      → AreFirstLines round (map without_left so.parts)
+      → AreFirstLines s.clock.epoch round (map without_left so.parts)
   alone_lines so i q has =
       let at = map_at without_left so.parts i q has in (
         subst (λ (q : Part). IsFront q.ran (lines_of_worker round i)) at.2
             (subst (IsFront at.0.ran) (so.lines_each i at.0 at.1) (front_append at.0.ran at.0.left)),
         ap (λ (q : Part). q.left) (sym at.2),
+        subst (λ (q : Part). BeginsAt s.clock.epoch (lines_of_worker round i) q.marks) at.2
+            (subst (λ l. BeginsAt s.clock.epoch l at.0.marks) (so.lines_each i at.0 at.1) (so.begins i at.0 at.1)),
       )
 
   pub workers_stop_after : {told : List (List Outcome)} {ends : List LogEnd} → w ≤ 8
@@ -406,23 +556,38 @@ module _ {D : Type 0} {tells : D → Option (List ℕ)} {clock : D → ℕ} {ima
     {banks_was banks banks_now : List D} where
   -- one worker's lines were run in part
   pub workers_stop_in : {told : List (List Outcome)} {ends : List LogEnd} {other : Memory} → w < 8
-      → w < length logs → w < length banks
+      → w < length logs → w < length banks → AreMarkedAs s.clock.epoch round logs_was
       → WorkersSoFar tells clock image_at faults round w s mid told ends logs_was logs banks_was banks
       → RanAt tells clock image_at faults round w mid t logs logs_now banks banks_now (Err other)
       → Others w logs logs_now banks banks_now
       → StopsInTurn tells clock image_at faults round s t logs_was logs_now banks_was banks_now
-  workers_stop_in small log_in bank_in so ran others =
+  workers_stop_in small log_in bank_in marks so ran others =
       let log = item_at logs w log_in in
       let bank = item_at banks w bank_in in
       let one = ran log.0 bank.0 log.1 bank.1 in
       let stops = one.4 in
+      let lines = lines_of_worker round w in
+      let shown : Stood = stood_now clock log.0 bank.0 in
+      let epoch : mid.clock.epoch ≡ s.clock.epoch =
+      ap (λ (x : Standing). x.clock.epoch) so.first.standing ∙ (plain_kept so.parts s).1 in
+      let marked : IsMarkedAs mid.clock.epoch lines log.0.mark =
+      subst (λ e. IsMarkedAs e lines log.0.mark) (sym epoch)
+      (marks w log.0 (sym (so.first.rest_logs w (omega arith)) ∙ log.1)) in
       let p : Part = record {
         ran = stops.ran;
         left = [];
         refusal = refused_as (is_some one.0.journal.down) None;
         logged = stops.logged;
+        marks = shown ∷ [];
       } in
-      let is : IsPart mid p = record { logged = stops.logged_are; lines = stops.lines_are; all = λ none. refl } in
+      let is : IsPart mid p = record {
+        logged = stops.logged_are;
+        lines = stops.lines_are;
+        all = λ none. refl;
+        rise = one_in_order shown.mark.epoch;
+        held = held_one mid.clock.epoch lines stops.ran shown [] marked
+            (front_length stops.ran lines stops.front);
+      } in
       let first = alone_first so.first in (
         map without_left so.parts ++ p ∷ [],
         λ i q has. elim (at_push_cases (map without_left so.parts) p q i has) [
@@ -432,10 +597,15 @@ module _ {D : Type 0} {tells : D → Option (List ℕ)} {clock : D → ℕ} {ima
                 subst (λ (q : Part). IsFront q.ran (lines_of_worker round i)) newest.1
                     (subst (λ k. IsFront stops.ran (lines_of_worker round k)) (sym here) stops.front),
                 ap (λ (q : Part). q.left) (sym newest.1),
+                subst (λ (q : Part). BeginsAt s.clock.epoch (lines_of_worker round i) q.marks) newest.1
+                    (subst (λ k. BeginsAt s.clock.epoch (lines_of_worker round k) (shown ∷ [])) (sym here)
+                    (subst (λ e. BeginsAt e lines (shown ∷ [])) epoch
+                    (begins_one mid.clock.epoch lines shown marked))),
               )
         ],
         w + 1,
         omega (arith, small),
-        first_more p first is stops.standing log.1 bank.1 one.2 one.3 (left_stopped stops) others.logs_stay
+        first_more p first is stops.standing log.1 bank.1 one.2 one.3
+            (left_stopped lines marked stops) others.logs_stay
             others.banks_stay others.logs_many others.banks_many,
       )

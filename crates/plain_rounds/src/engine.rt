@@ -1,5 +1,5 @@
 // The plain map with its clock.
-ghost use Rattle.std.specs.Prelude.{◌≡◌, ◌+◌, ◌<◌, false};
+ghost use Rattle.std.specs.Prelude.{◌≡◌, ◌+◌, ◌<◌, [], false};
 ghost use Rattle.serial_model.specs.Numbers.{IsNumber, last_epoch};
 ghost use Rattle.shared_rounds.specs.SharedState.{are_arrays};
 ghost use Rattle.plain_rounds.specs.Plainly.{IsApart, stands_at};
@@ -66,6 +66,7 @@ impl PlainEngine {
         ensures goes_on { self.now.ended ≡ false }
         ensures apart { IsApart self.now }
         ensures no_slots { self.now.slots ≡ 0 }
+        ensures no_pages { self.now.pages ≡ [] }
     {
         self.clock
     }

@@ -9,7 +9,9 @@
 //! - [`run_workers`]: the lines come to what a round's lines come to on any engine, however often each may be tried
 //!   (`LinesCome` of `shared_rounds`), though none is tried twice: each number was drawn for a commit, and no line met
 //!   another (`DrewOnce`). From the line on at which its log is refused a worker runs none. After want of memory some
-//!   first lines of each worker were run, and the logs have what these changed (`RunsInTurn`).
+//!   first lines of each worker were run, and the logs have what these changed (`RunsInTurn`). The epoch stands still.
+//!   Before any line is run the log of each worker with lines is marked anew; of such a worker the marks that are told
+//!   are that one and its log's behind the lines.
 //!
 //! Terms: *standing*, the storages, their contents and the clock; *part* of a worker, the lines that it ran and those
 //! behind them that it left out.

@@ -1,6 +1,6 @@
 // The workers' lines of a round, each over its log and its log file, on the plain map.
-ghost use Rattle.std.specs.Prelude.{◌≡◌, ◌≢◌, ◌⊎◌, ◌+◌, ◌-◌, ◌<◌, ◌≤◌, [], ◌∷◌, ◌++◌, ℕ, IfOk, IfSome, IsTrue};
-ghost use Rattle.std.specs.Prelude.{OnErr, OnOk, None, Some, is_some, length, option_map, slice_get};
+ghost use Rattle.std.specs.Prelude.{◌≡◌, ◌≢◌, ◌⊎◌, ◌+◌, ◌<◌, ◌≤◌, [], ◌∷◌, ◌++◌, ℕ, IfOk, IfSome, IsTrue};
+ghost use Rattle.std.specs.Prelude.{List, OnErr, OnOk, None, Some, get_or, is_some, length, option_map, slice_get};
 ghost use Rattle.std.specs.List.{AllByRecursion};
 ghost use Rattle.std.specs.Option.{option_copied};
 ghost use Rattle.serial_model.specs.Keys.{fits};
@@ -8,12 +8,15 @@ ghost use Rattle.serial_model.specs.Numbers.{draw_limit};
 ghost use Rattle.script_grammar.specs.Script.{ops_of_worker};
 ghost use Rattle.wire_form.specs.LogLine.{IsLogLine, IsLoggable};
 ghost use Rattle.log_writer.specs.Journal.{Reaches, end_of, free};
+ghost use Rattle.tx_script.specs.Readied.{Readied};
 ghost use Rattle.tx_script.specs.Run.{CanRun};
 ghost use Rattle.worker_logs.specs.Logs.{LogState};
 ghost use Rattle.worker_logs.specs.Rows.{AreLogsUp, IsLogUp, TakesCommit, full_after};
+ghost use Rattle.worker_logs.specs.Shown.{Stood};
 ghost use Rattle.plain_rounds.specs.Plainly.{DrewOnce, after_line, outcome_at};
 ghost use Rattle.plain_rounds.specs.Steps.{Moves, TakesLine};
-ghost use Rattle.plain_rounds.specs.InTurn.{RunsInTurn, RunsWorker};
+ghost use Rattle.plain_rounds.specs.InTurn.{AreMarkedAs, MarksAt, MarksFirst, RunsInTurn, RunsWorker};
+ghost use Rattle.shared_rounds.specs.First.{AreIdle, MarkedFor};
 ghost use Rattle.shared_rounds.specs.Lines.{LinesCome};
 ghost use Rattle.shared_rounds.specs.Below.{AreAllTold, Before, calls_in, calls_of};
 
@@ -22,7 +25,7 @@ use arrayvec::ArrayVec;
 use log_writer::LogFault;
 use outside::Disk;
 use serial_model::{Commit, DRAW_LIMIT, Draft, Memory, Op, Replies, WORKERS, run_in};
-use shared_rounds::{GateCalls, LineGate, LogEnd, WorkersRan};
+use shared_rounds::{GateCalls, LineGate, LogEnd, WorkersRan, count_lines};
 use std::alloc::Global;
 use tx_script::{Line, LineOps, Outcomes, Refused, Round, RoundOutcomes};
 use worker_logs::{WorkerLog, WriteSet};
@@ -45,6 +48,7 @@ pub fn run_workers<D: Disk, G: LineGate>(
     requires growing { length growing.old.items ≡ 8 }
     requires up { AreLogsUp D.tells logs.old.items growing.old.items }
     requires flushed { AllByRecursion (λ log. log.journal.lines ≡ []) logs.old.items }
+    requires idle { AreIdle round.now logs.old.items }
     ensures { RunsInTurn D.tells D.clock D.image_at D.faults round.now engine.old engine.new
         logs.old.items logs.new.items growing.old.items growing.new.items result }
 {
@@ -55,7 +59,7 @@ pub fn run_workers<D: Disk, G: LineGate>(
     ran
 }
 
-// Runs one worker's lines after another's.
+// Runs one worker's lines after another's, behind new marks of their logs.
 fn run_in_turn<D: Disk, G: LineGate>(
     alloc: Global,
     engine: &mut PlainEngine,
@@ -69,8 +73,80 @@ fn run_in_turn<D: Disk, G: LineGate>(
     requires growing { length growing.old ≡ 8 }
     requires up { AreLogsUp D.tells logs.old growing.old }
     requires flushed { AllByRecursion (λ log. log.journal.lines ≡ []) logs.old }
-    ensures runs { (tries : ℕ) → 1 ≤ tries → LinesCome D.tells D.clock D.image_at D.faults tries round.now
-        engine.old engine.new logs.old logs.new growing.old growing.new result }
+    requires idle { AreIdle round.now logs.old }
+    ensures runs { (marks : List (List Stood)) × (readied : List (List Readied))
+        × ((tries : ℕ) → 1 ≤ tries → LinesCome D.tells D.clock D.image_at D.faults tries round.now
+        engine.old engine.new marks readied logs.old logs.new growing.old growing.new result) }
+    ensures epoch { engine.new.clock.epoch ≡ engine.old.clock.epoch }
+    ensures once { IfOk result (λ ran. DrewOnce engine.old engine.new ran.outcomes) }
+    ensures calls { IfOk result (λ ran. AreAllTold 0 ran.outcomes ran.ends.items) }
+{
+    let counts = count_lines(round);
+    mark_all(logs, growing, engine.clock.epoch, &counts);
+    run_marked(alloc, engine, logs, growing, round, gate)
+}
+
+// Marks the log of each worker anew that has lines, so many, before any line is run.
+fn mark_all<D: Disk>(logs: &mut [WorkerLog], growing: &mut [D], clock: u32, counts: &[u32; WORKERS])
+    requires logs { (length logs.old ≡ 8) × (length growing.old ≡ 8) × (length counts.now ≡ 8) }
+    requires up { AreLogsUp D.tells logs.old growing.old }
+    requires flushed { AllByRecursion (λ log. log.journal.lines ≡ []) logs.old }
+    requires clock { 1 ≤ clock }
+    requires idle { (worker : ℕ) (log : LogState) → slice_get logs.old worker ≡ Some log
+        → get_or counts.now worker 0 ≡ 0 → log.mark.epoch ≡ None }
+    ensures marks { MarksFirst D.tells D.clock D.image_at D.faults counts.now 8 clock logs.old logs.new
+        growing.old growing.new }
+{
+    for worker in 0..WORKERS {
+        mark_at(logs, growing, clock, counts, worker);
+    }
+}
+
+// Marks one of them.
+fn mark_at<D: Disk>(
+    logs: &mut [WorkerLog],
+    growing: &mut [D],
+    clock: u32,
+    counts: &[u32; WORKERS],
+    worker: usize,
+)
+    requires worker { (worker < length counts.now) × (worker < length logs.old) × (worker < length growing.old) }
+    requires up { (log : LogState) (bank : D) → slice_get logs.old worker ≡ Some log
+        → slice_get growing.old worker ≡ Some bank → IsLogUp D.tells log bank }
+    requires flushed { (log : LogState) → slice_get logs.old worker ≡ Some log → log.journal.lines ≡ [] }
+    requires clock { 1 ≤ clock }
+    requires idle { (log : LogState) → slice_get logs.old worker ≡ Some log
+        → get_or counts.now worker 0 ≡ 0 → log.mark.epoch ≡ None }
+    ensures one { MarksAt D.tells D.clock D.image_at D.faults (get_or counts.now worker 0) worker clock
+        logs.old logs.new growing.old growing.new }
+{
+    mark_first(
+        &mut logs[worker],
+        &mut growing[worker],
+        clock,
+        counts[worker],
+    );
+}
+
+// Runs one worker's lines after another's, whose logs were marked for them.
+fn run_marked<D: Disk, G: LineGate>(
+    alloc: Global,
+    engine: &mut PlainEngine,
+    logs: &mut [WorkerLog],
+    growing: &mut [D],
+    round: &Round<'_>,
+    gate: &G,
+) -> Result<WorkersRan, Memory>
+    requires lines { CanRun engine.old.decls round.now }
+    requires logs { length logs.old ≡ 8 }
+    requires growing { length growing.old ≡ 8 }
+    requires up { AreLogsUp D.tells logs.old growing.old }
+    requires flushed { AllByRecursion (λ log. log.journal.lines ≡ []) logs.old }
+    requires marked { AreMarkedAs engine.old.clock.epoch round.now logs.old }
+    ensures runs { (marks : List (List Stood)) × (readied : List (List Readied))
+        × ((tries : ℕ) → 1 ≤ tries → LinesCome D.tells D.clock D.image_at D.faults tries round.now
+        engine.old engine.new marks readied logs.old logs.new growing.old growing.new result) }
+    ensures epoch { engine.new.clock.epoch ≡ engine.old.clock.epoch }
     ensures once { IfOk result (λ ran. DrewOnce engine.old engine.new ran.outcomes) }
     ensures calls { IfOk result (λ ran. AreAllTold 0 ran.outcomes ran.ends.items) }
 {
@@ -125,6 +201,23 @@ fn run_at<D: Disk, G: LineGate>(
         worker as u8,
         gate,
     )
+}
+
+// Marks all that is durable of the log of a worker with so many lines, of the epoch before the clock's. The log is up,
+// and nothing waits in it, so nothing is refused. Without a line it stays as it is.
+fn mark_first<D: Disk>(log: &mut WorkerLog, bank: &mut D, clock: u32, lines: u32)
+    requires log { IsLogUp D.tells log.old bank.old }
+    requires flushed { log.old.journal.lines ≡ [] }
+    requires clock { 1 ≤ clock }
+    requires idle { lines ≡ 0 → log.old.mark.epoch ≡ None }
+    ensures marked { MarkedFor D.tells D.clock D.image_at D.faults lines clock log.old log.new bank.old }
+    ensures journal { log.new.journal ≡ log.old.journal }
+    ensures bank { bank.new ≡ bank.old }
+{
+    if lines == 0 {
+        return;
+    }
+    let _marked = log.flush_and_mark(bank, clock);
 }
 
 // Runs a worker's lines, each between two calls of the gate, and then makes durable what waits and marks it. From the

@@ -1,91 +1,61 @@
--- One worker's lines after another's.
-use Rattle.std.proofs.Common.{◌≡◌, ◌∙◌, sym, ap, subst, arith, []}
-use Rattle.std.proofs.lemmas.Result.{err_from_is_err_and}
-use Rattle.lists.specs.Each.{all_at}
-use Rattle.tx_script.specs.Run.{CanRun}
-use Rattle.worker_logs.specs.Logs.{LogState}
+-- The lines are run behind new marks of the logs.
+use Rattle.std.proofs.Common.{◌≡◌, ◌∙◌, ◌≤◌, ap, arith, length, subst, List}
+use Rattle.shared_rounds.specs.FirstLaws.{idle_first}
 use Rattle.shared_rounds.specs.Standing.{Standing}
-use Rattle.plain_rounds.proofs.PlainRun.{plain_kept}
-use Rattle.plain_rounds.proofs.PlainShares.{once_all, plain_all, plain_stops}
-use Rattle.plain_rounds.proofs.WorkersRun.{Others, workers_begin, workers_more, workers_stop_after, workers_stop_in}
+use Rattle.plain_rounds.specs.InTurn.{MarksFirst}
+use Rattle.plain_rounds.proofs.Marked.{come_first, marked_as, marked_flushed, marked_up}
 use Rattle.plain_rounds.proofs.workers.run_in_turn.Goals as goal
 
-pub loop-worker-init : goal.loop-worker-init
-loop-worker-init g c =
-    rw (c.new.ensures, c.new-2.ensures) (workers_begin c.args.round.now c.args.engine.now c.args.logs.now c.args.growing.now)
+pub mark_all-requires-clause-logs : goal.mark_all-requires-clause-logs
+mark_all-requires-clause-logs g c = (c.requires.logs, c.requires.growing, c.count_lines-counts.ensures.workers)
 
-pub run_at-requires-clause-lines : goal.run_at-requires-clause-lines
-run_at-requires-clause-lines g c =
-    let so = c.loop-worker.invariant in
-    subst (λ ds. CanRun ds c.args.round.now)
-    (sym (ap (λ (s : Standing). s.decls) so.first.standing ∙ (plain_kept so.parts c.args.engine.now).0)) c.requires.lines
+pub mark_all-requires-clause-idle : goal.mark_all-requires-clause-idle
+mark_all-requires-clause-idle g c worker log at none =
+    idle_first c.args.round.now c.count_lines-counts.result c.args.logs.now worker log c.count_lines-counts.ensures
+    c.requires.logs c.requires.idle at none
 
-pub run_at-requires-clause-flushed : goal.run_at-requires-clause-flushed
-run_at-requires-clause-flushed g c log at =
-    all_at (λ (log : LogState). log.journal.lines ≡ []) c.args.logs.now c.loop-worker.worker log c.requires.flushed
-    (sym (c.loop-worker.invariant.first.rest_logs c.loop-worker.worker (omega arith)) ∙ at)
+pub run_marked-requires-clause-logs : goal.run_marked-requires-clause-logs
+run_marked-requires-clause-logs g c = c.mark_all.ensures.marks.logs_many ∙ c.requires.logs
 
-pub loop-worker-preserved : goal.loop-worker-preserved
-loop-worker-preserved g c =
-    let so = c.loop-worker.invariant in
-    let others : Others c.loop-worker.worker c.loop-worker.logs c.run_at.new.logs c.loop-worker.growing c.run_at.new.growing =
-    record {
-      logs_stay = c.run_at.ensures.other_logs;
-      banks_stay = c.run_at.ensures.other_files;
-      logs_many = c.run_at.ensures.logs;
-      banks_many = c.run_at.ensures.growing;
-    } in
-    rw (c.in_ok-push.ensures.ok, c.push.ensures.items)
-    (workers_more {outcomes = c.in_ok-outcomes.outcomes} c.in_ok-outcomes.end (omega (arith, c.loop-worker-test.true))
-    (omega (arith, c.loop-worker-test.true, so.first.logs_length, c.requires.logs))
-    (omega (arith, c.loop-worker-test.true, so.first.banks_length, c.requires.growing)) so c.in_ok-outcomes.ensures.mine others)
+pub run_marked-requires-clause-growing : goal.run_marked-requires-clause-growing
+run_marked-requires-clause-growing g c =
+    ap (λ (l : List g.row.D.Denot). length l) c.mark_all.ensures.marks.banks_are ∙ c.requires.growing
 
-pub returns-in_err-outcomes : goal.returns-in_err-outcomes
-returns-in_err-outcomes g c =
-    let p = err_from_is_err_and c.from_residual.result c.from_residual.ensures.1 in
-    let so = c.loop-worker.invariant in
-    let others : Others c.loop-worker.worker c.loop-worker.logs c.run_at.new.logs c.loop-worker.growing c.run_at.new.growing =
-    record {
-      logs_stay = c.run_at.ensures.other_logs;
-      banks_stay = c.run_at.ensures.other_files;
-      logs_many = c.run_at.ensures.logs;
-      banks_many = c.run_at.ensures.growing;
-    } in
-    let stops = workers_stop_in {other = c.in_err-outcomes.field-0.0} (omega (arith, c.loop-worker-test.true))
-    (omega (arith, c.loop-worker-test.true, so.first.logs_length, c.requires.logs))
-    (omega (arith, c.loop-worker-test.true, so.first.banks_length, c.requires.growing)) so c.in_err-outcomes.ensures.mine
-    others in
-    rw p.1 (record {
-      runs = λ tries some. record { come = plain_stops some stops.3 stops.1 stops.4 c.requires.up };
-      once = tt;
-      calls = tt;
-    })
+pub run_marked-requires-clause-up : goal.run_marked-requires-clause-up
+run_marked-requires-clause-up g c =
+    marked_up c.args.round.now c.count_lines-counts.result c.engine.inside.clock.epoch c.args.logs.now
+    c.mark_all.new.logs c.args.growing.now c.mark_all.new.growing c.requires.logs c.requires.growing
+    c.mark_all.ensures.marks c.requires.up
 
-pub returns-in_err-push : goal.returns-in_err-push
-returns-in_err-push g c =
-    let p = err_from_is_err_and c.from_residual-in_err-push.result c.from_residual-in_err-push.ensures.1 in
-    let so = c.loop-worker.invariant in
-    let others : Others c.loop-worker.worker c.loop-worker.logs c.run_at.new.logs c.loop-worker.growing c.run_at.new.growing =
-    record {
-      logs_stay = c.run_at.ensures.other_logs;
-      banks_stay = c.run_at.ensures.other_files;
-      logs_many = c.run_at.ensures.logs;
-      banks_many = c.run_at.ensures.growing;
-    } in
-    let more = workers_more {outcomes = c.in_ok-outcomes.outcomes} c.in_ok-outcomes.end
-    (omega (arith, c.loop-worker-test.true))
-    (omega (arith, c.loop-worker-test.true, so.first.logs_length, c.requires.logs))
-    (omega (arith, c.loop-worker-test.true, so.first.banks_length, c.requires.growing)) so c.in_ok-outcomes.ensures.mine others in
-    let stops = workers_stop_after (omega (arith, c.loop-worker-test.true)) more in
-    rw p.1 (record {
-      runs = λ tries some. record { come = plain_stops some stops.3 stops.1 stops.4 c.requires.up };
-      once = tt;
-      calls = tt;
-    })
+pub run_marked-requires-clause-flushed : goal.run_marked-requires-clause-flushed
+run_marked-requires-clause-flushed g c =
+    marked_flushed c.args.round.now c.count_lines-counts.result c.engine.inside.clock.epoch c.args.logs.now
+    c.mark_all.new.logs c.args.growing.now c.mark_all.new.growing c.requires.logs c.requires.growing
+    c.mark_all.ensures.marks c.requires.flushed
 
-pub returns : goal.returns
-returns g c = record {
-  runs = λ tries some. record { come = plain_all some (omega (arith, c.loop-worker-test.false)) c.loop-worker.invariant };
-  once = once_all c.loop-worker.invariant;
-  calls = c.loop-worker.invariant.calls;
-}
+pub run_marked-requires-clause-marked : goal.run_marked-requires-clause-marked
+run_marked-requires-clause-marked g c =
+    let epoch : c.engine.inside.clock.epoch ≡ c.args.engine.now.clock.epoch =
+    ap (λ (s : Standing). s.clock.epoch) c.engine.view_is in
+    marked_as c.args.round.now c.count_lines-counts.result c.args.engine.now.clock.epoch c.args.logs.now
+    c.mark_all.new.logs c.args.growing.now c.mark_all.new.growing c.requires.logs c.requires.growing
+    (subst (λ e. MarksFirst g.D.Disk.tells g.D.Disk.clock g.D.Disk.image_at g.D.Disk.faults c.count_lines-counts.result 8 e
+    c.args.logs.now c.mark_all.new.logs c.args.growing.now c.mark_all.new.growing) epoch c.mark_all.ensures.marks)
+    c.count_lines-counts.ensures
+
+pub returns-clause-runs : goal.returns-clause-runs
+returns-clause-runs g c =
+    let epoch : c.engine.inside.clock.epoch ≡ c.args.engine.now.clock.epoch =
+    ap (λ (s : Standing). s.clock.epoch) c.engine.view_is in
+    let some : 1 ≤ c.args.engine.now.clock.epoch = omega (arith, epoch, c.engine.invariant.0.some_epoch) in
+    let marks = subst (λ e. MarksFirst g.D.Disk.tells g.D.Disk.clock g.D.Disk.image_at g.D.Disk.faults
+    c.count_lines-counts.result 8 e c.args.logs.now c.mark_all.new.logs c.args.growing.now c.mark_all.new.growing) epoch
+    c.mark_all.ensures.marks in
+    let told = c.run_marked.ensures.runs in (
+      told.0,
+      told.1,
+      λ tries often. come_first c.args.round.now c.count_lines-counts.result c.args.engine.now c.run_marked.new.engine
+          c.args.logs.now c.mark_all.new.logs c.run_marked.new.logs c.args.growing.now c.mark_all.new.growing
+          c.run_marked.new.growing c.count_lines-counts.ensures some c.requires.logs c.requires.growing marks
+          c.run_marked.result (told.2 tries often),
+    )

@@ -1,6 +1,6 @@
 -- The lines of the first workers were run.
 use Rattle.plain_rounds.specs.InTurn.{WorkersSoFar}
-use Rattle.plain_rounds.proofs.workers.run_in_turn.Given as goal
+use Rattle.plain_rounds.proofs.workers.run_marked.Given as goal
 
 abbrev pub invariant-loop-worker : goal.invariant-loop-worker
 invariant-loop-worker g l =

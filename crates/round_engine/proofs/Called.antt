@@ -2,6 +2,7 @@
 use Rattle.std.proofs.Common.{◌≡◌, ◌∙◌, ◌++◌, ◌∷◌, ◌+◌, refl, ap, ℕ, true, List, [], map, Option, Result, Ok, Err}
 use Rattle.lists.specs.declared.memory.OrMemory.{OrMemory}
 use Rattle.lists.specs.declared.memory.OrMemory.TheVariants as or
+use Rattle.wire_form.specs.declared.clock.Mark.{Mark}
 use Rattle.log_writer.specs.declared.vault.Vault.{Vault}
 use Rattle.script_grammar.specs.declared.lines.KeeperLine.{KeeperLine}
 use Rattle.script_grammar.specs.declared.lines.KeeperLine.TheVariants as asks
@@ -53,15 +54,16 @@ glean_run (Err or.Memory) = refl
 
 -- the answer to a line that was run says so
 pub line_run : {D : Type 0} (tells : D → Option (List ℕ)) (clock : D → ℕ) (image_at : D → ℕ → List ℕ → Type 0)
-    (faults : D → ℕ) (line : KeeperLine) (answer : Answer) (refusal : Option End) (old new : RuntimeState)
-    (before now : Vault D) → StepsLine tells clock image_at faults line answer refusal old new before now
-    → is_answered answer ≡ true
-line_run tells clock image_at faults asks.Epoch answer refusal old new before now steps = epoch_run answer old new steps.0
-line_run tells clock image_at faults asks.Save answer refusal old new before now steps =
+    (faults : D → ℕ) (marks : List Mark) (line : KeeperLine) (answer : Answer) (refusal : Option End)
+    (old new : RuntimeState) (before now : Vault D)
+    → StepsLine tells clock image_at faults marks line answer refusal old new before now → is_answered answer ≡ true
+line_run tells clock image_at faults marks asks.Epoch answer refusal old new before now steps =
+    epoch_run answer old new steps.0
+line_run tells clock image_at faults marks asks.Save answer refusal old new before now steps =
     ap is_answered steps.0.answer_is ∙ save_run steps.0.result
-line_run tells clock image_at faults asks.Glean answer refusal old new before now steps =
+line_run tells clock image_at faults marks asks.Glean answer refusal old new before now steps =
     ap is_answered steps.answer_is ∙ glean_run steps.result
-line_run tells clock image_at faults asks.Drop answer refusal old new before now steps = absurd steps
+line_run tells clock image_at faults marks asks.Drop answer refusal old new before now steps = absurd steps
 
 -- ---- all threads
 

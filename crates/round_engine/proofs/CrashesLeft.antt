@@ -1,56 +1,72 @@
 -- What a round leaves of the crashes of all devices, from what it left of each of them.
-use Rattle.std.proofs.Common.{◌≡◌, ◌∙◌, ◌≤◌, ◌<◌, ◌+◌, ◌-◌, ◌++◌, ◌∷◌, inl, inr, sym, ap, subst, refl, ℕ}
-use Rattle.std.proofs.Common.{List, [], length, Bool, true, false, cond, Option, Some, None, arith}
+use Rattle.std.proofs.Common.{◌≡◌, ◌∙◌, ◌≤◌, ◌<◌, ◌+◌, ◌-◌, ◌⊎◌, ◌++◌, ◌∷◌, inl, inr, sym, ap, subst, refl, ℕ}
+use Rattle.std.proofs.Common.{get_or, List, [], length, Bool, take, true, false, cond, Option, Some, None, arith}
 use Rattle.std.specs.Prelude.{◌&&◌, IsSome, map, option_to_list, slice_get, is_some, not}
 use Rattle.std.specs.Option.{option_map}
-use Rattle.std.specs.List.{Contains}
+use Rattle.std.specs.List.{AllByRecursion, Contains}
 use Rattle.std.proofs.lemmas.Bool.{cases_lt}
 use Rattle.std.proofs.lemmas.List.{append-nil, length-append, length-map, nil_from_length}
-use Rattle.lists.specs.Elements.{any_in}
+use Rattle.std.proofs.lemmas.Option.{same_Some}
+use Rattle.lists.specs.Elements.{any_in, at_below, at_in}
 use Rattle.lists.specs.Fronts.{IsFront, front_take, front_then}
+use Rattle.outside.specs.Disk.{Goes, Same}
+use Rattle.outside.specs.Fronts.{AllBegin, KeepsSince, begins_less, keeps_same}
 use Rattle.log_writer.specs.Vault.{disk_in}
+use Rattle.log_writer.specs.declared.records.Cut.{Cut}
 use Rattle.outside.specs.declared.device.Device.TheVariants.{Bank, Save}
 use Rattle.log_writer.specs.declared.records.Tie.{Tie}
 use Rattle.log_writer.specs.declared.vault.Vault.{Vault}
 use Rattle.serial_model.specs.declared.number.Commit.{Commit}
+use Rattle.wire_form.specs.declared.clock.Mark.{Mark}
 use Rattle.wire_form.specs.declared.savepoint.Savepoint.{Savepoint}
 use Rattle.log_writer.specs.Points.{point_of, sequence_of}
 use Rattle.log_writer.specs.declared.saved.Saved.{Saved}
 use Rattle.snapshot_store.specs.Store.{bytes_of_pages}
-use Rattle.worker_logs.specs.Saves.{closed_number, growing_number}
+use Rattle.worker_logs.specs.Logs.{LogState}
+use Rattle.worker_logs.specs.Saves.{closed_number, growing_number, lengths_by}
+use Rattle.worker_logs.specs.SavesLaws.{growing_length}
+use Rattle.worker_logs.specs.Shown.{IsShownSince, Stood}
+use Rattle.worker_logs.specs.ShownLaws.{keeps_now}
+use Rattle.shared_rounds.specs.Shares.{shown_epochs}
 use Rattle.worker_logs.specs.declared.savepoints.Side.{Side}
+use Rattle.joint_crashes.specs.Causal.{AreSince, BankSince, Since}
+use Rattle.joint_crashes.specs.Crashes.CausalSteps.{since_goes_on, since_grown}
 use Rattle.joint_crashes.specs.Cutting.{AreCut, CutsLeave}
 use Rattle.joint_crashes.specs.Images.{Images, counted_of, epoch_of}
 use Rattle.joint_crashes.specs.JointCrash.{CrashesNow, HasCut, IsJointCrash, IsSince, KeepsCrashes, Moments}
 use Rattle.joint_crashes.specs.JointCrash.{parts_of}
 use Rattle.joint_crashes.specs.Story.{BankOpen, IsTold, StandsFor, Story}
-use Rattle.joint_crashes.specs.Crashes.Instants.{keeps_then}
+use Rattle.joint_crashes.specs.Crashes.Instants.{keeps_then, lasts_goes}
 use Rattle.joint_crashes.specs.Crashes.Standing.{crash_covers}
 use Rattle.tx_script.specs.Run.{Ran}
-use Rattle.round_engine.specs.Crashes.{BankShut, CarriesCrashes, front_of, KnowsBefore, LeavesCrashes, StaysReady}
+use Rattle.round_engine.specs.Crashes.{BankShut, CarriesCrashes, front_of, KnowsBefore, LeavesCrashes, LeavesSince}
+use Rattle.round_engine.specs.Crashes.{StaysReady}
 use Rattle.round_engine.specs.Ends.{comes_to_save, comes_to_swap, durable_of, has_sequence, other_failed}
 use Rattle.round_engine.specs.Ends.{is_closed, swaps, where_true}
 use Rattle.tx_script.specs.Causes.{keeper_at_end}
-use Rattle.round_engine.specs.Logs.{AreClosedFiles, AreLogs}
+use Rattle.round_engine.specs.Logs.{AreClosedFiles, AreLogs, IsFirstAt, LeavesLog}
 use Rattle.round_engine.specs.RanRound.{LeavesVault, LogsRan}
 use Rattle.round_engine.specs.Saves.{saves_told}
-use Rattle.round_engine.specs.Sides.{closed_in, closed_numbers, other_side}
+use Rattle.round_engine.specs.Sides.{closed_in, closed_numbers, growing_in, other_side}
 use Rattle.round_engine.specs.Standing.{RuntimeState, StandsOn}
 use Rattle.round_engine.specs.Swaps.{behind_swap, CutsBanks, since_swap}
 use Rattle.round_engine.proofs.BanksCut.{closed_in_numbers, numbers_closed}
 use Rattle.round_engine.proofs.BanksShut.{shut_of}
 use Rattle.round_engine.proofs.Keeping.{at_append, bytes_front, goes_front, some_front, told_newest}
-use Rattle.round_engine.proofs.Numbered.{closed_at, closed_many, grows_not_closed}
+use Rattle.round_engine.proofs.Numbered.{closed_at, closed_many, growing_at, growing_many, grows_not_closed}
+use Rattle.round_engine.proofs.Numbered.{same_growing}
+use Rattle.round_engine.proofs.Numbered.{numbered}
+use Rattle.round_engine.proofs.SinceCuts.{cuts_since}
 use Rattle.round_engine.proofs.Numbered.{other_closed, other_growing}
 use Rattle.round_engine.proofs.StopsNow.{epoch_at, last_at, newest_now, rise_at}
 use Rattle.round_engine.proofs.Stories.{count_begun, counted_behind, goes_after, pages_behind, point_begun}
-use Rattle.round_engine.proofs.Stories.{point_behind}
+use Rattle.round_engine.proofs.Stories.{begun_at, open_same, point_behind, shut_same}
 use Rattle.round_engine.proofs.Stories.{same_before, story_after}
 use Rattle.round_engine.proofs.Swapping.{cuts_left, cuts_stay}
-use Rattle.round_engine.proofs.Whole.{and_first, none_some, not_begun}
-use Rattle.round_engine.proofs.Places.{item_at, map_at}
-use Rattle.round_engine.proofs.FileBytes.{of_side, side_growing, side_closed}
-use Rattle.round_engine.proofs.UncutVault.{CutsDone, before_cuts}
+use Rattle.round_engine.proofs.Whole.{among_of, and_first, none_some, not_begun}
+use Rattle.round_engine.proofs.Places.{item_at, map_at, map_there}
+use Rattle.round_engine.proofs.FileBytes.{of_side, side_growing, side_closed, growing_below, closed_below}
+use Rattle.round_engine.proofs.UncutVault.{CutsDone, before_cuts, logs_many}
 use Rattle.round_engine.proofs.CrashesUncut.{LeftUncut, left_uncut}
 
 true_false : true ≡ false → ⊥
@@ -312,6 +328,361 @@ module _ {D : Type 0} {tells : D → Option (List ℕ)} {clock : D → ℕ} {ima
             (sym (counted_behind story last begun (front_of new.store) made k n later))
             (front_take (counted_of (point_begun last begun k) n) (made n))
 
+    -- ---- moments of marks
+
+    -- a growing log file, as the round began and before the cuts
+    record Grew (w : ℕ) (bank : D) : Type 0 where
+      bank_was : D
+      epochs : List (Option ℕ)
+      log : LogState
+      was_there : disk_in before (Bank (growing_number old.side w)) ≡ Some bank_was
+      left : LeavesLog tells clock image_at (commits w) (logged w) (was w) (durable w) (ran_logs.marks w)
+          (ran_logs.shown w) epochs bank_was bank log
+
+    grew : (w : ℕ) (bank : D) → w < 8 → disk_in between (Bank (growing_number old.side w)) ≡ Some bank → Grew w bank
+    grew w bank below there =
+        let log_was = item_at old.logs w (omega (arith, below, stood.workers)) in
+        let log = item_at leaves.logs w (omega (arith, below, logs_many leaves)) in
+        let bank_was = item_at (growing_in old.side before) w
+        (omega (arith, below, growing_many old.side before stood.whole)) in
+        let epochs = item_at ran.beside.marks w (omega (arith, below, marks_many)) in
+        let was_there : disk_in before (Bank (growing_number old.side w)) ≡ Some bank_was.0 =
+        growing_at old.side before w ∙ bank_was.1 in
+        record {
+          bank_was = bank_was.0;
+          epochs = epochs.0;
+          log = log.0;
+          was_there = was_there;
+          left = ran_logs.each w log_was.0 log.0 bank_was.0 bank epochs.0 log_was.1 log.1 was_there
+              ((before_cuts leaves).grows w ∙ there) epochs.1;
+        }
+
+    -- the moment of a mark, or else this one
+    abbrev stood_since : Option Stood → ℕ → ℕ
+    stood_since None end = end
+    stood_since (Some m) end = m.since
+
+    abbrev place_since : Option ℕ → ℕ → ℕ → ℕ
+    place_since None w end = end
+    place_since (Some place) w end = stood_since (slice_get (ran_logs.shown w) place) end
+
+    abbrev seen_since : Option (List ℕ) → ℕ → ℕ → ℕ
+    seen_since None w end = end
+    seen_since (Some places) w end = place_since (slice_get places w) w end
+
+    -- the clock of a log file before the cuts
+    abbrev clock_in : Option D → ℕ
+    clock_in None = 0
+    clock_in (Some bank) = clock bank
+
+    abbrev file_since : (k n : ℕ) → ((w : ℕ) × (n ≡ growing_number old.side w)) ⊎ ((w : ℕ) ×
+        (n ≡ closed_number old.side w))
+        → ℕ
+    file_since k n (inl grows) =
+        seen_since (slice_get ran.beside.seen (k - (last + 1))) grows.0 (clock_in (disk_in between (Bank n)))
+    file_since k n (inr shut) = clock_in (disk_in before (Bank n))
+
+    module _ (given : Since) (given_so : AreSince clock image_at story given from low last (parts_of before)) where
+      abbrev since_by : (k n : ℕ) → (last < k) ⊎ (k ≤ last) → ℕ
+      since_by k n (inl later) = file_since k n (numbered old.side n)
+      since_by k n (inr before) = given k n
+
+      -- what was given, up to the newest, and then the moments of the marks that were seen
+      abbrev since : Since
+      since k n = since_by k n (cases_lt last k)
+
+      since_old : (k n : ℕ) → k ≤ last → since k n ≡ given k n
+      since_old k n first = by (cases_lt last k)
+        where
+          by : (x : (last < k) ⊎ (k ≤ last)) → since_by k n x ≡ given k n
+          by (inl later) = absurd (omega (arith, later, first))
+          by (inr before) = refl
+
+      since_new : (k n : ℕ) → last < k → since k n ≡ file_since k n (numbered old.side n)
+      since_new k n behind = by (cases_lt last k)
+        where
+          by : (x : (last < k) ⊎ (k ≤ last)) → since_by k n x ≡ file_since k n (numbered old.side n)
+          by (inl later) = refl
+          by (inr before) = absurd (omega (arith, before, behind))
+
+      since_growing : (k w : ℕ) → last < k → since k (growing_number old.side w)
+          ≡ seen_since (slice_get ran.beside.seen (k - (last + 1))) w
+          (clock_in (disk_in between (Bank (growing_number old.side w))))
+      since_growing k w behind = since_new k (growing_number old.side w) behind
+          ∙ by (numbered old.side (growing_number old.side w))
+        where
+          by : (x : ((v : ℕ) × (growing_number old.side w ≡ growing_number old.side v))
+              ⊎ ((v : ℕ) × (growing_number old.side w ≡ closed_number old.side v)))
+              → file_since k (growing_number old.side w) x
+              ≡ seen_since (slice_get ran.beside.seen (k - (last + 1))) w
+              (clock_in (disk_in between (Bank (growing_number old.side w))))
+          by (inl grows) = ap (λ v. seen_since (slice_get ran.beside.seen (k - (last + 1))) v
+              (clock_in (disk_in between (Bank (growing_number old.side w)))))
+              (sym (same_growing old.side w grows.0 grows.1))
+          by (inr shut) = absurd (grows_not_closed old.side w shut.0 shut.1)
+
+      since_closed : (k w : ℕ) (bank : D) → last < k → disk_in before (Bank (closed_number old.side w)) ≡ Some bank
+          → since k (closed_number old.side w) ≡ clock bank
+      since_closed k w bank behind there = since_new k (closed_number old.side w) behind
+          ∙ by (numbered old.side (closed_number old.side w)) ∙ ap clock_in there
+        where
+          by : (x : ((v : ℕ) × (closed_number old.side w ≡ growing_number old.side v))
+              ⊎ ((v : ℕ) × (closed_number old.side w ≡ closed_number old.side v)))
+              → file_since k (closed_number old.side w) x ≡ clock_in (disk_in before (Bank (closed_number old.side w)))
+          by (inl grows) = absurd (grows_not_closed old.side grows.0 w (sym grows.1))
+          by (inr shut) = refl
+
+      -- from there on a log file keeps what a savepoint counts of it
+      abbrev Fresh : ℕ → ℕ → D → D → Type 0
+      Fresh k n bank_was bank = (clock bank_was ≤ since k n) × (since k n ≤ clock bank)
+          × KeepsSince clock image_at bank (since k n) (after.counted k n)
+
+      by_end : (k n : ℕ) (bank_was bank : D) (bytes : List ℕ) → since k n ≡ clock bank → clock bank_was ≤ clock bank
+          → AllBegin (image_at bank (clock bank)) bytes → IsFront (after.counted k n) bytes → Fresh k n bank_was bank
+      by_end k n bank_was bank bytes is later begins front = (
+        omega (arith, is, later),
+        omega (arith, is),
+        subst (λ m. KeepsSince clock image_at bank m (after.counted k n)) (sym is)
+            (keeps_now clock image_at bank (after.counted k n)
+            (begins_less (image_at bank (clock bank)) (after.counted k n) bytes begins front)),
+      )
+
+      by_reads : (k n : ℕ) (bank_was bank : D) (bytes : List ℕ) → since k n ≡ clock bank_was
+          → Goes clock image_at Same bank_was bank → AllBegin (image_at bank_was (clock bank_was)) bytes
+          → IsFront (after.counted k n) bytes → Fresh k n bank_was bank
+      by_reads k n bank_was bank bytes is goes begins front = (
+        omega (arith, is),
+        omega (arith, is, goes.later),
+        subst (λ m. KeepsSince clock image_at bank m (after.counted k n)) (sym is)
+            (keeps_same (omega arith) goes (keeps_now clock image_at bank_was (after.counted k n)
+            (begins_less (image_at bank_was (clock bank_was)) (after.counted k n) bytes begins front))),
+      )
+
+      -- a mark that a save saw: its moment, and what the savepoint counts is what it does
+      seen_mark : (k w place : ℕ) (places : List ℕ) (m : Stood) (saved : Saved) → slice_get begun k ≡ Some saved
+          → slice_get ran.beside.seen k ≡ Some places → slice_get places w ≡ Some place
+          → slice_get (ran_logs.shown w) place ≡ Some m
+          → counted_of (after.point (last + 1 + k)) (growing_number old.side w) ≡ m.mark.length
+      seen_mark k w place places m saved at told here there =
+          let by = ran_logs.placed k saved places at told in
+          let one = by.1.each w place here in
+          let same : one.0 ≡ m = same_Some one.0 m (sym one.1 ∙ there) in
+          let marked : List ℕ = map (λ (x : Mark). x.length) by.0 in
+          ap (λ (p : Option Savepoint). counted_of p (growing_number old.side w))
+          (point_behind story last begun (front_of new.store) made (last + 1 + k) (omega arith)
+          ∙ begun_at story last begun (front_of new.store) made k saved at)
+          ∙ ap (λ l. get_or l (growing_number old.side w) 0) by.2.saves.lengths
+          ∙ ap (λ s. get_or (lengths_by s marked by.2.beside.closed) (growing_number old.side w) 0) by.2.growing
+          ∙ growing_length old.side marked by.2.beside.closed w m.mark.length
+          (map_there (λ (x : Mark). x.length) by.0 w one.0.mark one.2
+          ∙ ap (λ (x : Stood). Some x.mark.length) same)
+          (length-map by.0 (λ (x : Mark). x.length) ∙ by.1.workers ∙ sym by.2.workers)
+
+      growing_fresh : (w k : ℕ) (bank : D) (is : Grew w bank) → w < 8
+          → disk_in between (Bank (growing_number old.side w)) ≡ Some bank → last < k → k ≤ high
+          → Fresh k (growing_number old.side w) is.bank_was bank
+      growing_fresh w k bank is below there behind within =
+          by_seen (slice_get ran.beside.seen (k - (last + 1))) refl
+        where
+          counted_front : IsFront (after.counted k (growing_number old.side w)) (durable w)
+          counted_front = (front_at k w behind within below).0
+
+          at_end_of : since k (growing_number old.side w) ≡ clock bank → Fresh k
+              (growing_number old.side w) is.bank_was bank
+          at_end_of same = by_end k (growing_number old.side w) is.bank_was bank
+              (durable w) same is.left.ran.grows.later
+              is.left.ran.journal_of.durable.begins counted_front
+
+          same_clock : clock_in (disk_in between (Bank (growing_number old.side w))) ≡ clock bank
+          same_clock = ap clock_in there
+
+          by_mark : (places : List ℕ) (place : ℕ) (m : Stood) → slice_get ran.beside.seen (k - (last + 1)) ≡ Some places
+              → slice_get places w ≡ Some place → slice_get (ran_logs.shown w) place ≡ Some m
+              → since k (growing_number old.side w) ≡ m.since
+              → Fresh k (growing_number old.side w) is.bank_was bank
+          by_mark places place m told here shown same =
+              let saved = item_at begun (k - (last + 1)) (omega (arith, behind, within)) in
+              let at : last + 1 + (k - (last + 1)) ≡ k = omega (arith, behind) in
+              let size : counted_of (after.point k) (growing_number old.side w) ≡ m.mark.length =
+              ap (λ j. counted_of (after.point j) (growing_number old.side w)) (sym at)
+              ∙ seen_mark (k - (last + 1)) w place places m saved.0 saved.1 told here shown in
+              let stands = among_of (IsShownSince clock image_at (durable w) (clock is.bank_was) bank
+              (ran_logs.marks w))
+              (ran_logs.shown w) m is.left.since (at_in (ran_logs.shown w) place m shown) in
+              let counts : after.counted k (growing_number old.side w) ≡ take m.mark.length (durable w) =
+              counted_behind story last begun (front_of new.store) made k (growing_number old.side w) behind
+              ∙ ap (λ c. take c (made (growing_number old.side w))) (ap (λ (p : Option Savepoint). counted_of p
+              (growing_number old.side w))
+              (sym (point_behind story last begun (front_of new.store) made k behind)) ∙ size)
+              ∙ ap (take m.mark.length) (side_growing old.side durable closed w) in (
+                omega (arith, same, stands.begun),
+                omega (arith, same, stands.come),
+                subst (λ t. KeepsSince clock image_at bank t (after.counted k (growing_number old.side w))) (sym same)
+                    (subst (KeepsSince clock image_at bank m.since) (sym counts) stands.keeps),
+              )
+
+          by_place : (places : List ℕ) → slice_get ran.beside.seen (k - (last + 1)) ≡ Some places → (x : Option ℕ)
+              → slice_get places w ≡ x → since k (growing_number old.side w) ≡ place_since x w (clock_in
+              (disk_in between (Bank (growing_number old.side w))))
+              → Fresh k (growing_number old.side w) is.bank_was bank
+          by_place places told None here same = at_end_of (same ∙ same_clock)
+          by_place places told (Some place) here same = by_stood (slice_get (ran_logs.shown w) place) refl same
+            where
+              by_stood : (y : Option Stood) → slice_get (ran_logs.shown w) place ≡ y
+                  → since k (growing_number old.side w) ≡ stood_since y (clock_in (disk_in between (Bank
+                  (growing_number old.side w)))) → Fresh k (growing_number old.side w) is.bank_was bank
+              by_stood None shown same = at_end_of (same ∙ same_clock)
+              by_stood (Some m) shown same = by_mark places place m told here shown same
+
+          by_seen : (x : Option (List ℕ)) → slice_get ran.beside.seen (k - (last + 1)) ≡ x
+              → Fresh k (growing_number old.side w) is.bank_was bank
+          by_seen None told = at_end_of (since_growing k w behind
+              ∙ ap (λ y. seen_since y w (clock_in (disk_in between (Bank (growing_number old.side w))))) told
+              ∙ same_clock)
+          by_seen (Some places) told = by_place places told (slice_get places w) refl (since_growing k w behind
+              ∙ ap (λ y. seen_since y w (clock_in (disk_in between (Bank (growing_number old.side w))))) told)
+
+      -- what was given is so of the story that goes on
+      given_on : (n : ℕ) (bank : D) → disk_in before (Bank n) ≡ Some bank
+          → BankSince clock image_at (λ k. after.counted k n) (λ k. since k n) (from.bank n) low last bank
+          (HasCut before.cuts.items (Bank n))
+      given_on n bank there =
+          let was_so = given_so n bank there in
+          let same = same_before story last begun (front_of new.store) made in record {
+            come = λ k at_least at_most. omega (arith, was_so.come k at_least at_most, since_old k n at_most);
+            past = λ k at_least at_most began behind cut less.
+                omega (arith, was_so.past k at_least at_most began behind cut less, since_old k n at_most);
+            kept = λ k m at_least at_most from_then since_then come uncut.
+                subst (AllBegin (image_at bank m)) (sym (same.counted k n at_most))
+                (was_so.kept k m at_least at_most from_then (omega
+                (arith, since_then, since_old k n at_most)) come uncut);
+          }
+
+      since_between : AreSince clock image_at after since from low high (parts_of between)
+      since_between n bank there = subst (λ (c : List Cut). BankSince clock image_at (λ k. after.counted k n)
+          (λ k. since k n) (from.bank n) low high bank (HasCut c (Bank n))) (sym leaves.files.uncut)
+          (elim (numbered old.side n) [
+            | inl grows ↦
+                let w = grows.0 in
+                let here : disk_in between (Bank (growing_number old.side w)) ≡ Some bank =
+                subst (λ k. disk_in between (Bank k) ≡ Some bank) grows.1 there in
+                let below : w < 8 = growing_below old.side between (before_cuts leaves).whole w bank here in
+                let is = grew w bank below here in
+                subst (λ j. BankSince clock image_at (λ k. after.counted k j) (λ k. since k j)
+                (from.bank j) low high bank
+                (HasCut before.cuts.items (Bank j))) (sym grows.1)
+                (since_grown (given_on (growing_number old.side w) is.bank_was is.was_there)
+                (open_same from (same_before story last begun (front_of new.store) made) (growing_number old.side w)
+                (known.growing w is.bank_was below is.was_there)) is.left.ran.grows
+                (λ k behind within. growing_fresh w k bank is below here behind within))
+            | inr shut ↦
+                let w = shut.0 in
+                let here : disk_in between (Bank (closed_number old.side w)) ≡ Some bank =
+                subst (λ k. disk_in between (Bank k) ≡ Some bank) shut.1 there in
+                let below : w < 8 = closed_below old.side between (before_cuts leaves).whole w bank here in
+                let bank_was = item_at (closed_in old.side before) w
+                (omega (arith, below, closed_many old.side before stood.whole)) in
+                let was_there : disk_in before (Bank (closed_number old.side w)) ≡ Some bank_was.0 =
+                closed_at old.side before w ∙ bank_was.1 in
+                let read = leaves.files.reads w bank_was.0 bank was_there here in
+                let was_shut = shut_same from (same_before story last begun (front_of new.store) made)
+                (closed_number old.side w) (known.shut w bank_was.0 below was_there) in
+                subst (λ j. BankSince clock image_at (λ k. after.counted k j) (λ k. since k j)
+                (from.bank j) low high bank
+                (HasCut before.cuts.items (Bank j))) (sym shut.1)
+                (since_goes_on (given_on (closed_number old.side w) bank_was.0 was_there) was_shut.past was_shut.counts
+                (lasts_goes read.moments)
+                (λ m past come c image.
+                let from_then = read.moments.from m c past come image in
+                subst (IsFront (closed w)) from_then.2 (was_shut.now from_then.0 from_then.1))
+                (λ k behind within. by_reads k (closed_number old.side w) bank_was.0 bank (closed w)
+                (since_closed k w bank_was.0 behind was_there) read.moments was_shut.now
+                (front_at k w behind within below).1))
+          ])
+
+      since_end : (b : Bool) → comes_to_swap ran ≡ b → AreSince clock image_at after since from low high (parts_of now)
+      since_end false is = subst (λ v. AreSince clock image_at after since from low high (parts_of v))
+          (sym (leaves.files.left is)) since_between
+      since_end true is =
+          let cut = swapped (swaps ran) refl is in
+          let cuts : CutsDone leaves = leaves.files.cut is in
+          let point : after.point high ≡ new.save.newest = ap after.point (sym cut.newest_is) ∙ newest_told.1 in
+          let bank_of : (n : ℕ) → Contains (closed_numbers old.side) n
+          → (bank : D) × (disk_in between (Bank n) ≡ Some bank) = λ n has.
+          let at = numbers_closed old.side n has in
+          let bank = item_at (closed_in old.side between) at.0
+          (omega (arith, at.1, closed_many old.side between (before_cuts leaves).whole)) in
+          (bank.0, ap (λ k. disk_in between (Bank k)) at.2 ∙ closed_at old.side between at.0 ∙ bank.1) in
+          cuts_since tells clock image_at faults after since from low high (closed_numbers old.side) cuts.0 between now
+          (subst (λ n. CutsBanks tells clock image_at faults n
+          (closed_numbers old.side) cuts.0 between now) cut.newest_is
+          cuts.2)
+          (λ n has. ap is_some (bank_of n has).1)
+          (λ n has.
+          let at = numbers_closed old.side n has in
+          let bank = bank_of n has in
+          nil_from_length (after.counted high n) (uncut.told.sized n high bank.0 bank.1 uncut.told.save.ordered
+          (omega arith)
+          ∙ ap (λ (p : Option Savepoint). counted_of p n) point
+          ∙ ap (counted_of new.save.newest) at.2 ∙ leaves.files.nothing is at.0 at.1))
+          since_between
+
+      since_left : LeavesSince tells clock image_at after from low last
+          (length begun) given ran_logs.shown old.side ran before
+          now
+      since_left = record {
+        since = since;
+        same = since_old;
+        stood = since_end (comes_to_swap ran) refl;
+        marked = λ k w place places m below told here there.
+            let saved = item_at begun k below in (
+              since_growing (last + 1 + k) w (omega arith)
+                  ∙ ap (λ j. seen_since (slice_get ran.beside.seen j) w
+                  (clock_in (disk_in between (Bank (growing_number old.side w))))) (place_of k)
+                  ∙ ap (λ x. seen_since x w (clock_in (disk_in between (Bank (growing_number old.side w))))) told
+                  ∙ ap (λ x. place_since x w (clock_in (disk_in between (Bank (growing_number old.side w))))) here
+                  ∙ ap (λ x. stood_since x (clock_in (disk_in between (Bank (growing_number old.side w))))) there,
+              seen_mark k w place places m saved.0 saved.1 told here there,
+            );
+        behind = λ k w bank told there. since_growing (last + 1 + k) w (omega arith)
+            ∙ ap (λ j. seen_since (slice_get ran.beside.seen j) w
+            (clock_in (disk_in between (Bank (growing_number old.side w))))) (place_of k)
+            ∙ ap (λ x. seen_since x w (clock_in (disk_in between (Bank (growing_number old.side w))))) told
+            ∙ ap clock_in (sym ((before_cuts leaves).grows w) ∙ there);
+        shut = λ k w bank there. since_closed (last + 1 + k) w bank (omega arith) there;
+      }
+        where
+          place_of : (k : ℕ) → (last + 1 + k) - (last + 1) ≡ k
+          place_of k = omega arith
+
+    -- what was shown, and since when
+    shown_since : (w : ℕ) (bank_was bank : D) → w < 8 → disk_in before (Bank
+        (growing_number old.side w)) ≡ Some bank_was
+        → disk_in now (Bank (growing_number old.side w)) ≡ Some bank → IsFirstAt (clock bank_was) (ran_logs.shown w)
+        × AllByRecursion (IsShownSince clock image_at (durable w) (clock bank_was) bank (ran_logs.marks w))
+        (ran_logs.shown w)
+    shown_since w bank_was bank below was_there there =
+        let log_was = item_at old.logs w (omega (arith, below, stood.workers)) in
+        let log = item_at leaves.logs w (omega (arith, below, logs_many leaves)) in
+        let epochs = item_at ran.beside.marks w (omega (arith, below, marks_many)) in
+        let left = ran_logs.each w log_was.0 log.0 bank_was bank epochs.0 log_was.1 log.1 was_there there epochs.1 in
+        (left.first, left.since)
+
+    -- the epochs of what was shown are told
+    shown_so : (w : ℕ) (epochs : List (Option ℕ)) → slice_get ran.beside.marks w ≡ Some epochs
+        → shown_epochs (ran_logs.shown w) ≡ epochs
+    shown_so w epochs at =
+        let below : w < 8 = omega (arith, at_below ran.beside.marks w epochs at, marks_many) in
+        let log_was = item_at old.logs w (omega (arith, below, stood.workers)) in
+        let log = item_at leaves.logs w (omega (arith, below, logs_many leaves)) in
+        let bank_was = item_at (growing_in old.side before) w
+        (omega (arith, below, growing_many old.side before stood.whole)) in
+        let bank = item_at (growing_in old.side between) w
+        (omega (arith, below, growing_many old.side between (before_cuts leaves).whole)) in
+        (ran_logs.each w log_was.0 log.0 bank_was.0 bank.0 epochs log_was.1 log.1
+        (growing_at old.side before w ∙ bank_was.1)
+        ((before_cuts leaves).grows w ∙ growing_at old.side between w ∙ bank.1) at).while_run
+
     -- ---- the next round's begin
 
     pages_now : (k : ℕ) → low ≤ k → k ≤ high → IsFront (after.pages k) (bytes_of_pages new.store.pages)
@@ -426,6 +797,11 @@ module _ {D : Type 0} {tells : D → Option (List ℕ)} {clock : D → ℕ} {ima
       counts = λ k saved at. uncut.counts k saved (last + 1 + k) at;
       begins = uncut.begins;
       fronts = front_at;
+      marks = ran_logs.marks;
+      shown = ran_logs.shown;
+      shown_are = shown_so;
+      moments = shown_since;
+      since = λ given given_so. since_left given given_so;
       covers = covers_now;
       next = λ is_high sound done. next_by is_high sound done (swaps ran) refl;
     }

@@ -95,8 +95,8 @@ module _ {D : Type 0} {tells : D → Option (List ℕ)} {clock : D → ℕ} {ima
       epochs : List (Option ℕ)
       log : LogState
       was_there : disk_in before (Bank (growing_number old.side w)) ≡ Some bank_was
-      left : LeavesLog tells clock image_at (commits w) (logged w) (was w) (durable w) (ran_logs.marks w) epochs
-          bank_was bank log
+      left : LeavesLog tells clock image_at (commits w) (logged w) (was w) (durable w) (ran_logs.marks w)
+          (ran_logs.shown w) epochs bank_was bank log
 
     of_worker : (w : ℕ) (bank : D) → w < 8 → disk_in between (Bank (growing_number old.side w)) ≡ Some bank
         → OfWorker w bank

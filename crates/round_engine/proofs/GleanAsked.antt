@@ -28,17 +28,17 @@ use Rattle.round_engine.specs.Standing.{AreClosed, IsMarkBefore, RuntimeState, S
 use Rattle.round_engine.proofs.GleanLine.{glean_line}
 use Rattle.round_engine.proofs.KeeperSteps.{closed_still, whole_of}
 use Rattle.round_engine.proofs.LogsStanding.{stand_keeper}
-use Rattle.round_engine.proofs.Numbered.{growing_at}
+use Rattle.round_engine.proofs.Numbered.{closed_many, growing_at}
 use Rattle.round_engine.proofs.Places.{or_parts}
 
 -- what a glean needs of a runtime that stands
 pub asked_ready : {D : Type 0} {tells : D → Option (List ℕ)} {clock : D → ℕ} {image_at : D → ℕ → List ℕ → Type 0}
     {r : RuntimeState} {vault : Vault D} → StandsOn tells clock image_at r vault → r.down ≡ false
     → CanKeep tells clock image_at r vault
-asked_ready s is =
+asked_ready {r = r} {vault = vault} s is =
     let up = s.up is in
     record {
-      whole = s.whole;
+      files = closed_many r.side vault s.whole;
       workers = s.workers;
       up = up.save;
       stored = s.stored up.save;
@@ -71,7 +71,7 @@ module _ {D : Type 0} {tells : D → Option (List ℕ)} {clock : D → ℕ} {ima
   ready : CanKeep tells clock image_at old before
   ready = asked_ready stands up
 
-  runs : RunsKeeper tells clock image_at faults (asks.Glean ∷ []) (glean_answer result ∷ [])
+  runs : RunsKeeper tells clock image_at faults [] (asks.Glean ∷ []) (glean_answer result ∷ [])
       (refusal_beside beside (glean_refusal result)) old new before now
   runs = glean_line faults old before ready (glean_answer result) (refusal_beside beside (glean_refusal result))
       (record { result = result; beside = beside; gleans = gleans; answer_is = refl; refusal_is = refl })

@@ -7,7 +7,6 @@ use Rattle.std.proofs.lemmas.List.{append-nil, drop_all, take_all}
 use Rattle.std.proofs.lemmas.Bool.Decides.{nat_tests}
 use Rattle.lists.specs.declared.memory.OrMemory.{OrMemory}
 use Rattle.lists.specs.declared.memory.OrMemory.TheVariants as or
-use Rattle.log_writer.specs.Vault.{IsWhole}
 use Rattle.outside.specs.declared.device.Device.TheVariants as devices
 use Rattle.log_writer.specs.declared.vault.Vault.{Vault}
 use Rattle.outside.specs.declared.device.Device.{Device}
@@ -70,10 +69,6 @@ some_of (n ∷ lengths) some = some_at n (some_counted lengths) (none_counted le
 closed_bank : (side : Side) (worker : ℕ) → bank_of (not (is_odd side)) worker ≡ closed_number side worker
 closed_bank Even worker = refl
 closed_bank Odd worker = refl
-
-closed_eight : {D : Type 0} (side : Side) (vault : Vault D) → IsWhole vault → length (closed_in side vault) ≡ 8
-closed_eight Even vault whole = whole.odd
-closed_eight Odd vault whole = whole.even
 
 newest_ext : (newest : Newest) (page epoch : ℕ) → newest.page ≡ page → newest.epoch ≡ epoch
     → newest ≡ record { page = page; epoch = epoch }
@@ -167,7 +162,7 @@ module _ {D : Type 0} {tells : D → Option (List ℕ)} {clock : D → ℕ} {ima
           omega (
             arith,
             within_of (closed_in r.side before) bad.0 f.0 f.2,
-            closed_eight r.side before ready.whole,
+            ready.files,
           ),
           f.4 ∙ ap devices.Bank (closed_bank r.side bad.0),
           f.2,
@@ -217,7 +212,7 @@ module _ {D : Type 0} {tells : D → Option (List ℕ)} {clock : D → ℕ} {ima
         omega (
           arith,
           within_of (closed_in r.side before) bad.0 f.0 f.2,
-          closed_eight r.side before ready.whole,
+          ready.files,
         ),
         f.4 ∙ ap devices.Bank (closed_bank r.side bad.0),
         f.2,

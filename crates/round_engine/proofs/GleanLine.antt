@@ -22,7 +22,6 @@ use Rattle.log_writer.specs.declared.vault.Vault.{Vault}
 use Rattle.script_grammar.specs.declared.lines.KeeperLine.TheVariants as asks
 use Rattle.wire_form.specs.ContentLaws.{one_catalogue}
 use Rattle.wire_form.specs.Pages.{decls_of}
-use Rattle.wire_form.specs.declared.clock.Mark.{Mark}
 use Rattle.wire_form.specs.declared.page.Page.{Page}
 use Rattle.log_writer.specs.Points.{SaveState, sequence_of}
 use Rattle.log_writer.specs.Records.{no_ties}
@@ -44,8 +43,7 @@ use Rattle.tx_script.specs.Run.{AdvancesTo, Ran}
 use Rattle.tx_script.specs.Causes.{AnswerCause, closed_of as closed_file_of, file_of, IsGleanDevice, KeeperAt, keeper_after, some_counted}
 use Rattle.tx_script.specs.declared.answer.Answer.{Answer}
 use Rattle.tx_script.specs.declared.answer.Answer.TheVariants as answers
-use Rattle.worker_logs.specs.Logs.{LogState}
-use Rattle.worker_logs.specs.Saves.{closed_number, logs_marks, saved_epoch}
+use Rattle.worker_logs.specs.Saves.{closed_number}
 use Rattle.worker_logs.specs.declared.savepoints.Beside.{Beside}
 use Rattle.worker_logs.specs.declared.savepoints.Side.{Side}
 use Rattle.worker_logs.specs.declared.savepoints.Side.TheVariants.{Even, Odd}
@@ -53,8 +51,8 @@ use Rattle.round_engine.specs.Gleans.{AddsPages, AddsSnapshot, AddsNothing, Answ
 use Rattle.round_engine.specs.Gleans.{Gleans, has_made, pages_after}
 use Rattle.round_engine.specs.Ends.{first_device}
 use Rattle.round_engine.specs.Gleans.{device_of_glean, devices_of_glean, GleansQuietly, IsFound, LeaveGleans, RoundGleans}
-use Rattle.round_engine.specs.Keeping.{epoch_now, IsSavedBySeen, MarksOf}
-use Rattle.round_engine.specs.Keeping.{CanKeep, glean_answer, glean_refusal, is_refusal, keeper_on, KeepsSaves, NeedCounted}
+use Rattle.round_engine.specs.Keeping.{epoch_by, IsSavedBySeen, SeenAmong}
+use Rattle.round_engine.specs.Keeping.{AreByPlace, CanKeep, glean_answer, glean_refusal, is_refusal, keeper_on, KeepsSaves, NeedCounted}
 use Rattle.round_engine.specs.Keeping.{refusal_beside, refusal_told, RestsOn, RunsKeeper, StepsGlean}
 use Rattle.round_engine.specs.Saves.{AreSavedIn, beside_at_end, saves_told}
 use Rattle.round_engine.specs.Sides.{closed_in, is_odd}
@@ -64,6 +62,7 @@ use Rattle.round_engine.specs.declared.report.End.TheVariants as ends
 use Rattle.round_engine.proofs.GleanDevices.{damage_beside, device_told, in_option, memory_beside, none_beside, some_beside}
 use Rattle.round_engine.proofs.GleansThen.{no_snap, none_of_zeros}
 use Rattle.round_engine.proofs.KeepingSaves.{some_there}
+use Rattle.round_engine.proofs.Placed.{place_none}
 use Rattle.round_engine.proofs.PlainLine.{TellsNone}
 use Rattle.round_engine.proofs.Places.{within_of}
 use Rattle.round_engine.proofs.Published.{pages_either, pages_made}
@@ -179,7 +178,7 @@ module _ {D : Type 0} {tells : D → Option (List ℕ)} {clock : D → ℕ} {ima
   -- what a line is answered that stores nothing
   pub record IsAnswered (answer : Answer) : Type 0 where
     pub unsaved : saves_told (answer ∷ []) ≡ []
-    pub none_in : AreSavedIn (IsSavedBySeen (MarksOf r r.stands.clock.epoch new.stands.clock.epoch)) (beside_of r)
+    pub none_in : AreSavedIn (IsSavedBySeen (SeenAmong [] r.stands.clock.epoch new.stands.clock.epoch)) (beside_of r)
         (answer ∷ []) []
     pub stays : AdvancesTo r.stands.clock.epoch (answer ∷ []) r.stands.clock.epoch
 
@@ -195,8 +194,8 @@ module _ {D : Type 0} {tells : D → Option (List ℕ)} {clock : D → ℕ} {ima
       ≡ At (beside_at_end (beside_of r) (answer ∷ [])).count (some_counted new.counted) (list_any is_refusal (answer ∷ []))
       → is_some refusal ≡ list_any is_refusal (answer ∷ [])
       → refusal ≡ refusal_told None (first_device broken) damaged (answer ∷ [])
-      → ((ran : Ran) → RestsOn r found None broken damaged ran → AnswerCause ran (keeper_on r false) asks.Glean answer)
-      → RunsKeeper tells clock image_at faults (asks.Glean ∷ []) (answer ∷ []) refusal r new vault now
+      → ((ran : Ran) → RestsOn r [] found None broken damaged ran → AnswerCause ran (keeper_on r false) asks.Glean answer)
+      → RunsKeeper tells clock image_at faults [] (asks.Glean ∷ []) (answer ∷ []) refusal r new vault now
   built answer refusal found broken damaged is durable round leaves needs after refused told cause = record {
     stored = [];
     failed = None;
@@ -206,10 +205,13 @@ module _ {D : Type 0} {tells : D → Option (List ℕ)} {clock : D → ℕ} {ima
     keeps = keeps_gleans durable;
     by_lines = is.none_in;
     by_failed = tt;
+    by_place = subst (AreByPlace r.side [] [] (sequence_of r.save.newest))
+        (ap (λ (s : SaveState). sequence_of s.newest) (sym gleans.alone.save)) (place_none r.side (sequence_of r.save.newest));
     gleaned = round;
     leaves = leaves;
     needs = needs;
-    rise = λ low. (tt, subst (λ e. epoch_of r.save.newest ≤ e) (sym same_now) low);
+    rise = λ from going low.
+        (tt, subst (λ e. epoch_of r.save.newest ≤ epoch_by e from) (sym same_epoch) low);
     later = omega (arith, same_epoch);
     stands = gleans.alone.stands
         ∙ ap (λ e. record r.stands { clock = record r.stands.clock { epoch = e }; pages = new.stands.pages }) (sym same_epoch);
@@ -223,22 +225,22 @@ module _ {D : Type 0} {tells : D → Option (List ℕ)} {clock : D → ℕ} {ima
     refusal_is = told;
     told = sym is.unsaved;
     caused = λ ran rests. (cause ran rests, tt);
+    saw = λ ran index are. none_more index;
     above = λ low. omega (arith, low, same_epoch, ap (λ (s : SaveState). epoch_of s.newest) gleans.alone.save);
     tie_room = let same : now.ties.room ≡ vault.ties.room = ap (λ t. t.room) gleans.ties in omega (arith, same);
     cut_room = gleans.cuts;
   }
     where
+      none_more : (index : ℕ) → index ≡ index + 0
+      none_more index = omega arith
+
       same_epoch : new.stands.clock.epoch ≡ r.stands.clock.epoch
       same_epoch = ap (λ (s : Standing). s.clock.epoch) gleans.alone.stands
-
-      same_now : epoch_now new ≡ epoch_now r
-      same_now = ap (λ e. saved_epoch e (map (λ (m : Mark). m.epoch) (logs_marks new.logs))) same_epoch
-          ∙ ap (λ (l : List LogState). saved_epoch r.stands.clock.epoch (map (λ (m : Mark). m.epoch) (logs_marks l))) gleans.alone.logs
 
   -- ---- its cases
 
   answered_plain : (answer : Answer) → saves_told (answer ∷ []) ≡ []
-      → AreSavedIn (IsSavedBySeen (MarksOf r r.stands.clock.epoch new.stands.clock.epoch)) (beside_of r) (answer ∷ []) []
+      → AreSavedIn (IsSavedBySeen (SeenAmong [] r.stands.clock.epoch new.stands.clock.epoch)) (beside_of r) (answer ∷ []) []
       → AdvancesTo r.stands.clock.epoch (answer ∷ []) r.stands.clock.epoch → IsAnswered answer
   answered_plain answer unsaved none stays = record { unsaved = unsaved; none_in = none; stays = stays }
 
@@ -323,8 +325,8 @@ module _ {D : Type 0} {tells : D → Option (List ℕ)} {clock : D → ℕ} {ima
         ≡ At (beside_at_end (beside_of r) (answer ∷ [])).count (some_counted r.counted) (list_any is_refusal (answer ∷ []))
         → is_some refusal ≡ list_any is_refusal (answer ∷ [])
         → refusal ≡ refusal_told None (first_device broken) damaged (answer ∷ [])
-        → ((ran : Ran) → RestsOn r found None broken damaged ran → AnswerCause ran (keeper_on r false) asks.Glean answer)
-        → RunsKeeper tells clock image_at faults (asks.Glean ∷ []) (answer ∷ []) refusal r new vault now
+        → ((ran : Ran) → RestsOn r [] found None broken damaged ran → AnswerCause ran (keeper_on r false) asks.Glean answer)
+        → RunsKeeper tells clock image_at faults [] (asks.Glean ∷ []) (answer ∷ []) refusal r new vault now
     none_added refusal is told finds bad fine needs after refused refusal_is cause =
         built answer refusal found broken damaged told still_begin (added_none is finds bad fine) (left_none is) needs
         (after ∙ ap (λ l. At (beside_at_end (beside_of r) (answer ∷ [])).count (some_counted l)
@@ -339,10 +341,6 @@ module _ {D : Type 0} {tells : D → Option (List ℕ)} {clock : D → ℕ} {ima
   same_file : (ran : Ran) (worker : ℕ) → ran.beside.files.odd ≡ is_odd r.side
       → file_of (not (is_odd r.side)) worker ≡ closed_file_of ran.beside.files worker
   same_file ran worker odd = ap (λ b. file_of (not b) worker) (sym odd)
-
-  closed_eight : (side : Side) → IsWholeVault vault → length (closed_in side vault) ≡ 8
-  closed_eight Even whole = whole.odd
-  closed_eight Odd whole = whole.even
 
   glean_device : (ran : Ran) (device : Device) → ran.beside.files.odd ≡ is_odd r.side → FailsIn tells clock image_at faults r device vault now
       → IsGleanDevice ran device
@@ -376,7 +374,7 @@ module _ {D : Type 0} {tells : D → Option (List ℕ)} {clock : D → ℕ} {ima
 
   failed_line : (device : Device) → result ≡ Err (or.Fault (glean_faults.Device device))
       → FailsIn tells clock image_at faults r device vault now → AddsNothing r new vault now → some_counted r.counted ≡ true
-      → RunsKeeper tells clock image_at faults (asks.Glean ∷ []) (answers.Device ∷ [])
+      → RunsKeeper tells clock image_at faults [] (asks.Glean ∷ []) (answers.Device ∷ [])
       (refusal_beside beside (Some (ends.Device device))) r new vault now
   failed_line device is fails same counted =
       none_added answers.Device [] (device ∷ option_to_list beside) None same
@@ -399,7 +397,7 @@ module _ {D : Type 0} {tells : D → Option (List ℕ)} {clock : D → ℕ} {ima
 
   unsound_line : result ≡ Err (or.Fault (glean_faults.Device devices.Snaps)) → Rose (faults vault.snaps) (faults now.snaps)
       → new.store.sound ≡ false → new.counted ≡ r.counted → some_counted r.counted ≡ true
-      → RunsKeeper tells clock image_at faults (asks.Glean ∷ []) (answers.Device ∷ [])
+      → RunsKeeper tells clock image_at faults [] (asks.Glean ∷ []) (answers.Device ∷ [])
       (refusal_beside beside (Some (ends.Device devices.Snaps))) r new vault now
   unsound_line is rose down same counted =
       let never : new.store.sound ≡ true → ⊥ = λ up. let no = sym down ∙ up in absurd cc in
@@ -439,7 +437,7 @@ module _ {D : Type 0} {tells : D → Option (List ℕ)} {clock : D → ℕ} {ima
 
   snap_line : (epoch count : ℕ) → result ≡ Ok (Snap epoch count) → epoch ≡ r.closed_at
       → AddsPages tells clock image_at r new vault now count → some_counted r.counted ≡ true
-      → RunsKeeper tells clock image_at faults (asks.Glean ∷ []) (answers.Snap epoch count ∷ []) (refusal_beside beside None)
+      → RunsKeeper tells clock image_at faults [] (asks.Glean ∷ []) (answers.Snap epoch count ∷ []) (refusal_beside beside None)
       r new vault now
   snap_line epoch count is at adds counted =
       let none : beside ≡ None = none_beside beside (told_before (Ok (Snap epoch count)) is) in
@@ -548,14 +546,14 @@ module _ {D : Type 0} {tells : D → Option (List ℕ)} {clock : D → ℕ} {ima
 
   damaged_line : (device : Device) (at : ℕ) → result ≡ Err (or.Fault (glean_faults.Damaged device at))
       → FindsDamage tells r vault device at → AddsNothing r new vault now → some_counted r.counted ≡ true
-      → RunsKeeper tells clock image_at faults (asks.Glean ∷ []) (answers.Damaged ∷ [])
+      → RunsKeeper tells clock image_at faults [] (asks.Glean ∷ []) (answers.Damaged ∷ [])
       (refusal_beside beside (Some (ends.Damaged device at))) r new vault now
   damaged_line device at is bad same counted =
       let file = bad.damaged.damaged in
       let below : bad.damaged.worker < 8 = omega (
         arith,
         within_of (closed_in r.side vault) bad.damaged.worker file.0 file.1,
-        closed_eight r.side ready.whole,
+        ready.files,
       ) in
       none_added answers.Damaged [] (option_to_list beside) (Some (device, at)) same
       (devices_are None beside (ap device_of_glean is) refl) also_failed
@@ -576,7 +574,7 @@ module _ {D : Type 0} {tells : D → Option (List ℕ)} {clock : D → ℕ} {ima
 
   by_answer : some_counted r.counted ≡ true → (answer : Result Gleaned (OrMemory GleanFault)) → result ≡ answer
       → AnswersGlean tells clock image_at faults r new vault now answer
-      → RunsKeeper tells clock image_at faults (asks.Glean ∷ []) (glean_answer answer ∷ [])
+      → RunsKeeper tells clock image_at faults [] (asks.Glean ∷ []) (glean_answer answer ∷ [])
       (refusal_beside beside (glean_refusal answer)) r new vault now
   by_answer counted (Ok Empty) is answers = absurd answers
   by_answer counted (Ok (Snap epoch count)) is answers = snap_line epoch count is answers.0 answers.1 counted
@@ -625,7 +623,7 @@ module _ {D : Type 0} {tells : D → Option (List ℕ)} {clock : D → ℕ} {ima
       (memory_beside beside) (λ ran rests. counted)
 
   empty_line : some_counted r.counted ≡ false → result ≡ Ok Empty → AddsNothing r new vault now
-      → RunsKeeper tells clock image_at faults (asks.Glean ∷ []) (answers.Empty ∷ []) (refusal_beside beside None) r new vault
+      → RunsKeeper tells clock image_at faults [] (asks.Glean ∷ []) (answers.Empty ∷ []) (refusal_beside beside None) r new vault
       now
   empty_line none is same =
       let alone : beside ≡ None = none_beside beside (told_before (Ok Empty) is) in
@@ -645,17 +643,17 @@ module _ {D : Type 0} {tells : D → Option (List ℕ)} {clock : D → ℕ} {ima
   -- A glean is answered.
   pub glean_line : (answer : Answer) (refusal : Option End) {new : RuntimeState} {now : Vault D}
       → StepsGlean tells clock image_at faults answer refusal r new vault now
-      → RunsKeeper tells clock image_at faults (asks.Glean ∷ []) (answer ∷ []) refusal r new vault now
+      → RunsKeeper tells clock image_at faults [] (asks.Glean ∷ []) (answer ∷ []) refusal r new vault now
   glean_line answer refusal {new} {now} step =
-      subst (λ a. RunsKeeper tells clock image_at faults (asks.Glean ∷ []) (a ∷ []) refusal r new vault now)
+      subst (λ a. RunsKeeper tells clock image_at faults [] (asks.Glean ∷ []) (a ∷ []) refusal r new vault now)
       (sym step.answer_is)
-      (subst (λ e. RunsKeeper tells clock image_at faults (asks.Glean ∷ []) (glean_answer step.result ∷ []) e r new vault now)
+      (subst (λ e. RunsKeeper tells clock image_at faults [] (asks.Glean ∷ []) (glean_answer step.result ∷ []) e r new vault now)
       (sym step.refusal_is) (elim (cases_Bool (some_counted r.counted)) [
         | inl counted ↦ by_answer faults r vault ready step.result step.beside step.gleans counted step.result refl
             (step.gleans.answers counted)
         | inr none ↦
             let empty = step.gleans.none none in
-            subst (λ x. RunsKeeper tells clock image_at faults (asks.Glean ∷ []) (glean_answer x ∷ [])
+            subst (λ x. RunsKeeper tells clock image_at faults [] (asks.Glean ∷ []) (glean_answer x ∷ [])
             (refusal_beside step.beside (glean_refusal x)) r new vault now) (sym empty.0)
             (empty_line faults r vault ready step.result step.beside step.gleans none empty.0 empty.1)
       ]))

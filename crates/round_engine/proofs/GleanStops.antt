@@ -126,7 +126,7 @@ module _ {D : Type 0} {tells : D → Option (List ℕ)} {clock : D → ℕ} {ima
     {old new : RuntimeState} {before now : Vault D} (result : Result Gleaned (OrMemory GleanFault))
     (beside : Option Device) (stands : StandsOn tells clock image_at old before) (up : old.down ≡ false)
     (gleans : Gleans tells clock image_at faults old new before now result beside) where
-  runs : RunsKeeper tells clock image_at faults (asks.Glean ∷ []) (glean_answer result ∷ [])
+  runs : RunsKeeper tells clock image_at faults [] (asks.Glean ∷ []) (glean_answer result ∷ [])
       (refusal_beside beside (glean_refusal result)) old new before now
   runs = glean_line faults old before (asked_ready stands up) (glean_answer result)
       (refusal_beside beside (glean_refusal result)) (record {

@@ -9,7 +9,7 @@ use Rattle.std.proofs.lemmas.List.{append-nil}
 use Rattle.std.proofs.lemmas.List.Elements.{Contains-push}
 use Rattle.std.proofs.lemmas.Option.{same_Some}
 use Rattle.lists.specs.Each.{all_at, all_weaker}
-use Rattle.lists.specs.Elements.{in_cases, in_head, in_none}
+use Rattle.lists.specs.Elements.{in_cases, in_none}
 use Rattle.lists.specs.Fronts.{IsFront, front_none}
 use Rattle.outside.specs.Faults.{Rose}
 use Rattle.outside.specs.Reads.{OnlyReads}
@@ -122,7 +122,7 @@ module _ {D : Type 0} {tells : D → Option (List ℕ)} {clock : D → ℕ} {ima
   pub join_leaves : {epoch : ℕ} {old new : LogState} {before now : D} → IsMarkBefore epoch old.mark.epoch
       → LogGoesOn tells clock image_at epoch old new before now → (commits : List Commit) (was : List ℕ)
       → IsLog tells clock image_at commits was old before
-      → Leaves tells clock image_at commits [] was old.mark.epoch old new before now
+      → Leaves tells clock image_at commits [] was [] new before now
   join_leaves {old = old} {new = new} {before = before} {now = now} marked goes commits was is =
       let begins = log_begins is in
       let went = goes commits was was (old.mark ∷ []) before begins in
@@ -131,9 +131,8 @@ module _ {D : Type 0} {tells : D → Option (List ℕ)} {clock : D → ℕ} {ima
         marks = old.mark ∷ went.set;
         ran = subst (λ c. LogRan tells clock image_at c was went.durable (old.mark ∷ went.set) before now new)
             (sym (append-nil commits)) went.ran;
-        while_run = refl;
+        since = tt;
         rise = mark_rises old.mark.epoch _ went.set marked went.of_epoch;
-        behind_lines = in_head old.mark went.set;
         behind_join = subst (λ l. Contains l new.mark) (sym went.ran.last.1) (Contains-push went.ran.last.0 new.mark);
       }
 
@@ -298,7 +297,7 @@ module _ {D : Type 0} {tells : D → Option (List ℕ)} {clock : D → ℕ} {ima
   joined_epoch = clock_is facts
 
   abbrev Seen : ℕ → List Mark → Type 0
-  Seen = SeenIn old.stands.clock.epoch (epoch_joined ran) old.logs logs
+  Seen = SeenIn old.stands.clock.epoch (epoch_joined ran) (λ w. []) logs
 
   saves_made : AreSaved (IsSavedBySeen Seen) (beside_of old) [] (js.joins.stored ++ option_to_list js.joins.failed)
   saves_made = record {
@@ -321,25 +320,19 @@ module _ {D : Type 0} {tells : D → Option (List ℕ)} {clock : D → ℕ} {ima
         (js.joins.stored ++ option_to_list js.joins.failed) js.joins.by_marks;
   }
 
-  total : LogsTotal tells clock image_at faults (λ w. []) old.logs old.logs old.logs logs (growing_in old.side before)
+  total : LogsTotal tells clock image_at faults (λ w. []) (λ w. []) old.logs logs (growing_in old.side before)
       (growing_in old.side now)
   total = record {
     old_many = stands.workers;
-    start_many = stands.workers;
-    mid_many = stands.workers;
     new_many = joined_many facts;
     before_many = growing_many old.side before stands.whole;
     now_many = now_many facts;
-    each = λ w begins was lines log bank_was bank at_begins at_was at_lines at_log at_bank_was at_bank.
-        let same = same_Some was begins (sym at_was ∙ at_begins) in
-        let same_lines = same_Some was lines (sym at_was ∙ at_lines) in
+    each = λ w was log bank_was bank at_was at_log at_bank_was at_bank.
         let made = step facts w was log bank_was bank at_was at_log at_bank_was at_bank in
         let marked = all_at (λ (l : LogState). IsMarkBefore old.stands.clock.epoch l.mark.epoch) old.logs w was stands.marked at_was in
         record {
-          leaves = λ commits durable is.
-              subst (λ (x : LogState). Leaves tells clock image_at commits [] durable x.mark.epoch lines log bank_was bank) same
-              (subst (λ x. Leaves tells clock image_at commits [] durable was.mark.epoch x log bank_was bank) same_lines
-              (join_leaves marked made.goes commits durable is));
+          leaves = λ commits durable is. join_leaves marked made.goes commits durable is;
+          first = tt;
           blames = made.blames;
           reaches = made.reaches;
         };
@@ -451,9 +444,9 @@ module _ {D : Type 0} {tells : D → Option (List ℕ)} {clock : D → ℕ} {ima
       × CarriesCrashes tells clock image_at (λ w. []) (v.stored ++ option_to_list v.failed) ran old new before now
   unfolding files_made facts turns
   left reads = with_crashes reads stands refl (λ epoch is. sym durable_so ∙ is)
-      (leaves_vault ran (λ w. []) old.logs old.logs logs old new before now js.joins.stored js.joins.failed total saves_made
-      keeps_made.newest
-      (λ w begins epochs at are told front. subst (λ es. IsFront es told) (sym (empty_at 8 w epochs are)) (front_none told))
+      (leaves_vault ran (λ w. []) (λ w. []) logs old new before now js.joins.stored js.joins.failed total saves_made
+      keeps_made.newest (λ k saved places at told. absurd (let no = told in cc))
+      (λ w epochs are. sym (empty_at 8 w epochs are))
       (λ w below. tt) stands.whole stands.closed.workers files_made (pre_whole facts)
       (λ is. rests facts (sym comes_is ∙ (and_parts (comes_to_swap ran) (not (closed_failed ran)) is).0))
       others keeps_made stands_made refl (λ device has. (rose_made device has).0) (λ device has. (rose_made device has).1)

@@ -266,6 +266,36 @@ module _ {D : Type 0} {tells : D → Option (List ℕ)} {clock : D → ℕ} {ima
   pub asked_by : is_some facts.runs.failed ≡ true → (r.stands.clock.epoch < last_epoch) × (sequence_of r.save.newest < last_sequence)
   asked_by some = asked_of result facts.runs.answer some
 
+  none_begun : (stored : List Saved) (failed : Option Saved) (k : ℕ) (s : Saved) → stored ≡ [] → failed ≡ None
+      → slice_get (stored ++ option_to_list failed) k ≡ Some s → ⊥
+  none_begun [] None k s none lacks at = let bad = at in cc
+  none_begun [] (Some saved) k s none lacks at = let bad = lacks in cc
+  none_begun (x ∷ stored) failed k s none lacks at = let bad = none in cc
+
+  below_of : (x : Result ℕ End) → JoinAnswers r joined facts.runs.stored facts.runs.failed x → (k : ℕ) (s : Saved)
+      → slice_get (facts.runs.stored ++ option_to_list facts.runs.failed) k ≡ Some s
+      → sequence_of r.save.newest < last_sequence
+  below_of (Ok epoch) is k s at = is.1
+  below_of (Err (ends.Limit Epoch number)) is k s at =
+      absurd (none_begun facts.runs.stored facts.runs.failed k s is.2 is.3 at)
+  below_of (Err (ends.Limit Sequence number)) is k s at =
+      absurd (none_begun facts.runs.stored facts.runs.failed k s is.3 is.4 at)
+  below_of (Err (ends.Device devices.Save)) is k s at = is.1
+  below_of (Err (ends.Device devices.Snaps)) is k s at = absurd is
+  below_of (Err (ends.Device (devices.Bank number))) is k s at =
+      absurd (none_begun facts.runs.stored facts.runs.failed k s is.4 is.5 at)
+  below_of (Err (ends.Damaged device place)) is k s at = absurd is
+  below_of (Err (ends.Limit Draw number)) is k s at = absurd is
+  below_of (Err (ends.Limit Bank number)) is k s at = absurd is
+  below_of (Err (ends.Limit Snap number)) is k s at = absurd is
+  below_of (Err (ends.Limit Height number)) is k s at = absurd is
+  below_of (Err ends.Memory) is k s at = absurd is
+
+  -- where a join begins to store something the last sequence wasn't met
+  pub join_below : (k : ℕ) (s : Saved) → slice_get (facts.runs.stored ++ option_to_list facts.runs.failed) k ≡ Some s
+      → sequence_of r.save.newest < last_sequence
+  join_below k s at = below_of result facts.runs.answer k s at
+
   no_failure_of : (x : Result ℕ End) → JoinAnswers r joined facts.runs.stored facts.runs.failed x → fails_device (refused_by x) ≡ false
       → is_some facts.runs.failed ≡ false
   no_failure_of (Ok epoch) is up = ap is_some is.4

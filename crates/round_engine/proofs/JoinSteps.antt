@@ -218,8 +218,7 @@ module _ {D : Type 0} (tells : D → Option (List ℕ)) (clock : D → ℕ) (ima
         → (AlwaysTells tells → LogsStand tells clock image_at old.side logs old.counted now)
         → CanKeep tells clock image_at (flushed_with old logs) now
     can_save closed room sound snapshot now same many banks durable = record {
-      whole = whole_of old.side now (banks ∙ growing_many old.side before whole)
-          (ap length same.closed ∙ closed_many old.side before whole);
+      files = ap length same.closed ∙ closed_many old.side before whole;
       workers = many ∙ workers;
       up = up;
       stored = subst (λ d. IsStored tells clock image_at d old.save.newest) (sym same.save) stored;

@@ -8,27 +8,35 @@ use Rattle.std.proofs.lemmas.List.{append-nil}
 use Rattle.std.proofs.lemmas.List.Elements.{Contains-append_cases, Contains-append_left}
 use Rattle.std.proofs.lemmas.List.Sums.{fold-append}
 use Rattle.std.proofs.lemmas.Option.{same_Some}
-use Rattle.lists.specs.Each.{all_replicate}
-use Rattle.lists.specs.Elements.{in_none}
+use Rattle.lists.specs.Each.{all_append, all_replicate, all_weaker}
+use Rattle.lists.specs.Elements.{in_cases, in_none}
 use Rattle.lists.specs.Fronts.{IsFront}
 use Rattle.outside.specs.Moments.{runs_none}
 use Rattle.outside.specs.Reads.{OnlyReads}
 use Rattle.log_writer.specs.Vault.{IsWhole}
 use Rattle.outside.specs.declared.device.Device.{Device}
 use Rattle.outside.specs.declared.device.Device.TheVariants as devices
+use Rattle.log_writer.specs.Points.{sequence_of}
 use Rattle.log_writer.specs.declared.vault.Vault.{Vault}
 use Rattle.script_grammar.specs.declared.lines.KeeperLine.{KeeperLine}
 use Rattle.script_grammar.specs.declared.lines.KeeperLine.TheVariants as asks
+use Rattle.wire_form.specs.declared.clock.Mark.{Mark}
 use Rattle.log_writer.specs.declared.saved.Saved.{Saved}
-use Rattle.tx_script.specs.Causes.{AnswersCaused, keeper_after}
+use Rattle.tx_script.specs.CausedBeside.{SavesSee}
+use Rattle.tx_script.specs.Causes.{AnswersCaused, KeeperAt, keeper_after}
+use Rattle.tx_script.specs.Run.{Ran}
+use Rattle.tx_script.specs.Seen.{AreNoLess}
+use Rattle.tx_script.specs.SeenLaws.{none_less}
 use Rattle.tx_script.specs.declared.answer.Answer.{Answer}
 use Rattle.tx_script.specs.declared.answer.Answer.TheVariants as answers
+use Rattle.worker_logs.specs.Saves.{logs_marks}
 use Rattle.worker_logs.specs.declared.savepoints.Beside.{Beside}
 use Rattle.worker_logs.specs.declared.savepoints.Side.{Side}
 use Rattle.worker_logs.specs.declared.savepoints.Side.TheVariants.{Even, Odd}
 use Rattle.round_engine.specs.Ends.{first_device, wants_memory, save_limited}
-use Rattle.round_engine.specs.Keeping.{CanKeep, IsSavedBySeen, is_limited, is_refusal, keeper_on, MarksOf, refusal_told}
-use Rattle.round_engine.specs.Keeping.{RunsKeeper, StepsEpoch, StepsKeeper, StepsLine}
+use Rattle.round_engine.specs.Keeping.{answers_end, CanKeep, epochs_in, GoOn, IsSavedBySeen, is_limited, is_refusal, keeper_on, refusal_told}
+use Rattle.round_engine.specs.Keeping.{RunsBehind, RunsKeeper, seen_by, seen_unless, SeenAmong, StepsEpoch, StepsKeeper}
+use Rattle.round_engine.specs.Keeping.{StepsLine}
 use Rattle.round_engine.specs.Saves.{AreSavedIn, beside_after, beside_at_end}
 use Rattle.round_engine.specs.Sides.{closed_in, growing_in}
 use Rattle.round_engine.specs.Standing.{AreClosed, beside_of, RuntimeState}
@@ -37,9 +45,10 @@ use Rattle.round_engine.proofs.Beside.{keeps_none}
 use Rattle.round_engine.proofs.GleansThen.{beside_kept, beside_zeros, no_snap, snap_in}
 use Rattle.round_engine.proofs.GleanLine.{glean_line}
 use Rattle.round_engine.proofs.KeeperThen.{advances_on, any_append, caused_then, keeper_then, refused_nothing, saved_in_then, saves_on}
-use Rattle.round_engine.proofs.KeeperThen.{where_memory}
+use Rattle.round_engine.proofs.KeeperThen.{sees_then, where_memory}
 use Rattle.round_engine.proofs.LogsStanding.{stand_keeper}
 use Rattle.round_engine.proofs.Places.{nothing_there}
+use Rattle.round_engine.proofs.Placed.{place_none}
 use Rattle.round_engine.proofs.PlainLine.{IsPlain, plain_line, reads_none}
 use Rattle.round_engine.proofs.SaveLine.{save_line}
 
@@ -78,10 +87,10 @@ closed_still r mid said is counted at later = elim (cases_Bool (snap_in said)) [
 ]
 
 module _ {D : Type 0} {tells : D → Option (List ℕ)} {clock : D → ℕ} {image_at : D → ℕ → List ℕ → Type 0} {faults : D → ℕ}
-    {lines : List KeeperLine} {said : List Answer} {old mid : RuntimeState} {before between : Vault D}
-    (ready : CanKeep tells clock image_at old before) where
+    {seen : List (List Mark)} {lines : List KeeperLine} {said : List Answer} {old mid : RuntimeState}
+    {before between : Vault D} (ready : CanKeep tells clock image_at old before) where
   -- Lines that were not refused leave what the next one needs.
-  pub can_keep : RunsKeeper tells clock image_at faults lines said None old mid before between
+  pub can_keep : RunsKeeper tells clock image_at faults seen lines said None old mid before between
       → CanKeep tells clock image_at mid between
   can_keep runs =
       let nothing = refused_nothing runs.failed runs.broken runs.damaged said runs.refusal_is in
@@ -89,7 +98,7 @@ module _ {D : Type 0} {tells : D → Option (List ℕ)} {clock : D → ℕ} {ima
       let sound : mid.store.sound ≡ true = runs.leaves.sound
       (λ has. in_none devices.Snaps (subst (λ l. Contains l devices.Snaps) nothing.broken_is has)) ready.sound in
       record {
-        whole = whole_of old.side before between ready.whole (ap length runs.leaves.over.growing) runs.leaves.over.many;
+        files = subst (λ s. length (closed_in s between) ≡ 8) (sym runs.leaves.side) (runs.leaves.over.many ∙ ready.files);
         workers = ap length runs.logs ∙ ready.workers;
         up = up;
         stored = runs.keeps.stands up;
@@ -103,8 +112,10 @@ module _ {D : Type 0} {tells : D → Option (List ℕ)} {clock : D → ℕ} {ima
 -- ---- behind a refusal
 
 module _ {D : Type 0} {tells : D → Option (List ℕ)} {clock : D → ℕ} {image_at : D → ℕ → List ℕ → Type 0} {faults : D → ℕ}
-    {lines : List KeeperLine} {said : List Answer} {end : End} {old mid : RuntimeState} {before between : Vault D}
-    (runs : RunsKeeper tells clock image_at faults lines said (Some end) old mid before between) (line : KeeperLine) where
+    {seen : List (List Mark)} {lines : List KeeperLine} {said : List Answer} {end : End} {old mid : RuntimeState}
+    {before between : Vault D}
+    (runs : RunsKeeper tells clock image_at faults seen lines said (Some end) old mid before between)
+    (line : KeeperLine) where
   beside_same : beside_at_end (beside_of old) (said ++ answers.Unrun ∷ []) ≡ beside_at_end (beside_of old) said
   beside_same = fold-append beside_after (beside_of old) said (answers.Unrun ∷ [])
 
@@ -127,11 +138,18 @@ module _ {D : Type 0} {tells : D → Option (List ℕ)} {clock : D → ℕ} {ima
   ]
 
   abbrev By : Beside → Saved → Type 0
-  By = IsSavedBySeen (MarksOf old old.stands.clock.epoch mid.stands.clock.epoch)
+  By = IsSavedBySeen (SeenAmong seen old.stands.clock.epoch mid.stands.clock.epoch)
+
+  unrun_sees : (ran : Ran) (index : ℕ) (k : KeeperAt) (left : KeeperLine)
+      → SavesSee ran index k (left ∷ []) (answers.Unrun ∷ []) index
+  unrun_sees ran index k asks.Save = refl
+  unrun_sees ran index k asks.Epoch = refl
+  unrun_sees ran index k asks.Glean = refl
+  unrun_sees ran index k asks.Drop = refl
 
   -- A line is left out.
-  pub keeper_unrun : RunsKeeper tells clock image_at faults (lines ++ line ∷ []) (said ++ answers.Unrun ∷ []) (Some end) old mid
-      before between
+  pub keeper_unrun : RunsKeeper tells clock image_at faults seen (lines ++ line ∷ []) (said ++ answers.Unrun ∷ [])
+      (Some end) old mid before between
   keeper_unrun = record {
     stored = runs.stored;
     failed = runs.failed;
@@ -142,6 +160,7 @@ module _ {D : Type 0} {tells : D → Option (List ℕ)} {clock : D → ℕ} {ima
     by_lines = subst (AreSavedIn By (beside_of old) (said ++ answers.Unrun ∷ [])) (append-nil runs.stored)
         (saved_in_then By (beside_of old) said (answers.Unrun ∷ []) runs.stored [] runs.by_lines refl);
     by_failed = subst (λ b. AllByRecursion (By b) (option_to_list runs.failed)) (sym beside_same) runs.by_failed;
+    by_place = runs.by_place;
     gleaned = record {
       told = runs.gleaned.told;
       found = runs.gleaned.found;
@@ -191,12 +210,18 @@ module _ {D : Type 0} {tells : D → Option (List ℕ)} {clock : D → ℕ} {ima
         (subst (λ k. AnswersCaused ran k (line ∷ []) (answers.Unrun ∷ [])) (sym runs.at_end)
         (subst (λ b. AnswersCaused ran (record (keeper_on mid b) { pages = (beside_at_end (beside_of old) said).count })
         (line ∷ []) (answers.Unrun ∷ [])) runs.refused (refl, tt)));
+    saw = λ ran index are. sees_then ran lines (line ∷ []) said (answers.Unrun ∷ []) index (index + length seen)
+        (index + length seen) (keeper_on old false) (runs.saw ran index are)
+        (unrun_sees ran (index + length seen) (answers_end (keeper_on old false) said) line);
     above = runs.above;
     tie_room = omega (arith, runs.tie_room, length-append lines (line ∷ []));
     cut_room = runs.cut_room;
   }
 
 -- ---- a line more
+
+none_more : (index : ℕ) → index ≡ index + 0
+none_more index = omega arith
 
 epoch_plain : (epoch : ℕ) → IsPlain (answers.Epoch epoch)
 epoch_plain epoch = record {
@@ -219,57 +244,59 @@ limit_plain = record {
 module _ {D : Type 0} {tells : D → Option (List ℕ)} {clock : D → ℕ} {image_at : D → ℕ → List ℕ → Type 0} (faults : D → ℕ)
     (r : RuntimeState) (vault : Vault D) (ready : CanKeep tells clock image_at r vault) where
   epoch_line : (answer : Answer) {new : RuntimeState} → StepsEpoch answer r new
-      → RunsKeeper tells clock image_at faults (asks.Epoch ∷ []) (answer ∷ []) None r new vault vault
+      → RunsKeeper tells clock image_at faults [] (asks.Epoch ∷ []) (answer ∷ []) None r new vault vault
   epoch_line (answers.Epoch epoch) {new} step =
-      subst (λ n. RunsKeeper tells clock image_at faults (asks.Epoch ∷ []) (answers.Epoch epoch ∷ []) None r n vault vault)
+      subst (λ n. RunsKeeper tells clock image_at faults [] (asks.Epoch ∷ []) (answers.Epoch epoch ∷ []) None r n vault vault)
       (sym step.2)
       (plain_line r vault ready asks.Epoch (answers.Epoch epoch) epoch (epoch_plain epoch) (omega (arith, step.1))
-      (step.1, refl) refl (λ ran. (step.0, step.1)))
+      (step.1, refl) refl (λ ran. (step.0, step.1)) [] (λ ran index. none_more index)
+      (place_none r.side (sequence_of r.save.newest)))
   epoch_line answers.Limit {new} step =
-      subst (λ n. RunsKeeper tells clock image_at faults (asks.Epoch ∷ []) (answers.Limit ∷ []) None r n vault vault)
+      subst (λ n. RunsKeeper tells clock image_at faults [] (asks.Epoch ∷ []) (answers.Limit ∷ []) None r n vault vault)
       (sym step.1)
       (plain_line r vault ready asks.Epoch answers.Limit r.stands.clock.epoch limit_plain (omega arith) refl refl
-      (λ ran. step.0))
+      (λ ran. step.0) [] (λ ran index. none_more index) (place_none r.side (sequence_of r.save.newest)))
   epoch_line _ {new} step = absurd step
 
-  one_line : (line : KeeperLine) (answer : Answer) (refusal : Option End) {new : RuntimeState} {now : Vault D}
-      → StepsLine tells clock image_at faults line answer refusal r new vault now
-      → RunsKeeper tells clock image_at faults (line ∷ []) (answer ∷ []) refusal r new vault now
-  one_line asks.Epoch answer refusal {new} {now} step =
-      subst (λ e. RunsKeeper tells clock image_at faults (asks.Epoch ∷ []) (answer ∷ []) e r new vault now) (sym step.2)
-      (subst (λ v. RunsKeeper tells clock image_at faults (asks.Epoch ∷ []) (answer ∷ []) None r new vault v) (sym step.1)
-      (epoch_line answer step.0))
-  one_line asks.Save answer refusal {new} {now} step =
-      subst (λ e. RunsKeeper tells clock image_at faults (asks.Save ∷ []) (answer ∷ []) e r new vault now) (sym step.1)
-      (save_line faults r vault ready answer step.0)
-  one_line asks.Glean answer refusal step = glean_line faults r vault ready answer refusal step
-  one_line asks.Drop answer refusal step = absurd step
+  one_line : (marks : List Mark) (line : KeeperLine) (answer : Answer) (refusal : Option End) {new : RuntimeState}
+      {now : Vault D} → StepsLine tells clock image_at faults marks line answer refusal r new vault now
+      → RunsKeeper tells clock image_at faults (seen_by line marks) (line ∷ []) (answer ∷ []) refusal r new vault now
+  one_line marks asks.Epoch answer refusal {new} {now} step =
+      subst (λ e. RunsKeeper tells clock image_at faults [] (asks.Epoch ∷ []) (answer ∷ []) e r new vault now) (sym step.2)
+      (subst (λ v. RunsKeeper tells clock image_at faults [] (asks.Epoch ∷ []) (answer ∷ []) None r new vault v)
+      (sym step.1) (epoch_line answer step.0))
+  one_line marks asks.Save answer refusal {new} {now} step =
+      subst (λ e. RunsKeeper tells clock image_at faults (marks ∷ []) (asks.Save ∷ []) (answer ∷ []) e r new vault now)
+      (sym step.1) (save_line faults r vault ready marks answer step.0)
+  one_line marks asks.Glean answer refusal step = glean_line faults r vault ready answer refusal step
+  one_line marks asks.Drop answer refusal step = absurd step
 
 module _ {D : Type 0} {tells : D → Option (List ℕ)} {clock : D → ℕ} {image_at : D → ℕ → List ℕ → Type 0} {faults : D → ℕ}
-    {lines : List KeeperLine} {said : List Answer} {old mid : RuntimeState} {before between : Vault D}
-    (ready : CanKeep tells clock image_at old before) where
-  -- A line is answered.
-  pub keeper_step : (refusal : Option End) (line : KeeperLine) (answer : Answer) (next : Option End) {new : RuntimeState}
-      {now : Vault D} → RunsKeeper tells clock image_at faults lines said refusal old mid before between
-      → StepsKeeper tells clock image_at faults refusal line answer next mid new between now
-      → RunsKeeper tells clock image_at faults (lines ++ line ∷ []) (said ++ answer ∷ []) next old new before now
-  keeper_step (Some end) line answer next {new} {now} runs step =
-      subst (λ a. RunsKeeper tells clock image_at faults (lines ++ line ∷ []) (said ++ a ∷ []) next old new before now)
-      (sym step.0)
-      (subst (λ e. RunsKeeper tells clock image_at faults (lines ++ line ∷ []) (said ++ answers.Unrun ∷ []) e old new before now)
-      (sym step.1)
-      (subst (λ n. RunsKeeper tells clock image_at faults (lines ++ line ∷ []) (said ++ answers.Unrun ∷ []) (Some end) old n
-      before now) (sym step.2)
-      (subst (λ v. RunsKeeper tells clock image_at faults (lines ++ line ∷ []) (said ++ answers.Unrun ∷ []) (Some end) old mid
-      before v) (sym step.3) (keeper_unrun runs line))))
-  keeper_step None line answer next {new} {now} runs step =
+    {seen : List (List Mark)} {lines : List KeeperLine} {said : List Answer} {old mid : RuntimeState}
+    {before between : Vault D} (ready : CanKeep tells clock image_at old before) where
+  -- A line is answered, which saw these marks.
+  pub keeper_step : (marks : List Mark) (refusal : Option End) (line : KeeperLine) (answer : Answer) (next : Option End)
+      {new : RuntimeState} {now : Vault D}
+      → RunsKeeper tells clock image_at faults seen lines said refusal old mid before between
+      → StepsKeeper tells clock image_at faults marks refusal line answer next mid new between now
+      → RunsKeeper tells clock image_at faults (seen ++ seen_unless refusal line marks) (lines ++ line ∷ [])
+      (said ++ answer ∷ []) next old new before now
+  keeper_step marks (Some end) line answer next {new} {now} runs step =
+      let Runs : List (List Mark) → Answer → Option End → RuntimeState → Vault D → Type 0 = λ s a e n v.
+      RunsKeeper tells clock image_at faults s (lines ++ line ∷ []) (said ++ a ∷ []) e old n before v in
+      subst (λ a. Runs (seen ++ []) a next new now) (sym step.0)
+      (subst (λ e. Runs (seen ++ []) answers.Unrun e new now) (sym step.1)
+      (subst (λ n. Runs (seen ++ []) answers.Unrun (Some end) n now) (sym step.2)
+      (subst (λ v. Runs (seen ++ []) answers.Unrun (Some end) mid v) (sym step.3)
+      (subst (λ s. Runs s answers.Unrun (Some end) mid between) (sym (append-nil seen)) (keeper_unrun runs line)))))
+  keeper_step marks None line answer next {new} {now} runs step =
       let can = can_keep ready runs in
-      keeper_then can.sound runs (one_line faults mid between can line answer next step)
+      keeper_then can.sound runs (one_line faults mid between can marks line answer next step)
 
 -- no line
 pub keeper_begin : {D : Type 0} {tells : D → Option (List ℕ)} {clock : D → ℕ} {image_at : D → ℕ → List ℕ → Type 0}
     {faults : D → ℕ} (r : RuntimeState) (vault : Vault D) → CanKeep tells clock image_at r vault
-    → RunsKeeper tells clock image_at faults [] [] None r r vault vault
+    → RunsKeeper tells clock image_at faults [] [] [] None r r vault vault
 keeper_begin {tells = tells} {clock} {image_at} {faults} r vault ready = record {
   stored = [];
   failed = None;
@@ -279,6 +306,7 @@ keeper_begin {tells = tells} {clock} {image_at} {faults} r vault ready = record 
   keeps = keeps_none r vault ready.up ready.stored;
   by_lines = refl;
   by_failed = tt;
+  by_place = place_none r.side (sequence_of r.save.newest);
   gleaned = record {
     told = refl;
     found = λ what has. absurd (in_none what has);
@@ -317,7 +345,7 @@ keeper_begin {tells = tells} {clock} {image_at} {faults} r vault ready = record 
     damage = λ no. absurd (let bad = no in cc);
     device = λ device has. absurd (in_none device has);
   };
-  rise = λ low. (tt, low);
+  rise = λ from going low. (tt, low);
   later = omega arith;
   stands = refl;
   logs = refl;
@@ -329,10 +357,76 @@ keeper_begin {tells = tells} {clock} {image_at} {faults} r vault ready = record 
   refusal_is = refl;
   told = refl;
   caused = λ ran rests. tt;
+  saw = λ ran index are. none_more index;
   above = λ low. low;
   tie_room = omega arith;
   cut_room = refl;
 }
+
+-- ---- behind the workers' lines
+
+-- no line so far
+pub behind_begin : {D : Type 0} {tells : D → Option (List ℕ)} {clock : D → ℕ} {image_at : D → ℕ → List ℕ → Type 0}
+    {faults : D → ℕ} (r : RuntimeState) (vault : Vault D) → CanKeep tells clock image_at r vault
+    → RunsBehind tells clock image_at faults [] [] None r r vault vault
+behind_begin r vault ready = record { seen = []; sees = tt; runs = keeper_begin r vault ready }
+
+-- lines that were not refused leave what the next one needs
+pub behind_can : {D : Type 0} {tells : D → Option (List ℕ)} {clock : D → ℕ} {image_at : D → ℕ → List ℕ → Type 0}
+    {faults : D → ℕ} {lines : List KeeperLine} {said : List Answer} {old mid : RuntimeState} {before between : Vault D}
+    → CanKeep tells clock image_at old before
+    → RunsBehind tells clock image_at faults lines said None old mid before between
+    → CanKeep tells clock image_at mid between
+behind_can ready b = can_keep ready b.runs
+
+-- each of those that were seen
+pub each_seen : {marks : List Mark} (seen : List (List Mark)) (one : List Mark)
+    → AllByRecursion (λ (other : List Mark). other ≡ marks) seen → Contains seen one → one ≡ marks
+each_seen [] one all has = absurd (in_none one has)
+each_seen {marks = marks} (first ∷ seen) one all has = elim (in_cases one first seen has) [
+  | inl is ↦ sym is ∙ all.0
+  | inr later ↦ each_seen seen one all.1 later
+]
+
+-- marks that stay go on
+pub same_go_on : (marks : List Mark) (seen : List (List Mark)) → AllByRecursion (λ (other : List Mark). other ≡ marks) seen
+    → GoOn marks seen
+same_go_on marks [] all = tt
+same_go_on marks (first ∷ seen) all = (
+  subst (λ l. AreNoLess (epochs_in marks) (epochs_in l)) (sym all.0) (none_less (epochs_in marks)),
+  same_go_on first seen (all_weaker (λ (other : List Mark). other ≡ marks) (λ (other : List Mark). other ≡ first)
+      (λ other is. is ∙ sym all.0) seen all.1),
+)
+
+-- what a line sees is what it could see
+seen_one : (P : List Mark → Type 0) (line : KeeperLine) (marks : List Mark) → P marks
+    → AllByRecursion P (seen_by line marks)
+seen_one P asks.Save marks is = (is, tt)
+seen_one P asks.Epoch marks is = tt
+seen_one P asks.Glean marks is = tt
+seen_one P asks.Drop marks is = tt
+
+-- A line is answered.
+pub behind_step : {D : Type 0} {tells : D → Option (List ℕ)} {clock : D → ℕ} {image_at : D → ℕ → List ℕ → Type 0}
+    {faults : D → ℕ} {lines : List KeeperLine} {said : List Answer} {old mid : RuntimeState} {before between : Vault D}
+    → CanKeep tells clock image_at old before → (refusal : Option End) (line : KeeperLine) (answer : Answer)
+    (next : Option End) {new : RuntimeState} {now : Vault D}
+    → RunsBehind tells clock image_at faults lines said refusal old mid before between
+    → StepsKeeper tells clock image_at faults (logs_marks mid.logs) refusal line answer next mid new between now
+    → RunsBehind tells clock image_at faults (lines ++ line ∷ []) (said ++ answer ∷ []) next old new before now
+behind_step {tells = tells} {clock} {image_at} {faults} {old = old} {mid = mid} ready refusal line answer next b step =
+    record {
+      seen = b.seen ++ seen_unless refusal line (logs_marks mid.logs);
+      sees = all_append (λ (marks : List Mark). marks ≡ logs_marks old.logs) b.seen
+          (seen_unless refusal line (logs_marks mid.logs)) b.sees (sees refusal);
+      runs = keeper_step ready (logs_marks mid.logs) refusal line answer next b.runs step;
+    }
+  where
+    sees : (refusal : Option End) → AllByRecursion (λ (marks : List Mark). marks ≡ logs_marks old.logs)
+        (seen_unless refusal line (logs_marks mid.logs))
+    sees (Some end) = tt
+    sees None = seen_one (λ (marks : List Mark). marks ≡ logs_marks old.logs) line (logs_marks mid.logs)
+        (ap logs_marks b.runs.logs)
 
 -- ---- the last sequence
 

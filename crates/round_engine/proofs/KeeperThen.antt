@@ -12,6 +12,7 @@ use Rattle.outside.specs.declared.device.Device.{Device}
 use Rattle.log_writer.specs.declared.vault.Vault.{Vault}
 use Rattle.lists.specs.Elements.{in_none}
 use Rattle.script_grammar.specs.declared.lines.KeeperLine.{KeeperLine}
+use Rattle.script_grammar.specs.declared.lines.KeeperLine.TheVariants as asks
 use Rattle.wire_form.specs.declared.clock.Mark.{Mark}
 use Rattle.wire_form.specs.declared.savepoint.Savepoint.{Savepoint}
 use Rattle.log_writer.specs.Points.{point_of, sequence_of}
@@ -19,16 +20,18 @@ use Rattle.log_writer.specs.declared.saved.Saved.{Saved}
 use Rattle.joint_crashes.specs.Images.{epoch_of}
 use Rattle.tx_script.specs.Run.{AdvancesTo, Ran}
 use Rattle.tx_script.specs.Causes.{AnswersCaused, AreMarksOf, KeeperAt, keeper_after, some_counted}
+use Rattle.tx_script.specs.CausedBeside.{SavesSee}
 use Rattle.tx_script.specs.declared.answer.Answer.{Answer}
 use Rattle.tx_script.specs.declared.answer.Answer.TheVariants as answers
-use Rattle.worker_logs.specs.Saves.{logs_marks}
 use Rattle.worker_logs.specs.declared.savepoints.Beside.{Beside}
 use Rattle.worker_logs.specs.Rows.{NeverFall}
 use Rattle.round_engine.specs.Ends.{first_device, wants_memory, where_true}
 use Rattle.round_engine.specs.Gleans.{LeaveGleans, RoundGleans}
-use Rattle.round_engine.specs.Keeping.{answers_end, epoch_now, IsSavedBySeen, is_refusal, keeper_on, KeepsSaves, last_epoch_of}
-use Rattle.round_engine.specs.Keeping.{MarksOf, refusal_told, RestsOn, RunsKeeper}
+use Rattle.round_engine.specs.Keeping.{answers_end, AreSeenFrom, epoch_by, epochs_in, GoOn, IsSavedBySeen, is_refusal, keeper_on}
+use Rattle.round_engine.specs.Keeping.{KeepsSaves, last_epoch_of, last_seen, refusal_told, RestsOn, RunsKeeper}
+use Rattle.round_engine.specs.Keeping.{AreByPlace, SeenAmong}
 use Rattle.round_engine.specs.Saves.{AreSavedIn, beside_after, beside_at_end, newest_after, saves_told}
+use Rattle.round_engine.proofs.Placed.{place_then, sequence_after}
 use Rattle.round_engine.specs.Sides.{is_odd}
 use Rattle.round_engine.specs.Standing.{beside_of, RuntimeState, Standing}
 use Rattle.round_engine.specs.declared.report.End.{End}
@@ -107,6 +110,52 @@ newest_last : (newest : Option Savepoint) (stored : List Saved)
 newest_last newest [] = refl
 newest_last newest (s ∷ stored) = newest_last (Some (point_of (sequence_of newest + 1) s)) stored
 
+-- ---- marks that were seen
+
+-- those in front, and those behind them
+go_on_parts : (from : List Mark) (seen more : List (List Mark)) → GoOn from (seen ++ more)
+    → GoOn from seen × GoOn (last_seen from seen) more
+go_on_parts from [] more going = (tt, going)
+go_on_parts from (marks ∷ seen) more going =
+    let rest = go_on_parts marks seen more going.1 in ((going.0, rest.0), rest.1)
+
+last_seen_then : (from : List Mark) (seen more : List (List Mark))
+    → last_seen from (seen ++ more) ≡ last_seen (last_seen from seen) more
+last_seen_then from [] more = refl
+last_seen_then from (marks ∷ seen) more = last_seen_then marks seen more
+
+-- where they stood is told of each of both
+seen_from_parts : (ran : Ran) (index : ℕ) (seen more : List (List Mark)) → AreSeenFrom ran index (seen ++ more)
+    → AreSeenFrom ran index seen × AreSeenFrom ran (index + length seen) more
+seen_from_parts ran index [] more are =
+    let same : index ≡ index + 0 = omega arith in (tt, subst (λ n. AreSeenFrom ran n more) same are)
+seen_from_parts ran index (marks ∷ seen) more are =
+    let rest = seen_from_parts ran (index + 1) seen more are.1 in
+    let same : index + 1 + length seen ≡ index + length (marks ∷ seen) = omega arith in
+    ((are.0, rest.0), subst (λ n. AreSeenFrom ran n more) same rest.1)
+
+-- what the saves of some lines saw, and those of others
+pub sees_then : (ran : Ran) (lines more : List KeeperLine) (said told : List Answer) (index mid last : ℕ) (k : KeeperAt)
+    → SavesSee ran index k lines said mid → SavesSee ran mid (fold keeper_after k said) more told last
+    → SavesSee ran index k (lines ++ more) (said ++ told) last
+sees_then ran [] more [] told index mid last k first next =
+    subst (λ n. SavesSee ran n k more told last) (sym first) next
+sees_then ran (asks.Save ∷ lines) more (answers.Save e ∷ said) told index mid last k first next =
+    (first.0, sees_then ran lines more said told (index + 1) mid last (keeper_after k (answers.Save e)) first.1 next)
+sees_then ran (asks.Save ∷ lines) more (answers.Unrun ∷ said) told index mid last k first next =
+    sees_then ran lines more said told index mid last (keeper_after k answers.Unrun) first next
+sees_then ran (asks.Save ∷ lines) more (a ∷ said) told index mid last k first next =
+    sees_then ran lines more said told (index + 1) mid last (keeper_after k a) first next
+sees_then ran (l ∷ lines) more (a ∷ said) told index mid last k first next =
+    sees_then ran lines more said told index mid last (keeper_after k a) first next
+sees_then ran [] more (a ∷ said) told index mid last k first next = absurd first
+sees_then ran (l ∷ lines) more [] told index mid last k first next = absurd first
+
+all_parts : {X : Type 0} (P : X → Type 0) (xs ys : List X) → AllByRecursion P (xs ++ ys)
+    → AllByRecursion P xs × AllByRecursion P ys
+all_parts P [] ys all = (tt, all)
+all_parts P (x ∷ xs) ys all = let rest = all_parts P xs ys all.1 in ((all.0, rest.0), rest.1)
+
 -- ---- refusals
 
 pub record NothingRefused (failed : Option Saved) (broken : List Device) (damaged : Option (Device × ℕ))
@@ -143,10 +192,10 @@ refusal_more None None None said told none =
 -- ---- some lines, and more
 
 module _ {D : Type 0} {tells : D → Option (List ℕ)} {clock : D → ℕ} {image_at : D → ℕ → List ℕ → Type 0} {faults : D → ℕ}
-    {lines more : List KeeperLine} {said told : List Answer} {refusal : Option End} {old mid new : RuntimeState}
-    {before between now : Vault D} (sound : mid.store.sound ≡ true)
-    (first : RunsKeeper tells clock image_at faults lines said None old mid before between)
-    (next : RunsKeeper tells clock image_at faults more told refusal mid new between now) where
+    {seen later_seen : List (List Mark)} {lines more : List KeeperLine} {said told : List Answer} {refusal : Option End}
+    {old mid new : RuntimeState} {before between now : Vault D} (sound : mid.store.sound ≡ true)
+    (first : RunsKeeper tells clock image_at faults seen lines said None old mid before between)
+    (next : RunsKeeper tells clock image_at faults later_seen more told refusal mid new between now) where
   nothing : NothingRefused first.failed first.broken first.damaged said
   nothing = refused_nothing first.failed first.broken first.damaged said first.refusal_is
 
@@ -173,16 +222,25 @@ module _ {D : Type 0} {tells : D → Option (List ℕ)} {clock : D → ℕ} {ima
   ]
 
   abbrev Between : Beside → Saved → Type 0
-  Between = IsSavedBySeen (MarksOf old old.stands.clock.epoch new.stands.clock.epoch)
+  Between = IsSavedBySeen (SeenAmong (seen ++ later_seen) old.stands.clock.epoch new.stands.clock.epoch)
 
   marks_first : (b : Beside) (s : Saved)
-      → IsSavedBySeen (MarksOf old old.stands.clock.epoch mid.stands.clock.epoch) b s → Between b s
-  marks_first b s is = (is.0, is.1, (is.2.0, omega (arith, is.2.1, next.later), is.2.2), is.3)
+      → IsSavedBySeen (SeenAmong seen old.stands.clock.epoch mid.stands.clock.epoch) b s → Between b s
+  marks_first b s is = (
+    is.0,
+    is.1,
+    (is.2.0, omega (arith, is.2.1, next.later), Contains-append_left seen later_seen is.1 is.2.2),
+    is.3,
+  )
 
   marks_next : (b : Beside) (s : Saved)
-      → IsSavedBySeen (MarksOf mid mid.stands.clock.epoch new.stands.clock.epoch) b s → Between b s
-  marks_next b s is =
-      (is.0, is.1, (omega (arith, is.2.0, first.later), is.2.1, is.2.2 ∙ ap logs_marks first.logs), is.3)
+      → IsSavedBySeen (SeenAmong later_seen mid.stands.clock.epoch new.stands.clock.epoch) b s → Between b s
+  marks_next b s is = (
+    is.0,
+    is.1,
+    (omega (arith, is.2.0, first.later), is.2.1, Contains-append_right seen later_seen is.1 is.2.2),
+    is.3,
+  )
 
   abbrev epochs : List Saved → List ℕ
   epochs stored = map (λ (s : Saved). s.epoch) stored
@@ -195,26 +253,34 @@ module _ {D : Type 0} {tells : D → Option (List ℕ)} {clock : D → ℕ} {ima
   all_epochs = ap epochs (append_assoc first.stored next.stored (option_to_list next.failed))
       ∙ map-append (λ (s : Saved). s.epoch) first.stored (next.stored ++ option_to_list next.failed)
 
-  risen : epoch_of old.save.newest ≤ epoch_now old
+  risen : (from : List Mark) → GoOn from (seen ++ later_seen)
+      → epoch_of old.save.newest ≤ epoch_by old.stands.clock.epoch from
       → NeverFall (epoch_of old.save.newest) (epochs ((first.stored ++ next.stored) ++ option_to_list next.failed))
       × (last_epoch_of (epoch_of old.save.newest) (epochs ((first.stored ++ next.stored) ++ option_to_list next.failed))
-      ≤ epoch_now new)
-  risen low =
-      let one = first.rise low in
+      ≤ epoch_by new.stands.clock.epoch (last_seen from (seen ++ later_seen)))
+  risen from going low =
+      let parts = go_on_parts from seen later_seen going in
+      let one = first.rise from parts.0 low in
       let never : NeverFall (epoch_of old.save.newest) (epochs first.stored) =
       subst (λ l. NeverFall (epoch_of old.save.newest) (epochs l)) first_stored one.0 in
-      let last : last_epoch_of (epoch_of old.save.newest) (epochs first.stored) ≤ epoch_now mid =
-      subst (λ l. last_epoch_of (epoch_of old.save.newest) (epochs l) ≤ epoch_now mid) first_stored one.1 in
+      let last : last_epoch_of (epoch_of old.save.newest) (epochs first.stored)
+      ≤ epoch_by mid.stands.clock.epoch (last_seen from seen) =
+      subst (λ l. last_epoch_of (epoch_of old.save.newest) (epochs l)
+      ≤ epoch_by mid.stands.clock.epoch (last_seen from seen)) first_stored one.1 in
       let newest : epoch_of mid.save.newest ≡ last_epoch_of (epoch_of old.save.newest) (epochs first.stored) =
       ap epoch_of first.keeps.newest ∙ newest_last old.save.newest first.stored in
-      let two = next.rise (omega (arith, newest, last)) in (
+      let two = next.rise (last_seen from seen) parts.1 (omega (arith, newest, last)) in
+      let high = epoch_by new.stands.clock.epoch (last_seen from (seen ++ later_seen)) in
+      let second : last_epoch_of (epoch_of mid.save.newest) (epochs (next.stored ++ option_to_list next.failed)) ≤ high =
+      subst (λ l. last_epoch_of (epoch_of mid.save.newest) (epochs (next.stored ++ option_to_list next.failed))
+      ≤ epoch_by new.stands.clock.epoch l) (sym (last_seen_then from seen later_seen)) two.1 in (
         subst (NeverFall (epoch_of old.save.newest)) (sym all_epochs)
             (never_then (epoch_of old.save.newest) (epochs first.stored) (epochs (next.stored ++ option_to_list next.failed))
             never (subst (λ e. NeverFall e (epochs (next.stored ++ option_to_list next.failed))) newest two.0)),
-        subst (λ l. last_epoch_of (epoch_of old.save.newest) l ≤ epoch_now new) (sym all_epochs)
-            (subst (λ e. e ≤ epoch_now new)
+        subst (λ l. last_epoch_of (epoch_of old.save.newest) l ≤ high) (sym all_epochs)
+            (subst (λ e. e ≤ high)
             (sym (last_then (epoch_of old.save.newest) (epochs first.stored) (epochs (next.stored ++ option_to_list next.failed))))
-            (subst (λ e. last_epoch_of e (epochs (next.stored ++ option_to_list next.failed)) ≤ epoch_now new) newest two.1)),
+            (subst (λ e. last_epoch_of e (epochs (next.stored ++ option_to_list next.failed)) ≤ high) newest second)),
       )
 
   not_refused : list_any is_refusal said ≡ false
@@ -228,11 +294,13 @@ module _ {D : Type 0} {tells : D → Option (List ℕ)} {clock : D → ℕ} {ima
   stands_between = first.at_end ∙ ap (λ b. record (keeper_on mid b) { pages = (beside_at_end (beside_of old) said).count }) not_refused
       ∙ ap (λ n. record (keeper_on mid false) { pages = n }) (sym (first.gleaned.many sound))
 
-  causes : (ran : Ran) → RestsOn old (first.gleans ++ next.gleans) next.failed next.broken next.damaged ran
+  causes : (ran : Ran)
+      → RestsOn old (seen ++ later_seen) (first.gleans ++ next.gleans) next.failed next.broken next.damaged ran
       → AnswersCaused ran (keeper_on old false) (lines ++ more) (said ++ told)
   causes ran rests = caused_then ran lines more said told (keeper_on old false)
       (first.caused ran (record {
-        marks = rests.marks;
+        marks = (all_parts (λ (marks : List Mark). AreMarksOf ran.beside.marks (epochs_in marks)) seen later_seen
+            rests.marks).0;
         odd = rests.odd;
         closed_at = rests.closed_at;
         room = rests.room;
@@ -243,7 +311,8 @@ module _ {D : Type 0} {tells : D → Option (List ℕ)} {clock : D → ℕ} {ima
             absurd (in_none device (subst (λ l. Contains l device) nothing.broken_is has));
       }))
       (subst (λ k. AnswersCaused ran k more told) (sym stands_between) (next.caused ran (record {
-        marks = subst (λ l. AreMarksOf ran.beside.marks (map (λ (m : Mark). m.epoch) (logs_marks l))) (sym first.logs) rests.marks;
+        marks = (all_parts (λ (marks : List Mark). AreMarksOf ran.beside.marks (epochs_in marks)) seen later_seen
+            rests.marks).1;
         odd = rests.odd ∙ ap is_odd (sym left.side);
         closed_at = rests.closed_at ∙ sym left.closed_at;
         room = rests.room ∙ sym left.room;
@@ -253,8 +322,21 @@ module _ {D : Type 0} {tells : D → Option (List ℕ)} {clock : D → ℕ} {ima
         device = rests.device;
       })))
 
+  sees : (ran : Ran) (index : ℕ) → AreSeenFrom ran index (seen ++ later_seen)
+      → SavesSee ran index (keeper_on old false) (lines ++ more) (said ++ told) (index + length (seen ++ later_seen))
+  sees ran index are =
+      let parts = seen_from_parts ran index seen later_seen are in
+      let last : index + length seen + length later_seen ≡ index + length (seen ++ later_seen) =
+      omega (arith, length-append seen later_seen) in
+      sees_then ran lines more said told index (index + length seen) (index + length (seen ++ later_seen))
+      (keeper_on old false) (first.saw ran index parts.0)
+      (subst (λ k. SavesSee ran (index + length seen) k more told (index + length (seen ++ later_seen))) (sym stands_between)
+      (subst (λ n. SavesSee ran (index + length seen) (keeper_on mid false) more told n) last
+      (next.saw ran (index + length seen) parts.1)))
+
   -- The lines, and more of them behind no refusal.
-  pub keeper_then : RunsKeeper tells clock image_at faults (lines ++ more) (said ++ told) refusal old new before now
+  pub keeper_then : RunsKeeper tells clock image_at faults (seen ++ later_seen) (lines ++ more) (said ++ told) refusal old
+      new before now
   keeper_then = record {
     stored = first.stored ++ next.stored;
     failed = next.failed;
@@ -264,15 +346,25 @@ module _ {D : Type 0} {tells : D → Option (List ℕ)} {clock : D → ℕ} {ima
     keeps = keeps_then sound (subst (λ f. KeepsSaves tells clock image_at faults first.stored f old mid before between)
         nothing.failed_is first.keeps) next.keeps;
     by_lines = saved_in_then Between (beside_of old) said told first.stored next.stored
-        (saved_in_weaker (IsSavedBySeen (MarksOf old old.stands.clock.epoch mid.stands.clock.epoch)) Between
+        (saved_in_weaker (IsSavedBySeen (SeenAmong seen old.stands.clock.epoch mid.stands.clock.epoch)) Between
         (beside_of old) said first.stored marks_first first.by_lines)
         (subst (λ b. AreSavedIn Between b told next.stored) middle
-        (saved_in_weaker (IsSavedBySeen (MarksOf mid mid.stands.clock.epoch new.stands.clock.epoch)) Between
+        (saved_in_weaker (IsSavedBySeen (SeenAmong later_seen mid.stands.clock.epoch new.stands.clock.epoch)) Between
         (beside_of mid) told next.stored marks_next next.by_lines));
     by_failed = subst (λ b. AllByRecursion (Between b) (option_to_list next.failed)) (sym both)
-        (all_weaker (IsSavedBySeen (MarksOf mid mid.stands.clock.epoch new.stands.clock.epoch)
+        (all_weaker (IsSavedBySeen (SeenAmong later_seen mid.stands.clock.epoch new.stands.clock.epoch)
         (beside_at_end (beside_of mid) told)) (Between (beside_at_end (beside_of mid) told))
         (marks_next (beside_at_end (beside_of mid) told)) (option_to_list next.failed) next.by_failed);
+    by_place = subst (λ l. AreByPlace old.side (seen ++ later_seen) l (sequence_of old.save.newest) (sequence_of new.save.newest))
+        (sym (append_assoc first.stored next.stored (option_to_list next.failed)))
+        (place_then old.side seen later_seen first.stored (next.stored ++ option_to_list next.failed) (sequence_of old.save.newest)
+        (sequence_of mid.save.newest) (sequence_of new.save.newest)
+        (subst (λ l. AreByPlace old.side seen l (sequence_of old.save.newest) (sequence_of mid.save.newest)) first_stored
+        first.by_place)
+        (subst (λ s. AreByPlace s later_seen (next.stored ++ option_to_list next.failed) (sequence_of mid.save.newest)
+        (sequence_of new.save.newest)) first.leaves.side next.by_place)
+        (ap sequence_of first.keeps.newest ∙ sequence_after old.save.newest first.stored)
+        (omega (arith, ap sequence_of next.keeps.newest, sequence_after mid.save.newest next.stored)));
     gleaned = gleans_both sound decls_same gleaned left next.gleaned next.leaves next.needs;
     leaves = leaves_both sound decls_same gleaned left next.gleaned next.leaves next.needs;
     needs = record {
@@ -310,6 +402,7 @@ module _ {D : Type 0} {tells : D → Option (List ℕ)} {clock : D → ℕ} {ima
     told = map-append (λ (s : Saved). s.epoch) first.stored next.stored ∙ ap (λ l. l ++ epochs next.stored) first.told
         ∙ ap (λ l. saves_told said ++ l) next.told ∙ sym (saves_on said told);
     caused = causes;
+    saw = sees;
     above = λ low. next.above (first.above low);
     tie_room = omega (arith, first.tie_room, next.tie_room, length-append lines more);
     cut_room = next.cut_room ∙ first.cut_room;

@@ -54,9 +54,19 @@ pub mod Swapping
 mod LineEngines
 mod NothingRun
 mod WhoseLines
-mod NoneRun
 mod Called
 pub mod Taking
 pub mod FirstContents
 pub mod FirstNumbers
 pub mod Opened
+pub mod SideSteps
+pub mod SideCalls
+pub mod SideBack
+pub mod SideSeen
+pub mod RoundMarks
+pub mod Together
+pub mod Placed
+pub mod SinceCuts
+pub mod InTurn
+pub mod MayBegin
+pub mod LentParts

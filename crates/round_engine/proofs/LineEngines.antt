@@ -48,6 +48,17 @@ plain_once e now s ended (Ok ran) same drew = λ has. record {
 }
 plain_once e now s ended (Err memory) same drew = tt
 
+-- and so without a word of trees
+pub plain_once_alone : (e now s : Standing) (ended : Bool) (result : Result WorkersRan Memory) → e ≡ s
+    → IfOk result (λ ran. DrewOnce e now ran.outcomes)
+    → IfOk result (λ ran. DrewOnce s (record now { ended = ended }) ran.outcomes)
+plain_once_alone e now s ended (Ok ran) same drew = record {
+  once = drew.once ∙ ap (λ (x : Standing). x.clock.draw + commit_count ran.outcomes) same;
+  alone = drew.alone ∙ ap (λ (x : Standing). x.conflicts) same;
+  plain = drew.plain;
+}
+plain_once_alone e now s ended (Err memory) same drew = tt
+
 -- nothing is said of the history of an engine that has none
 pub plain_history : (round : Round) (s t : Standing) (result : Result WorkersRan Memory) → (SharesWords s → ⊥)
     → IfOk result (λ ran. SharesWords s → KeepsHistory round ran.outcomes s t)

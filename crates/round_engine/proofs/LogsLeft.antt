@@ -1,19 +1,20 @@
 -- What a round leaves of one worker's log, from what its lines and the join did.
 use Rattle.std.proofs.Common.{◌≡◌, ◌≤◌, ◌<◌, ◌+◌, ◌-◌, ◌++◌, ◌∷◌, inl, inr, sym, ap, subst, refl, ℕ, zero, suc, List, []}
-use Rattle.std.proofs.Common.{map, Bool, true, false, cond, Option, Some, append_assoc, arith, eqb, eq-eqb}
+use Rattle.std.proofs.Common.{Bool, true, false, cond, Option, Some, append_assoc, arith, eqb, eq-eqb}
 use Rattle.std.specs.Prelude.{flat_map, option_to_list}
 use Rattle.std.specs.List.{AllByRecursion, Contains}
 use Rattle.std.proofs.lemmas.Bool.{cases_eq, ne_eqb}
 use Rattle.std.proofs.lemmas.List.{append-nil}
-use Rattle.std.proofs.lemmas.List.Elements.{Contains-append_left, Contains-push}
-use Rattle.lists.specs.Fronts.{IsFront}
+use Rattle.std.proofs.lemmas.List.Elements.{Contains-push}
 use Rattle.serial_model.specs.declared.number.Commit.{Commit}
 use Rattle.serial_model.specs.declared.op.Op.{Op}
 use Rattle.wire_form.specs.declared.clock.Mark.{Mark}
 use Rattle.worker_logs.specs.Logs.{IsEpochPassed, IsJoined, IsLog, IsPassed, LogGoesOn, LogRan, LogState}
 use Rattle.worker_logs.specs.LogLaws.{log_begins, log_idles}
-use Rattle.worker_logs.specs.Rows.{IsBeforeOne, LogTakes, NeverFall}
-use Rattle.worker_logs.specs.RowLaws.{epochs_of, falls_lower, rise_more, rise_one}
+use Rattle.worker_logs.specs.Rows.{NeverFall}
+use Rattle.worker_logs.specs.RowLaws.{epochs_of, falls_lower}
+use Rattle.worker_logs.specs.Shown.{IsShownSince, LogShows, Stood}
+use Rattle.worker_logs.specs.ShownLaws.{shows_move}
 use Rattle.joint_crashes.specs.Marks.{IsAbove, Marks}
 use Rattle.joint_crashes.specs.Crashes.Marking.{mark_put}
 use Rattle.round_engine.specs.Workers.{idle_if_not, idled, is_busy}
@@ -68,34 +69,24 @@ rise_then low epoch last (m ∷ set) more first then of more_of =
     subst (λ e. NeverFall low (option_to_list e ++ flat_map (λ (m : Mark). option_to_list m.epoch) (set ++ more))) (sym of.0)
     (first, rise_then epoch epoch last set more (omega arith) then of.1 more_of)
 
--- the marks of a worker over a round: as it begins, while its lines ran, and those of the join
-pub marks_rise : (lines : List (List Op)) (old : LogState) (set more : List Mark) (epoch high last : ℕ)
-    → epoch ≤ last + 1 → high ≤ last + 1 → IsJoined epoch old
-    → AllByRecursion (λ (m : Mark). IsBeforeOne epoch high m.epoch) set → NeverFall (epoch - 1) (epochs_of set)
-    → AllByRecursion (λ (m : Mark). m.epoch ≡ Some last) more
-    → NeverFall 0 (epochs_of ((idled lines old).mark ∷ (set ++ more)))
-marks_rise lines old set more epoch high last later most joined of rise more_of =
-    begins lines (rise_more (epoch - 1) epoch high last set more (omega (arith, later)) most of rise
-    (rise_one last more more_of))
-  where
-    begins : (lines : List (List Op)) → NeverFall (epoch - 1) (epochs_of (set ++ more))
-        → NeverFall 0 (option_to_list (idled lines old).mark.epoch ++ epochs_of (set ++ more))
-    begins [] rise = falls_lower 0 (epoch - 1) (epochs_of (set ++ more)) (omega arith) rise
-    begins (ops ∷ lines) rise =
-        subst (λ e. NeverFall 0 (option_to_list e ++ epochs_of (set ++ more)))
-        (sym (ap (λ (m : Mark). m.epoch) joined.marked)) (omega arith, rise)
+-- the marks of a worker over a round: as it begins, and those that were set then
+pub marks_rise : (lines : List (List Op)) (old : LogState) (set : List Mark) (epoch : ℕ) → IsJoined epoch old
+    → NeverFall (epoch - 1) (epochs_of set) → NeverFall 0 (epochs_of ((idled lines old).mark ∷ set))
+marks_rise [] old set epoch joined rise = falls_lower 0 (epoch - 1) (epochs_of set) (omega arith) rise
+marks_rise (ops ∷ lines) old set epoch joined rise =
+    subst (λ e. NeverFall 0 (option_to_list e ++ epochs_of set)) (sym (ap (λ (m : Mark). m.epoch) joined.marked))
+    (omega arith, rise)
 
 module _ {D : Type 0} (tells : D → Option (List ℕ)) (clock : D → ℕ) (image_at : D → ℕ → List ℕ → Type 0) where
   -- What a worker's log comes to over a round, for whoever knows what it had before: each mark since then is told,
-  -- with the ones behind its lines and behind the join.
-  pub record Leaves (commits logged : List Commit) (was : List ℕ) (epoch : Option ℕ) (lines_log log : LogState)
-      (before now : D) : Type 0 where
+  -- among them those that were shown to others, and the one behind the join.
+  pub record Leaves (commits logged : List Commit) (was : List ℕ) (shown : List Stood) (log : LogState) (before now : D)
+      : Type 0 where
     pub durable : List ℕ
     pub marks : List Mark
     pub ran : LogRan tells clock image_at (commits ++ logged) was durable marks before now log
-    pub while_run : IsFront (epoch ∷ []) (map (λ (m : Mark). m.epoch) marks)
+    pub since : AllByRecursion (IsShownSince clock image_at durable (clock before) now marks) shown
     pub rise : NeverFall 0 (flat_map (λ (m : Mark). option_to_list m.epoch) marks)
-    pub behind_lines : Contains marks lines_log.mark
     pub behind_join : Contains marks log.mark
 
 module _ {D : Type 0} {tells : D → Option (List ℕ)} {clock : D → ℕ} {image_at : D → ℕ → List ℕ → Type 0} where
@@ -115,29 +106,31 @@ module _ {D : Type 0} {tells : D → Option (List ℕ)} {clock : D → ℕ} {ima
   idled_log true epoch is joined = is
   idled_log false epoch is joined = log_idles is joined.flushed (ap (λ (m : Mark). m.length) joined.marked)
 
-  pub worker_leaves : {epoch high last : ℕ} {lines : List (List Op)} {logged : List Commit} {old mid new : LogState}
-      {before between now : D}
+  pub worker_leaves : {epoch high last : ℕ} {lines : List (List Op)} {logged : List Commit} {shown : List Stood}
+      {old mid new : LogState} {before between now : D}
       → 1 ≤ epoch → epoch ≤ last + 1 → high ≤ last + 1 → IsJoined epoch old → (lines ≡ [] → logged ≡ [])
-      → LogTakes tells clock image_at epoch high logged (idled lines old) mid before between
+      → LogShows tells clock image_at epoch high logged shown (idled lines old) mid before between
       → LogGoesOn tells clock image_at last mid new between now
       → (commits : List Commit) (was : List ℕ) → IsLog tells clock image_at commits was old before
-      → Leaves tells clock image_at commits logged was (idled lines old).mark.epoch mid new before now
-  worker_leaves {epoch = epoch} {high = high} {last = last} {lines = lines} {logged = logged} {old = old} {mid = mid} {new = new} {before = before}
-      first later most joined none takes goes commits was is =
+      → Leaves tells clock image_at commits logged was shown new before now
+  worker_leaves {epoch = epoch} {last = last} {lines = lines} {logged = logged} {old = old} {mid = mid} {new = new}
+      {before = before} {between = between} {now = now} first later most joined none shows goes commits was is =
       let start : LogState = idled lines old in
       let begins = log_begins (idled_log (is_busy lines) epoch is joined) in
       let passed : (logged ≡ [] → ⊥) → AllByRecursion (IsPassed epoch) (start.mark ∷ []) = λ some.
       (idled_passed lines old epoch first joined (λ no. some (none no)), tt) in
-      let took = takes commits was was (start.mark ∷ []) before begins passed in
-      let went = goes (commits ++ logged) was took.durable (start.mark ∷ took.set) before took.ran in
+      let showed = shows_move later most shows
+      (subst (λ e. LogGoesOn tells clock image_at e mid new between now) (one_less last) goes)
+      commits was was (start.mark ∷ []) before begins passed in
       record {
-        durable = went.durable;
-        marks = start.mark ∷ (took.set ++ went.set);
-        ran = went.ran;
-        while_run = refl;
-        rise = marks_rise lines old took.set went.set epoch high last later most joined took.of_epochs took.rise
-            went.of_epoch;
-        behind_lines = Contains-append_left (start.mark ∷ took.set) went.set mid.mark
-            (subst (λ l. Contains l mid.mark) (sym took.ran.last.1) (Contains-push took.ran.last.0 mid.mark));
-        behind_join = subst (λ l. Contains l new.mark) (sym went.ran.last.1) (Contains-push went.ran.last.0 new.mark);
+        durable = showed.took.durable;
+        marks = start.mark ∷ showed.took.set;
+        ran = showed.took.ran;
+        since = showed.each;
+        rise = marks_rise lines old showed.took.set epoch joined showed.took.rise;
+        behind_join = subst (λ l. Contains l new.mark) (sym showed.took.ran.last.1)
+            (Contains-push showed.took.ran.last.0 new.mark);
       }
+    where
+      one_less : (n : ℕ) → n ≡ (n + 1) - 1
+      one_less n = omega arith

@@ -16,6 +16,7 @@ use Rattle.script_grammar.specs.Script.{Round, lines_of_worker}
 use Rattle.script_grammar.specs.declared.lines.KeeperLine.{KeeperLine}
 use Rattle.serial_model.specs.declared.op.Op.{Op}
 use Rattle.tx_script.specs.Causes.{some_counted}
+use Rattle.tx_script.specs.Run.{Readied}
 use Rattle.tx_script.specs.declared.answer.Answer.{Answer}
 use Rattle.tx_script.specs.declared.outcome.Outcome.{Outcome}
 use Rattle.wire_form.specs.declared.clock.Mark.{Mark}
@@ -23,9 +24,12 @@ use Rattle.worker_logs.specs.FlushAll.{FlushesAll}
 use Rattle.worker_logs.specs.LogLaws.{log_resets, mark_kept, some_goes}
 use Rattle.worker_logs.specs.Logs.{IsJoined, IsPassed, IsSomeLog, LogState, reset_log}
 use Rattle.worker_logs.specs.RowLaws.{some_takes}
+use Rattle.worker_logs.specs.Shown.{Stood}
+use Rattle.worker_logs.specs.ShownLaws.{shows_takes}
 use Rattle.worker_logs.specs.Saves.{AreDurable, closed_number, growing_number, logs_marks}
 use Rattle.worker_logs.specs.declared.savepoints.Side.{Side}
 use Rattle.round_engine.specs.Keeping.{RunsJoin, RunsKeeper}
+use Rattle.round_engine.specs.Phases.{as_begun}
 use Rattle.round_engine.specs.Shares.{Share, logged_in}
 use Rattle.round_engine.specs.Sides.{closed_in, closed_numbers, growing_in, other_side}
 use Rattle.round_engine.specs.Standing.{ArePassed, beside_of, LogsStand, RuntimeState, Standing}
@@ -125,33 +129,34 @@ module _ {D : Type 0} {tells : D → Option (List ℕ)} {clock : D → ℕ} {ima
             let was = item_at start w (omega (arith, below, many)) in
             let bank_was = item_at (growing_in side before) w (omega (arith, below, banks_many)) in
             let one = lines_at w over many was.1 at bank_was.1 (sym (growing_at side now w) ∙ there) in
-            some_takes s.clock.epoch t.clock.epoch (logged_in shares w) one.takes (passed w was.0 was.1)
+            some_takes s.clock.epoch t.clock.epoch (logged_in shares w) (shows_takes one.shows) (passed w was.0 was.1)
             (stand.growing w was.0 bank_was.0 was.1 (growing_at side before w ∙ bank_was.1));
         closed = λ w n bank at there. stand.closed w n bank at
             (closed_at side before w ∙ ap (λ l. slice_get l w) (sym closed) ∙ sym (closed_at side now w) ∙ there);
       }
 
   -- all of them
-  pub stand_ran : {tries : ℕ} (round : Round) (r mid : RuntimeState) (before between : Vault D)
-      {outcomes : List (List Outcome)} {ends : List LogEnd}
-      → RunsWorkers tells clock image_at faults tries round r.stands mid.stands outcomes ends r.logs mid.logs
+  pub stand_ran : {tries : ℕ} (round : Round) (r mid : RuntimeState) (worked : Standing) (before between : Vault D)
+      {outcomes : List (List Outcome)} {ends : List LogEnd} {marks : List (List Stood)} {readied : List (List Readied)}
+      → RunsWorkers tells clock image_at faults tries round r.stands worked outcomes ends marks readied r.logs mid.logs
       (growing_in r.side before) (growing_in r.side between)
-      → mid ≡ record r { stands = mid.stands; logs = mid.logs }
+      → mid ≡ record r { stands = as_begun r.stands worked; logs = mid.logs }
       → length r.logs ≡ 8 → length (growing_in r.side before) ≡ 8 → ArePassed round r
       → closed_in r.side between ≡ closed_in r.side before
       → LogsStand tells clock image_at r.side r.logs r.counted before
       → LogsStand tells clock image_at mid.side mid.logs mid.counted between
-  stand_ran {tries = tries} round r mid before between lines alone many banks_many passed closed stand =
+  stand_ran {tries = tries} round r mid worked before between lines alone many banks_many passed closed stand =
       subst (λ (x : RuntimeState). LogsStand tells clock image_at x.side mid.logs x.counted between) (sym alone)
       (stand_lines r.side before between lines.over many banks_many
-      (λ w log at any. passed w log at (λ none. any (logged_nothing r.stands.decls r.stands.clock.draw
-      mid.stands.clock.draw tries lines.shares w lines.over.runs.each
+      (λ w log at any. passed w log at (λ none. any (logged_nothing r.stands.decls r.stands.clock.epoch
+      r.stands.clock.draw worked.clock.draw tries lines.shares w lines.over.runs.each
       (λ p p_at. share_lines round lines.shares w p lines.lines p_at ∙ none))))
       closed stand)
 
   -- those of the maintenance thread
-  pub stand_keeper : {lines : List KeeperLine} {said : List Answer} {refusal : Option End} {old mid : RuntimeState}
-      {before between : Vault D} → RunsKeeper tells clock image_at faults lines said refusal old mid before between
+  pub stand_keeper : {seen : List (List Mark)} {lines : List KeeperLine} {said : List Answer} {refusal : Option End}
+      {old mid : RuntimeState} {before between : Vault D}
+      → RunsKeeper tells clock image_at faults seen lines said refusal old mid before between
       → length old.counted ≡ 8 → LogsStand tells clock image_at old.side old.logs old.counted before
       → LogsStand tells clock image_at mid.side mid.logs mid.counted between
   stand_keeper {said = said} {old = old} {before = before} {between = between} runs many stand = record {

@@ -75,6 +75,7 @@ module _ {D : Type 0} {before lent : Vault D} (room : RoomAlone before lent) whe
         → RunsAll tells clock image_at faults tries round old new lent now report
         → RunsAll tells clock image_at faults tries round old new before now report
     all_in_room {tries = tries} {round = round} {old = old} {report = report} all = record {
+      worked = all.worked;
       mid = all.mid;
       lent = all.lent;
       between = all.between;
@@ -82,14 +83,21 @@ module _ {D : Type 0} {before lent : Vault D} (room : RoomAlone before lent) whe
       after = all.after;
       ends = all.ends;
       refused = all.refused;
-      lines = subst (λ b. RunsWorkers tells clock image_at faults tries round old.stands all.mid.stands report.outcomes
-          all.ends old.logs all.mid.logs b (growing_in old.side all.between)) (same_growing_in old.side before lent room)
-          all.lines;
+      marks = all.marks;
+      readied = all.readied;
+      lines = subst (λ b. RunsWorkers tells clock image_at faults tries round old.stands all.worked report.outcomes
+          all.ends all.marks all.readied old.logs all.mid.logs b (growing_in old.side all.between))
+          (same_growing_in old.side before lent room) all.lines;
       once = all.once;
       history = all.history;
       alone = all.alone;
+      later = all.later;
       room = room_then room all.room;
       beside = all.beside;
+      seen = all.seen;
+      places = all.places;
+      sees = all.sees;
+      back = all.back;
       keeper = all.keeper;
       device_is = all.device_is;
       sequence_is = all.sequence_is;
@@ -102,9 +110,14 @@ module _ {D : Type 0} {before lent : Vault D} (room : RoomAlone before lent) whe
         → RunsSome tells clock image_at faults tries round old new lent now
         → RunsSome tells clock image_at faults tries round old new before now
     some_in_room {tries = tries} {round = round} {old = old} {new = new} {now = now} some = record {
-      stops = subst (λ b. StopsWorkers tells clock image_at faults tries round old.stands new.stands old.logs new.logs b
-          (growing_in old.side now)) (same_growing_in old.side before lent room) some.stops;
+      marks = some.marks;
+      readied = some.readied;
+      stops = subst (λ b. StopsWorkers tells clock image_at faults tries round old.stands new.stands some.marks
+          some.readied old.logs new.logs b (growing_in old.side now)) (same_growing_in old.side before lent room)
+          some.stops;
       alone = some.alone;
+      epoch = some.epoch;
+      pages = some.pages;
       lent = some.lent;
       room = room_then room some.room;
       beside = some.beside;

@@ -1,5 +1,5 @@
 -- A line of the maintenance thread that stores nothing and makes no snapshot.
-use Rattle.std.proofs.Common.{◌≡◌, ◌∙◌, ◌≤◌, ◌-◌, ◌∷◌, sym, ap, subst, refl, ℕ, List, [], length, map}
+use Rattle.std.proofs.Common.{◌+◌, ◌≡◌, ◌∙◌, ◌≤◌, ◌-◌, ◌∷◌, sym, ap, subst, refl, ℕ, List, [], length}
 use Rattle.std.proofs.Common.{Bool, true, false, Option, None, arith}
 use Rattle.std.specs.Prelude.{◌||◌, flat_map, fold, is_some, min, option_to_list, slice_get}
 use Rattle.std.specs.List.{list_any}
@@ -9,21 +9,25 @@ use Rattle.lists.specs.Elements.{in_none}
 use Rattle.outside.specs.Disk.{Runs}
 use Rattle.outside.specs.Moments.{runs_none}
 use Rattle.outside.specs.Reads.{OnlyReads}
+use Rattle.log_writer.specs.Points.{sequence_of}
 use Rattle.log_writer.specs.declared.vault.Vault.{Vault}
 use Rattle.lists.specs.Fronts.{IsFront}
 use Rattle.script_grammar.specs.declared.lines.KeeperLine.{KeeperLine}
+use Rattle.tx_script.specs.CausedBeside.{SavesSee}
+use Rattle.tx_script.specs.SeenLaws.{saved_no_less}
 use Rattle.tx_script.specs.Run.{AdvancesTo, Ran}
 use Rattle.tx_script.specs.Causes.{AnswerCause, keeper_after, some_counted}
 use Rattle.tx_script.specs.declared.answer.Answer.{Answer}
 use Rattle.wire_form.specs.declared.clock.Mark.{Mark}
 use Rattle.snapshot_store.specs.Content.{SnapshotStands, words_of}
 use Rattle.snapshot_store.specs.Store.{HoldsPages, StoreState}
-use Rattle.worker_logs.specs.Saves.{logs_marks, saved_epoch}
+use Rattle.worker_logs.specs.Saves.{saved_epoch}
 use Rattle.worker_logs.specs.declared.savepoints.Beside.{Beside}
 use Rattle.log_writer.specs.declared.saved.Saved.{Saved}
 use Rattle.round_engine.specs.Ends.{wants_memory}
 use Rattle.round_engine.specs.Gleans.{GleansOver, LeaveGleans, RoundGleans}
-use Rattle.round_engine.specs.Keeping.{at_epoch, CanKeep, is_refusal, keeper_on, NeedCounted, RunsKeeper}
+use Rattle.round_engine.specs.Keeping.{AreByPlace, at_epoch, CanKeep, epoch_by, epochs_in, GoOn, is_refusal, keeper_on, last_seen}
+use Rattle.round_engine.specs.Keeping.{NeedCounted, RunsKeeper}
 use Rattle.round_engine.specs.Saves.{AreSavedIn, beside_after, saves_told}
 use Rattle.round_engine.specs.Sides.{closed_in, growing_in}
 use Rattle.round_engine.specs.Standing.{beside_of, RuntimeState}
@@ -142,6 +146,15 @@ least_up m n (x ∷ xs) le = least_up (min m x) (min n x) xs (omega (arith, le))
 pub saved_up : (a b : ℕ) (marks : List (Option ℕ)) → a ≤ b → saved_epoch a marks ≤ saved_epoch b marks
 saved_up a b marks le = least_up (a - 1) (b - 1) (flat_map option_to_list marks) (omega (arith, le))
 
+-- and with marks that go on
+pub saved_on : (a b : ℕ) (from : List Mark) (seen : List (List Mark)) → a ≤ b → GoOn from seen
+    → epoch_by a from ≤ epoch_by b (last_seen from seen)
+saved_on a b from [] le going = saved_up a b (epochs_in from) le
+saved_on a b from (marks ∷ seen) le going =
+    let one = saved_no_less a b (epochs_in from) (epochs_in marks) le going.0 in
+    let rest = saved_on b b marks seen (omega arith) going.1 in
+    omega (arith, one, rest)
+
 -- ---- a line at which at most the epoch is advanced
 
 -- what such an answer is
@@ -158,8 +171,11 @@ module _ {D : Type 0} {tells : D → Option (List ℕ)} {clock : D → ℕ} {ima
       → AdvancesTo r.stands.clock.epoch (answer ∷ []) epoch
       → keeper_after (keeper_on r false) answer ≡ keeper_on (at_epoch r epoch) false
       → ((ran : Ran) → AnswerCause ran (keeper_on r false) line answer)
-      → RunsKeeper tells clock image_at faults (line ∷ []) (answer ∷ []) None r (at_epoch r epoch) vault vault
-  plain_line line answer epoch is le advances after cause =
+      → (seen : List (List Mark)) → ((ran : Ran) (index : ℕ)
+      → SavesSee ran index (keeper_on r false) (line ∷ []) (answer ∷ []) (index + length seen))
+      → AreByPlace r.side seen [] (sequence_of r.save.newest) (sequence_of r.save.newest)
+      → RunsKeeper tells clock image_at faults seen (line ∷ []) (answer ∷ []) None r (at_epoch r epoch) vault vault
+  plain_line line answer epoch is le advances after cause seen saw placed =
       let same : Ungleaned r (at_epoch r epoch) vault vault = record {
         store = refl;
         decls = refl;
@@ -198,15 +214,16 @@ module _ {D : Type 0} {tells : D → Option (List ℕ)} {clock : D → ℕ} {ima
         };
         by_lines = is.none_in _ (beside_of r);
         by_failed = tt;
+        by_place = placed;
         gleaned = gleans_none tells clock image_at faults answer is.tells same;
         leaves = leaves_none tells clock image_at faults answer is.tells same;
         needs = needs_none tells clock image_at faults answer is.tells same;
-        rise = λ low. (
+        rise = λ from going low. (
           tt,
           omega (
             arith,
             low,
-            saved_up r.stands.clock.epoch epoch (map (λ (m : Mark). m.epoch) (logs_marks r.logs)) le,
+            saved_on r.stands.clock.epoch epoch from seen le going,
           ),
         );
         later = le;
@@ -222,6 +239,7 @@ module _ {D : Type 0} {tells : D → Option (List ℕ)} {clock : D → ℕ} {ima
         refusal_is = sym (ap (λ b. where_memory b) (no_more (wants_memory answer) is.remembers));
         told = sym is.unsaved;
         caused = λ ran rests. (cause ran, tt);
+        saw = λ ran index are. saw ran index;
         above = λ low. omega (arith, low, le);
         tie_room = omega arith;
         cut_room = refl;

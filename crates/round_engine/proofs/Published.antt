@@ -24,11 +24,12 @@ published_then s t pages now room most same rooms store is some =
     let was = is (subst (λ n. 0 < n) same.slots some) in
     (same.pages ∙ (was.0 ∙ ap words_of (sym store)), same.resident ∙ (was.1 ∙ sym rooms))
 
--- Lines leave them as they are.
-pub lines_same : {tries : ℕ} {s t : Standing} {shares : List Share} → RunsShares tries s t shares → SamePages s t
-lines_same runs = record {
+-- Lines leave them as they are, beside which no page is published.
+pub lines_same : {tries : ℕ} {s t : Standing} {shares : List Share} → RunsShares tries s t shares → t.pages ≡ s.pages
+    → SamePages s t
+lines_same runs same = record {
   slots = ap (λ (x : Standing). x.slots) runs.only;
-  pages = ap (λ (x : Standing). x.pages) runs.only;
+  pages = same;
   resident = ap (λ (x : Standing). x.resident) runs.only;
 }
 

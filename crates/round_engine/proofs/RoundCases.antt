@@ -1,5 +1,5 @@
 -- A round whose join was left out.
-use Rattle.std.proofs.Common.{◌≡◌, ◌∙◌, ◌≤◌, ◌<◌, ◌++◌, inl, sym, ap, subst, refl, ℕ, List, []}
+use Rattle.std.proofs.Common.{◌≡◌, ◌∙◌, ◌≤◌, ◌<◌, ◌++◌, inl, sym, ap, subst, refl, ℕ, List}
 use Rattle.std.proofs.Common.{length, map, Bool, true, false, cond, not, Option, Some, None, arith}
 use Rattle.std.specs.Prelude.{◌&&◌, ◌^◌, is_some, option_to_list, slice_get}
 use Rattle.std.specs.Prelude.{Ok}
@@ -24,13 +24,13 @@ use Rattle.worker_logs.specs.Saves.{growing_number, logs_marks}
 use Rattle.round_engine.specs.Ends.{closed_failed, comes_to_advance, comes_to_swap, end_of}
 use Rattle.round_engine.specs.Ends.{epoch_after, epoch_joined, first_device}
 use Rattle.round_engine.specs.Ends.{swaps, where_true}
-use Rattle.round_engine.specs.Keeping.{IsSavedBySeen, KeepsSaves, MarksOf}
+use Rattle.round_engine.specs.Keeping.{IsSavedBySeen, KeepsSaves, SeenAmong}
 use Rattle.round_engine.specs.Logs.{IsRefusedBy}
 use Rattle.round_engine.specs.Phases.{RunsAll, ended_as}
 use Rattle.round_engine.specs.RanRound.{Rounds, SwapsFiles}
 use Rattle.round_engine.specs.Refusals.{first_failed, first_told, leaves_out}
 use Rattle.round_engine.specs.Refusals.{lines_refused}
-use Rattle.round_engine.specs.Saves.{AreSaved, beside_at_end, saves_told}
+use Rattle.round_engine.specs.Saves.{AreSaved, beside_at_end, GoesBy, saves_told}
 use Rattle.round_engine.specs.Shares.{Share}
 use Rattle.round_engine.specs.Sides.{closed_in, growing_in, other_side}
 use Rattle.round_engine.specs.Standing.{files_of, AreUp, beside_of, HasSnapshot, IsMarkBefore, IsReady, LogsStand, RuntimeState}
@@ -44,18 +44,20 @@ use Rattle.round_engine.proofs.EndTold.{left_out_some}
 use Rattle.round_engine.proofs.GleanDevices.{nothing_in}
 use Rattle.round_engine.proofs.JoinEnds.{before_later}
 use Rattle.round_engine.proofs.JoinedAs.{none_down_at}
-use Rattle.round_engine.proofs.LinesLeft.{LastStep, last_none, lines_at}
+use Rattle.round_engine.proofs.LinesLeft.{LastStep, last_none, lines_at, shown_in}
 use Rattle.round_engine.proofs.Numbered.{closed_at, growing_at, log_of_is}
 use Rattle.round_engine.proofs.Places.{all_from, nothing_there, map_there}
 use Rattle.round_engine.proofs.RoundDone.{before_many, between_many, cuts_mid, done}
-use Rattle.round_engine.proofs.RoundDone.{ran_with}
+use Rattle.round_engine.proofs.RoundDone.{ran_with, seen_shown, worked_up}
 use Rattle.round_engine.proofs.RoundKept.{first_told_none, nothing_kept, store_told, after_whole, at_end, by_lines, device_is, ends_so, first_is}
 use Rattle.round_engine.proofs.RoundKept.{gleans_told, growing_kept, joined_up, keeper_told, keeps_lines, kept_above, kept_closed}
-use Rattle.round_engine.proofs.RoundKept.{kept_closed_at, kept_counted, kept_durable, kept_first, kept_room, kept_side, kept_snapshot, kept_sound, lines_limit, mid_first}
-use Rattle.round_engine.proofs.RoundKept.{mark_at, mid_beside, quiet_kept, quiet_snaps_kept, reads_kept, refused_as, rise_lines}
+use Rattle.round_engine.proofs.RoundKept.{kept_closed_at, kept_counted, kept_durable, kept_room, kept_side}
+use Rattle.round_engine.proofs.RoundKept.{kept_snapshot, kept_sound, lines_limit, mid_first}
+use Rattle.round_engine.proofs.RoundKept.{mark_at, mid_beside, mid_side, quiet_kept, quiet_snaps_kept, reads_kept}
+use Rattle.round_engine.proofs.RoundKept.{refused_as, rise_lines}
 use Rattle.round_engine.proofs.RoundKept.{rose_kept}
 use Rattle.round_engine.proofs.Turned.{keeps_onto}
-use Rattle.round_engine.proofs.Whole.{SeenIn, below_8}
+use Rattle.round_engine.proofs.Whole.{AreShown, SeenIn, below_8}
 use Rattle.round_engine.proofs.Places.{item_at, map_at}
 
 -- nothing is durable where the join was left out
@@ -108,10 +110,10 @@ module _ {D : Type 0} {tells : D → Option (List ℕ)} {clock : D → ℕ} {ima
   }) (ap (λ (r : RuntimeState). r.save) new_is) store_is (keeps_lines stands ready some start_many idle all)
 
   abbrev Seen : ℕ → List Mark → Type 0
-  Seen = SeenIn old.stands.clock.epoch (epoch_joined ran) all.mid.logs all.mid.logs
+  Seen = SeenIn old.stands.clock.epoch (epoch_joined ran) (shown_in all.lines.shares) all.mid.logs
 
   seen_so : (at : ℕ) (seen : List Mark) → (old.stands.clock.epoch ≤ at) → (at ≤ all.kept.stands.clock.epoch)
-      → seen ≡ logs_marks all.mid.logs → Seen at seen
+      → AreShown (shown_in all.lines.shares) seen → Seen at seen
   seen_so at seen low high is = (low, omega (arith, high, joined_up (comes_to_advance ran) all.kept.stands.clock.epoch), inl is)
 
   saves_out : AreSaved (IsSavedBySeen Seen) (beside_of old) report.keeper (all.keeper.stored ++ option_to_list all.keeper.failed)
@@ -124,9 +126,15 @@ module _ {D : Type 0} {tells : D → Option (List ℕ)} {clock : D → ℕ} {ima
         all = refl;
         told = by_lines stands ready some start_many idle all Seen seen_so;
         behind = subst (λ b. AllByRecursion (IsSavedBySeen Seen b) (option_to_list all.keeper.failed)) same
-            (all_weaker (IsSavedBySeen (MarksOf all.mid all.mid.stands.clock.epoch all.kept.stands.clock.epoch)
+            (all_weaker (IsSavedBySeen (SeenAmong all.seen all.mid.stands.clock.epoch all.kept.stands.clock.epoch)
             (beside_at_end (beside_of all.mid) report.keeper)) (IsSavedBySeen Seen (beside_at_end (beside_of all.mid) report.keeper))
-            (λ saved is. (is.0, is.1, seen_so is.0 is.1 (omega (arith, is.2.0, mid_first stands ready some start_many idle all)) is.2.1 is.2.2, is.3))
+            (λ saved is. (
+              is.0,
+              is.1,
+              seen_so is.0 is.1 (omega (arith, is.2.0, mid_first stands ready some start_many idle all)) is.2.1
+                  (seen_shown stands ready some start_many idle all is.1 is.2.2),
+              is.3,
+            ))
             (option_to_list all.keeper.failed) all.keeper.by_failed);
       }
 
@@ -172,9 +180,9 @@ module _ {D : Type 0} {tells : D → Option (List ℕ)} {clock : D → ℕ} {ima
     above = subst (λ (r : RuntimeState). epoch_of r.save.newest < r.stands.clock.epoch) (sym new_is)
         (kept_above stands ready some start_many idle all);
     marked = all_from (λ (l : LogState). IsMarkBefore new.stands.clock.epoch l.mark.epoch) new.logs (λ w log at.
-        before_later log.mark.epoch old.stands.clock.epoch new.stands.clock.epoch
-        (omega (arith, ap (λ (r : RuntimeState). r.stands.clock.epoch) new_is, kept_first stands ready some start_many idle all))
-        (mark_at stands ready some start_many idle all w log (ap (λ l. slice_get l w) (sym logs_are) ∙ at)).0);
+        before_later log.mark.epoch all.worked.clock.epoch new.stands.clock.epoch
+        (omega (arith, ap (λ (r : RuntimeState). r.stands.clock.epoch) new_is, all.later))
+        (mark_at stands ready some start_many idle all w log (ap (λ l. slice_get l w) (sym logs_are) ∙ at)));
     closed =
         let was = kept_closed stands ready some start_many idle all in
         record {
@@ -249,11 +257,17 @@ module _ {D : Type 0} {tells : D → Option (List ℕ)} {clock : D → ℕ} {ima
     now_many = ap length growing_is ∙ between_many stands ready some start_many idle all;
     keeps = keeps_out;
     saves = saves_out;
+    placed = λ k saved places at told.
+        let one = all.keeper.by_place.by k saved at in
+        (one.0, one.1, subst (λ s. GoesBy s one.0 saved) (mid_side stands ready some start_many idle all) one.2);
     last = λ w lines log was is at there bank bank_now.
-        subst (λ x. LastStep tells clock image_at faults old.stands.clock.epoch lines x was is)
+        subst (λ x. LastStep tells clock image_at faults old.stands.clock.epoch all.worked.clock.epoch lines x was is)
         (down_same w lines log at there)
-        (subst (λ x. LastStep tells clock image_at faults old.stands.clock.epoch lines lines was x)
-        (same_Some was is (sym bank ∙ ap (λ l. slice_get l w) (sym growing_is) ∙ bank_now)) (last_none old.stands.clock.epoch lines was));
+        (subst (λ x. LastStep tells clock image_at faults old.stands.clock.epoch all.worked.clock.epoch lines lines
+        was x)
+        (same_Some was is (sym bank ∙ ap (λ l. slice_get l w) (sym growing_is) ∙ bank_now))
+        (last_none old.stands.clock.epoch all.worked.clock.epoch lines was
+        (worked_up stands ready some start_many idle all)));
     fails = λ is. is;
     told_others = λ device has. has;
     beside = λ device has. (rose_kept stands ready some start_many idle all device has).0;

@@ -1,9 +1,9 @@
 -- A round put together from its phases, whichever engine ran its lines.
 use Rattle.std.proofs.Common.{◌≡◌, ◌↔◌, ◌∙◌, ◌≤◌, ◌<◌, ◌+◌, ◌-◌, ◌⊎◌, ◌++◌, ◌∷◌, inl, inr, sym, ap, subst, refl, ℕ}
 use Rattle.std.proofs.Common.{suc, List, [], length, map, Bool, true, false, Option, Some, None, arith}
-use Rattle.std.specs.Prelude.{is_some, option_to_list, slice_get, Ok}
+use Rattle.std.specs.Prelude.{get_or, is_some, option_to_list, slice_get, Ok}
 use Rattle.std.specs.Option.{option_map}
-use Rattle.std.specs.List.{Contains}
+use Rattle.std.specs.List.{AllByRecursion, Contains}
 use Rattle.std.proofs.lemmas.List.{length-map}
 use Rattle.std.proofs.lemmas.Option.{same_Some}
 use Rattle.lists.specs.Each.{all_at}
@@ -23,29 +23,33 @@ use Rattle.joint_crashes.specs.VaultReads.{RoseIn}
 use Rattle.tx_script.specs.Run.{AdvancesTo, LogFailed, LogFiles, LogFull, LogRefusal, Ran}
 use Rattle.tx_script.specs.Causes.{AllCaused, AnswersCaused, AreMarksOf, KeeperAt, LogsCaused, keeper_at_end, keeper_before}
 use Rattle.tx_script.specs.Causes.{last_sequence, log_limit as file_limit, log_of, longest_line, some_counted}
+use Rattle.tx_script.specs.CausedBeside.{CausedBeside, SavesSee}
 use Rattle.tx_script.specs.Conflicts.{WorkersMet}
 use Rattle.tx_script.specs.Draws.{commit_count}
+use Rattle.tx_script.specs.Readied.{AllReadied}
+use Rattle.tx_script.specs.Seen.{AllInOrder}
 use Rattle.tx_script.specs.declared.outcome.Outcome.{Outcome}
 use Rattle.tx_script.specs.declared.outcome.Outcome.TheVariants.{Unrun}
 use Rattle.worker_logs.specs.Logs.{IsJoined, LogState, log_limit}
-use Rattle.worker_logs.specs.Saves.{closed_number, growing_number, logs_marks}
+use Rattle.worker_logs.specs.Saves.{closed_number, growing_number}
 use Rattle.worker_logs.specs.declared.savepoints.Side.{Side}
 use Rattle.worker_logs.specs.declared.savepoints.Side.TheVariants.{Even, Odd}
 use Rattle.worker_logs.specs.Rows.{AreLogsUp, IsBeforeOne, IsLogUp, KeepsMarkIn, NeverFall}
 use Rattle.shared_rounds.specs.SharedState.{are_arrays}
+use Rattle.shared_rounds.specs.Shares.{BeginsAt, shown_epochs}
 use Rattle.round_engine.specs.Changes.{AreLogged}
 use Rattle.round_engine.specs.Crashes.{CarriesCrashes}
 use Rattle.round_engine.specs.Ends.{comes_to_advance, comes_to_save, durable_of, end_of, epoch_joined, swaps, where_true}
 use Rattle.round_engine.specs.Gleans.{RoundGleans}
 use Rattle.round_engine.specs.Histories.{HasGathered}
-use Rattle.round_engine.specs.Keeping.{IsSavedBySeen, KeepsSaves, keeper_on}
+use Rattle.round_engine.specs.Keeping.{IsSavedBySeen, KeepsSaves, epochs_in, keeper_on}
 use Rattle.round_engine.specs.Phases.{RunsAll}
 use Rattle.round_engine.specs.Unbegun.{RoomAlone}
 use Rattle.round_engine.specs.RanRound.{AreRoundMarks, LeavesVault, Rounds, SwapsFiles}
-use Rattle.round_engine.specs.Saves.{AreSaved, saves_told}
+use Rattle.round_engine.specs.Saves.{AreSaved, AreShownAt, GoesBy, saves_told}
 use Rattle.round_engine.specs.Shares.{IsShare, Share, logged_in}
 use Rattle.round_engine.specs.Sides.{closed_in, growing_in, is_odd}
-use Rattle.round_engine.specs.Standing.{beside_of, files_of, IsReady, RuntimeState, Standing, StandsOn}
+use Rattle.round_engine.specs.Standing.{beside_of, files_of, IsMarkBefore, IsReady, RuntimeState, Standing, StandsOn}
 use Rattle.round_engine.specs.Logs.{IsRefusedBy}
 use Rattle.round_engine.specs.Workers.{LeavesOut, idled}
 use Rattle.round_engine.specs.declared.report.End.{End}
@@ -55,12 +59,15 @@ use Rattle.round_engine.proofs.Beside.{SameSaves}
 use Rattle.round_engine.proofs.CrashesLeft.{with_crashes}
 use Rattle.round_engine.proofs.Devices.{are_down, at_first, bank_in, banks_in, down_at, IsBeside, others_in, save_in}
 use Rattle.round_engine.proofs.Ended.{devices_down}
-use Rattle.round_engine.proofs.LinesLeft.{LastStep, lines_at, logs_total, logs_up}
+use Rattle.round_engine.proofs.JoinEnds.{before_later}
+use Rattle.round_engine.proofs.LinesLeft.{LastStep, logs_total, logs_up, shown_get, shown_in, shown_some, shown_told}
 use Rattle.round_engine.proofs.Numbered.{closed_many, growing_at, growing_many, log_of_is, whole_of}
 use Rattle.round_engine.proofs.SharesRun.{IsRanOf, logged_above, logged_nothing, logged_some, run_caused, same_decls}
-use Rattle.round_engine.proofs.SharesRun.{same_slots, tries_caused}
+use Rattle.round_engine.proofs.SharesRun.{marks_of, readied_in, same_slots, shares_readied, shares_rise, tries_caused}
 use Rattle.round_engine.proofs.SharesRun.{share_lines, shares_lines, shares_run}
-use Rattle.round_engine.proofs.Whole.{IsAtRest, LogsTotal, SeenIn, below_8, epochs_at, first_epochs, leaves_vault, round_front}
+use Rattle.round_engine.proofs.RoundMarks.{stood_from, stood_long, stood_many, stood_marks, stood_one, stood_shown}
+use Rattle.round_engine.proofs.RoundMarks.{stood_place, stood_two, worker_marks}
+use Rattle.round_engine.proofs.Whole.{AreShown, IsAtRest, LogsTotal, SeenIn, below_8, leaves_vault}
 use Rattle.round_engine.proofs.Places.{item_at, map_at, within_of}
 
 -- ---- lists that agree
@@ -75,19 +82,6 @@ map_same f g (x ∷ xs) (y ∷ ys) many each =
     ap (λ z. z ∷ map f xs) (each 0 x y refl refl)
     ∙ ap (λ l. g y ∷ l) (map_same f g xs ys (omega (arith, many)) (λ i a b at there. each (suc i) a b at there))
 
--- a mark of each log among those that it had
-pub marks_of : (starts logs : List LogState) → length starts ≡ length logs
-    → ((i : ℕ) (begins log : LogState) → slice_get starts i ≡ Some begins → slice_get logs i ≡ Some log
-    → log.mark.epoch ≡ begins.mark.epoch)
-    → AreMarksOf (first_epochs starts) (map (λ (m : Mark). m.epoch) (logs_marks logs))
-marks_of [] [] many each = tt
-marks_of [] (log ∷ logs) many each = absurd cc
-marks_of (begins ∷ starts) [] many each = absurd cc
-marks_of (begins ∷ starts) (log ∷ logs) many each = (
-  subst (Contains (begins.mark.epoch ∷ [])) (sym (each 0 begins log refl refl)) (0, omega arith, refl),
-  marks_of starts logs (omega (arith, many)) (λ i b l at there. each (suc i) b l at there),
-)
-
 -- ---- logs while the lines run
 
 -- the log of a worker as a round begins is as far up as it was
@@ -96,34 +90,31 @@ pub idled_up : {D : Type 0} {tells : D → Option (List ℕ)} (lines : List (Lis
 idled_up [] log bank up = record { up = up.up; limit = up.limit; reaches = up.reaches }
 idled_up (ops ∷ lines) log bank up = up
 
--- while the clock stays in one epoch a mark that is set is of the epoch of the one that the worker had
-pub mark_kept : (lines : List (List Op)) (epoch high : ℕ) (was begins log : LogState) → high ≡ epoch
-    → idled lines was ≡ begins → IsJoined epoch was → KeepsMarkIn epoch high begins log → (lines ≡ [] → log ≡ begins)
-    → log.mark.epoch ≡ begins.mark.epoch
-mark_kept [] epoch high was begins log stays is joined keeps none = ap (λ (l : LogState). l.mark.epoch) (none refl)
-mark_kept (ops ∷ lines) epoch high was begins log stays is joined (inl same) none = ap (λ (m : Mark). m.epoch) same
-mark_kept (ops ∷ lines) epoch high was begins log stays is joined (inr set) none =
-    one_epoch log.mark.epoch set ∙ sym (ap (λ (m : Mark). m.epoch) joined.marked) ∙ ap (λ (l : LogState). l.mark.epoch) is
+-- a log's mark behind the lines is of an epoch before the last that the clock had
+pub mark_stopped : (lines : List (List Op)) (was begins log : LogState) (epoch high : ℕ) → 1 ≤ epoch → epoch ≤ high
+    → IsJoined epoch was → idled lines was ≡ begins → KeepsMarkIn epoch high begins log
+    → IsMarkBefore high log.mark.epoch
+mark_stopped lines was begins log epoch high first later joined is (inl same) =
+    subst (λ (m : Mark). IsMarkBefore high m.epoch) (sym same)
+    (subst (λ (l : LogState). IsMarkBefore high l.mark.epoch) is
+    (before_later (idled lines was).mark.epoch epoch high later (idled_before lines was epoch first joined)))
   where
-    one_epoch : (marked : Option ℕ) → IsBeforeOne epoch high marked → marked ≡ Some (epoch - 1)
-    one_epoch None is = absurd is
-    one_epoch (Some e) is = ap Some (omega (arith, stays, is.0, is.1))
+    idled_before : (lines : List (List Op)) (was : LogState) (epoch : ℕ) → 1 ≤ epoch → IsJoined epoch was
+        → IsMarkBefore epoch (idled lines was).mark.epoch
+    idled_before [] was epoch first joined = tt
+    idled_before (ops ∷ lines) was epoch first joined =
+        subst (IsMarkBefore epoch) (sym (ap (λ (m : Mark). m.epoch) joined.marked)) (omega (arith, first))
+mark_stopped lines was begins log epoch high first later joined is (inr set) =
+    set_before log.mark.epoch set
+  where
+    set_before : (marked : Option ℕ) → IsBeforeOne epoch high marked → IsMarkBefore high marked
+    set_before None is = tt
+    set_before (Some e) is = omega (arith, first, later, is.1)
 
 -- what a worker's part tells of its log
 pub record LeftAt (epoch : ℕ) (p : Share) (begins log : LogState) : Type 0 where
   pub refused : IsRefusedBy p.refusal log.journal
   pub limit : log.journal.limit ≡ begins.journal.limit
-
--- the marks of a worker as its lines begin
-pub round_marks : (lines : List (List Op)) (log : LogState) (first last : ℕ)
-    → AreRoundMarks lines log.mark.epoch first last ((idled lines log).mark.epoch ∷ [])
-round_marks [] log first last = record { idle = λ is. refl; set = []; begins = λ not. absurd (not refl); clocks = tt }
-round_marks (ops ∷ lines) log first last = record {
-  idle = λ is. absurd (let no = is in cc);
-  set = [];
-  begins = λ some. refl;
-  clocks = tt;
-}
 
 -- what was left out of the lines of a worker, by the log that it had before the round
 idled_out : {D : Type 0} {tells : D → Option (List ℕ)} {clock : D → ℕ} {image_at : D → ℕ → List ℕ → Type 0}
@@ -144,8 +135,8 @@ map_true f false x = refl
 -- ---- the run that is told
 
 abbrev pub ran_of : ℕ → Round → RuntimeState → List LogState → RuntimeState → List LogState → List Share → Option Saved
-    → List Device → List (Option ℕ) → Option (Device × ℕ) → Report → Ran
-ran_of tries round old start kept logs shares failed others gleans damaged report = record {
+    → List Device → List (Option ℕ) → Option (Device × ℕ) → List (List ℕ) → Report → Ran
+ran_of tries round old start kept logs shares failed others gleans damaged places report = record {
   printed = record {
     begin = old.stands.clock;
     end = kept.stands.clock;
@@ -160,7 +151,9 @@ ran_of tries round old start kept logs shares failed others gleans damaged repor
     room = old.room;
     slots = old.stands.slots;
     files = files_of old;
-    marks = first_epochs start;
+    marks = marks_of shares;
+    readied = readied_in shares;
+    seen = places;
     logs = map (λ (p : Share). p.refusal) shares;
     tries = tries;
     refused = map (λ (p : Share). p.tries_refused) shares;
@@ -202,6 +195,12 @@ logs_caused files failed worker (Some (LogFull size) ∷ refusals) devices_in fu
     next : (worker i : ℕ) → worker + suc i ≡ (worker + 1) + i
     next worker i = omega arith
 
+none_more : (n m : ℕ) → m ≡ n → 0 + n ≡ m
+none_more n m same = omega (arith, same)
+
+none_plus : (n : ℕ) → 0 + n ≡ n
+none_plus n = omega arith
+
 -- ---- the end of a round, however its join went
 
 -- ---- the vault as the lines of a round find it
@@ -227,19 +226,23 @@ module _ {D : Type 0} (tells : D → Option (List ℕ)) (clock : D → ℕ) (ima
   -- the run that is told, with these logs in the end
   abbrev pub ran_with : List LogState → Option Saved → List Device → Ran
   ran_with logs failed others = ran_of tries round old start all.kept logs all.lines.shares failed others all.keeper.gleans
-      all.keeper.damaged report
+      all.keeper.damaged all.places report
 
   -- What is known of a round in the end, with these logs before the swap.
   pub record RoundEnds (logs : List LogState) (stored : List Saved) (failed : Option Saved) (others : List Device) : Type 0 where
     pub logs_many : length logs ≡ 8
     pub now_many : length (growing_in old.side now) ≡ 8
     pub keeps : KeepsSaves tells clock image_at faults stored failed old new before now
-    pub saves : AreSaved (IsSavedBySeen (SeenIn old.stands.clock.epoch (epoch_joined (ran_with logs failed others)) all.mid.logs logs))
+    pub saves : AreSaved (IsSavedBySeen (SeenIn old.stands.clock.epoch (epoch_joined (ran_with logs failed others))
+        (shown_in all.lines.shares) logs))
         (beside_of old) report.keeper (stored ++ option_to_list failed)
+    pub placed : (k : ℕ) (saved : Saved) (places : List ℕ) → slice_get (stored ++ option_to_list failed) k ≡ Some saved
+        → slice_get all.places k ≡ Some places → (seen : List Mark) × (slice_get all.seen k ≡ Some seen)
+        × GoesBy old.side seen saved
     pub last : (w : ℕ) (lines log : LogState) (was is : D) → slice_get all.mid.logs w ≡ Some lines
         → slice_get logs w ≡ Some log → slice_get (growing_in old.side all.between) w ≡ Some was
         → slice_get (growing_in old.side now) w ≡ Some is
-        → LastStep tells clock image_at faults old.stands.clock.epoch lines log was is
+        → LastStep tells clock image_at faults old.stands.clock.epoch all.worked.clock.epoch lines log was is
     pub fails : is_some all.keeper.failed ≡ true → is_some failed ≡ true
     pub told_others : (device : Device) → Contains all.keeper.broken device → Contains others device
     pub beside : (device : Device) → Contains others device → IsBeside old.side device
@@ -324,30 +327,66 @@ module _ {D : Type 0} {tells : D → Option (List ℕ)} {clock : D → ℕ} {ima
 
   -- the clock and the storages behind the lines
   pub mid_epoch : all.mid.stands.clock.epoch ≡ old.stands.clock.epoch
-  mid_epoch = all.lines.over.runs.epoch
+  mid_epoch = ap (λ (r : RuntimeState). r.stands.clock.epoch) all.alone
 
   pub mid_decls : all.mid.stands.decls ≡ old.stands.decls
-  mid_decls = same_decls all.lines.over.runs
+  mid_decls = ap (λ (r : RuntimeState). r.stands.decls) all.alone ∙ same_decls all.lines.over.runs
+
+  -- what the maintenance thread's lines leave of it is as the workers' left it
+  kept_stands : all.kept.stands ≡ record all.worked {
+    clock = record all.worked.clock { epoch = all.kept.stands.clock.epoch };
+    pages = all.kept.stands.pages;
+  }
+  kept_stands = all.keeper.stands ∙ ap (λ (r : RuntimeState). record r.stands {
+    clock = record r.stands.clock { epoch = all.kept.stands.clock.epoch };
+    pages = all.kept.stands.pages;
+  }) all.alone
 
   -- where the maintenance thread began
   pub keeper_start : keeper_on all.mid false ≡ keeper_of old.stands.clock.epoch old
-  keeper_start = ap (λ (r : RuntimeState). keeper_on r false) all.alone ∙ ap (λ e. keeper_of e old) mid_epoch
+  keeper_start = ap (λ (r : RuntimeState). keeper_on r false) all.alone
 
-  -- each worker's mark is of the epoch of the one that it had at the begin
-  pub same_marks : (i : ℕ) (begins log : LogState) → slice_get start i ≡ Some begins → slice_get all.mid.logs i ≡ Some log
-      → log.mark.epoch ≡ begins.mark.epoch
-  same_marks i begins log at there =
-      let below = below_8 start i begins at start_many in
-      let was = item_at old.logs i (omega (arith, below, stands.workers)) in
-      let bank = item_at (growing_in old.side before) i (omega (arith, below, before_many)) in
-      let mid_bank = item_at (growing_in old.side all.between) i (omega (arith, below, between_many)) in
-      let one = lines_at i all.lines.over start_many at there bank.1 mid_bank.1 in
-      let is : idled (lines_of_worker round i) was.0 ≡ begins = same_Some _ begins (sym (idle i was.0 was.1) ∙ at) in
-      let joined = all_at (IsJoined old.stands.clock.epoch) old.logs i was.0 ready.logs was.1 in
-      let p = item_at shares i (omega (arith, below, all.lines.over.runs.workers)) in
-      mark_kept (lines_of_worker round i) old.stands.clock.epoch all.mid.stands.clock.epoch was.0 begins log mid_epoch is
-      joined one.mark
-      (λ none. all.lines.idle i p.0 begins log p.1 (share_lines round shares i p.0 all.lines.lines p.1 ∙ none) at there)
+  -- the clock went up
+  pub worked_up : old.stands.clock.epoch ≤ all.worked.clock.epoch
+  worked_up = all.lines.over.runs.epoch
+
+  -- the marks that were shown
+  pub marks_are : marks_of shares ≡ map shown_epochs all.marks
+  marks_are = ap (map shown_epochs) all.lines.marks_are
+
+  pub marks_many : length all.marks ≡ 8
+  marks_many = ap length (sym all.lines.marks_are) ∙ length-map shares (λ (share : Share). share.marks)
+      ∙ all.lines.over.runs.workers
+
+  pub in_order : AllInOrder (map shown_epochs all.marks)
+  in_order = subst AllInOrder marks_are
+      (shares_rise old.stands.decls old.stands.clock.epoch old.stands.clock.draw all.worked.clock.draw tries shares
+      all.lines.over.runs.each)
+
+  -- what a save saw was shown
+  pub seen_shown : (these : List Mark) → Contains all.seen these → AreShown (shown_in shares) these
+  seen_shown these has =
+      let one = stood_one all.marks all.places all.seen these all.sees has in record {
+        workers = stood_many all.marks one.0 these one.1 ∙ marks_many;
+        each = λ w m at.
+            let stood = stood_shown all.marks one.0 these one.1 w m at in
+            let here : get_or all.marks w [] ≡ shown_in shares w =
+            ap (λ l. get_or l w []) (sym all.lines.marks_are) ∙ shown_get shares w in
+            (stood.0, subst (λ l. Contains l stood.0) here stood.1, stood.2);
+      }
+
+  -- at the places that are told
+  shown_at : (k : ℕ) (places : List ℕ) (these : List Mark) → slice_get all.places k ≡ Some places
+      → slice_get all.seen k ≡ Some these → AreShownAt (shown_in shares) places these
+  shown_at k places these at there =
+      let stood = stood_two all.marks all.places all.seen k places these all.sees at there in record {
+        workers = stood_many all.marks places these stood ∙ marks_many;
+        each = λ w place has.
+            let one = stood_place all.marks places these stood w place has in
+            let here : get_or all.marks w [] ≡ shown_in shares w =
+            ap (λ l. get_or l w []) (sym all.lines.marks_are) ∙ shown_get shares w in
+            (one.0, subst (λ l. slice_get l place ≡ Some one.0) here one.1, one.2);
+      }
 
   -- the causes of answers, of the run that is told
   pub answers_caused : (logs : List LogState) (failed : Option Saved) (others : List Device)
@@ -360,7 +399,8 @@ module _ {D : Type 0} {tells : D → Option (List ℕ)} {clock : D → ℕ} {ima
       let ran : Ran = ran_with tells clock image_at faults tries round old start new before now report all logs failed others in
       subst (λ k. AnswersCaused ran k (keeper_lines round) report.keeper) keeper_start
       (all.keeper.caused ran (record {
-        marks = marks_of start all.mid.logs (start_many ∙ sym (all.lines.over.logs_length ∙ start_many)) same_marks;
+        marks = subst (λ l. AllByRecursion (λ (marks : List Mark). AreMarksOf l (epochs_in marks)) all.seen)
+            (sym marks_are) (stood_marks all.marks all.places all.seen all.sees);
         odd = ap (λ (r : RuntimeState). is_odd r.side) (sym all.alone);
         closed_at = ap (λ (r : RuntimeState). r.closed_at) (sym all.alone);
         room = ap (λ (r : RuntimeState). r.room) (sym all.alone);
@@ -399,7 +439,8 @@ module _ {D : Type 0} {tells : D → Option (List ℕ)} {clock : D → ℕ} {ima
       (ap (λ l. slice_get l w) (sym all.lines.told) ∙ told) in
       let outcomes_are : p.0.outcomes ≡ outcomes =
       ap (λ (q : Share). q.outcomes) (same_Some p.0 same.0 (sym p.1 ∙ same.1)) ∙ same.2 in
-      let share = all_at (IsShare old.stands.decls old.stands.clock.draw all.mid.stands.clock.draw tries) shares w p.0
+      let share = all_at (IsShare old.stands.decls old.stands.clock.epoch old.stands.clock.draw
+      all.worked.clock.draw tries) shares w p.0
       all.lines.over.runs.each p.1 in
       let lines_are = share_lines round shares w p.0 all.lines.lines p.1 in
       let out = all.lines.left_out w p.0 (idled (lines_of_worker round w) log) bank p.1 (idle w log at)
@@ -417,24 +458,27 @@ module _ {D : Type 0} {tells : D → Option (List ℕ)} {clock : D → ℕ} {ima
     abbrev ran : Ran
     ran = ran_with tells clock image_at faults tries round old start new before now report all logs failed others
 
-    of : IsRanOf tries round old.stands all.mid.stands shares ran
+    of : IsRanOf tries round old.stands all.worked shares ran
     of = record {
       lines = all.lines.lines;
       begin = refl;
-      draw = ap (λ (x : Standing). x.clock.draw) all.keeper.stands;
+      draw = ap (λ (x : Standing). x.clock.draw) kept_stands;
       outcomes = all.lines.told;
       tried = refl;
       refused = refl;
       asked = refl;
       answers = all.keeper.count;
       epoch = subst (λ e. AdvancesTo e report.keeper all.kept.stands.clock.epoch) mid_epoch all.keeper.advances;
+      later = all.later;
     }
 
-    total : LogsTotal tells clock image_at faults (logged_in shares) start old.logs all.mid.logs logs (growing_in old.side before)
+    total : LogsTotal tells clock image_at faults (logged_in shares) (shown_in shares) old.logs logs
+        (growing_in old.side before)
         (growing_in old.side now)
     total = logs_total round all.lines.over start_many stands.workers ends.logs_many before_many ends.now_many some ready.logs
         idle
-        (λ w none. logged_nothing old.stands.decls old.stands.clock.draw all.mid.stands.clock.draw tries shares w all.lines.over.runs.each
+        (λ w none. logged_nothing old.stands.decls old.stands.clock.epoch old.stands.clock.draw
+        all.worked.clock.draw tries shares w all.lines.over.runs.each
         (λ p at. share_lines round shares w p all.lines.lines at ∙ none))
         ends.last
 
@@ -462,14 +506,33 @@ module _ {D : Type 0} {tells : D → Option (List ℕ)} {clock : D → ℕ} {ima
       answers = answers_caused logs failed others ends.fails ends.told_others;
     }
 
+    -- and those of what saves saw beside the lines
+    beside : CausedBeside ran
+    beside = record {
+      readied = subst (AllReadied old.stands.clock.epoch (marks_of shares) (readied_in shares)) (sym all.lines.told)
+          (shares_readied old.stands.decls old.stands.clock.epoch old.stands.clock.draw all.worked.clock.draw tries
+          shares
+          all.lines.over.runs.each);
+      order = subst AllInOrder (sym marks_are) in_order;
+      places = all.back;
+      saves = subst (λ k. SavesSee ran 0 k (keeper_lines round) report.keeper (length all.places)) keeper_start
+          (subst (SavesSee ran 0 (keeper_on all.mid false) (keeper_lines round) report.keeper)
+          (none_more (length all.seen) (length all.places) (stood_long all.marks all.places all.seen all.sees))
+          (all.keeper.saw ran 0 (stood_from ran all.marks 0 all.places all.seen marks_are
+          (λ i. ap (slice_get all.places) (none_plus i)) all.sees)));
+    }
+
     -- what it leaves of the vault, and of the crashes
     left : ((disk : D) (file : List ℕ) → tells disk ≡ Some file → image_at disk (clock disk) file)
         → (v : LeavesVault tells clock image_at faults ran (logged_in shares) old new before now)
         × CarriesCrashes tells clock image_at (logged_in shares) (v.stored ++ option_to_list v.failed) ran old new before now
-    left reads = with_crashes reads stands (length-map start (λ (log : LogState). log.mark.epoch ∷ []) ∙ start_many)
+    left reads = with_crashes reads stands (ap length marks_are ∙ length-map all.marks shown_epochs ∙ marks_many)
         (λ epoch is. sym ends.durable ∙ is)
-        (leaves_vault ran (logged_in shares) start all.mid.logs logs old new before now stored failed total ends.saves ends.keeps.newest
-        (round_front start)
+        (leaves_vault ran (logged_in shares) (shown_in shares) logs old new before now stored failed total
+        ends.saves ends.keeps.newest
+        (λ k saved places at told.
+        let one = ends.placed k saved places at told in (one.0, shown_at k places one.0 told one.1, one.2))
+        (shown_told shares)
         (λ w below. logged_above w (epoch_of old.save.newest) below stands.above all.lines.over.runs)
         stands.whole stands.closed.workers ends.files ends.between_whole ends.rests
         others ends.keeps ends.stands refl ends.beside ends.rose_others ends.quiet_snaps ends.quiet_closed
@@ -482,7 +545,7 @@ module _ {D : Type 0} {tells : D → Option (List ℕ)} {clock : D → ℕ} {ima
     done reads =
         let made = left reads in
         let run = λ (index : ℕ). shares_run round ran all.lines.over.runs of index new.stands.state
-        (ends.state ∙ ap (λ (x : Standing). x.state) all.keeper.stands) in (
+        (ends.state ∙ ap (λ (x : Standing). x.state) kept_stands) in (
           record {
             ran = ran;
             logged = logged_in shares;
@@ -494,26 +557,46 @@ module _ {D : Type 0} {tells : D → Option (List ℕ)} {clock : D → ℕ} {ima
               room = refl;
               slots = refl;
               files = refl;
-              workers = length-map start (λ (log : LogState). log.mark.epoch ∷ []) ∙ start_many;
+              workers = ap length marks_are ∙ length-map all.marks shown_epochs ∙ marks_many;
               marks = λ w log epochs at are.
-                  subst (AreRoundMarks (lines_of_worker round w) log.mark.epoch old.stands.clock.epoch all.kept.stands.clock.epoch)
-                  (epochs_at start w (idled (lines_of_worker round w) log) epochs (idle w log at) are)
-                  (round_marks (lines_of_worker round w) log old.stands.clock.epoch all.kept.stands.clock.epoch);
+                  let below = below_8 old.logs w log at stands.workers in
+                  let p = item_at shares w (omega (arith, below, all.lines.over.runs.workers)) in
+                  let share = all_at (IsShare old.stands.decls old.stands.clock.epoch old.stands.clock.draw
+                  all.worked.clock.draw tries) shares w p.0 all.lines.over.runs.each p.1 in
+                  let begins = item_at start w (omega (arith, below, start_many)) in
+                  let mid_log = item_at all.mid.logs w (omega (arith, below, start_many, all.lines.over.logs_length)) in
+                  let bank = item_at (growing_in old.side before) w (omega (arith, below, before_many)) in
+                  let mid_bank = item_at (growing_in old.side all.between) w (omega (arith, below, between_many)) in
+                  let over = all.lines.over.each w p.0 begins.0 mid_log.0 bank.0 mid_bank.0 p.1 begins.1 mid_log.1
+                  bank.1
+                  mid_bank.1 in
+                  let joined = all_at (IsJoined old.stands.clock.epoch) old.logs w log ready.logs at in
+                  subst (AreRoundMarks (lines_of_worker round w) log.mark.epoch old.stands.clock.epoch
+                  all.kept.stands.clock.epoch)
+                  (ap shown_epochs (sym (shown_some shares w p.0 p.1)) ∙ shown_told shares w epochs are)
+                  (worker_marks (lines_of_worker round w) log.mark.epoch old.stands.clock.epoch all.worked.clock.epoch
+                  all.kept.stands.clock.epoch p.0.marks some worked_up all.later
+                  (λ not. ap (λ (m : Mark). m.epoch) joined.marked)
+                  (subst (λ l. BeginsAt old.stands.clock.epoch l p.0.marks)
+                  (share_lines round shares w p.0 all.lines.lines p.1) (all.lines.begins w p.0 p.1))
+                  share.rise over.below);
             };
             lines = record {
-              decls = ends.decls ∙ ap (λ (x : Standing). x.decls) all.keeper.stands ∙ mid_decls;
-              slots = ends.slots ∙ ap (λ (x : Standing). x.slots) all.keeper.stands ∙ same_slots all.lines.over.runs;
+              decls = ends.decls ∙ ap (λ (x : Standing). x.decls) kept_stands ∙ same_decls all.lines.over.runs;
+              slots = ends.slots ∙ ap (λ (x : Standing). x.slots) kept_stands ∙ same_slots all.lines.over.runs;
               run = λ index. (run index).0;
               caused = caused;
-              conflicts = ends.conflicts ∙ ap (λ (x : Standing). x.conflicts) all.keeper.stands
+              beside = beside;
+              conflicts = ends.conflicts ∙ ap (λ (x : Standing). x.conflicts) kept_stands
                   ∙ all.lines.over.runs.conflicts;
-              lines_are = λ w below. shares_lines old.stands.decls old.stands.clock.draw all.mid.stands.clock.draw tries shares w
+              lines_are = λ w below. shares_lines old.stands.decls old.stands.clock.epoch old.stands.clock.draw
+                  all.worked.clock.draw tries shares w
                   all.lines.over.runs.each;
               logged_are = λ index w below. subst (λ es. AreLogged old.stands.decls w old.stands.state es (logged_in shares w))
                   (sym (run index).1) ((all.lines.over.runs.ordered index).logged w below);
             };
             counted =
-                let after = ap (λ (x : Standing). x.clock.draw) all.keeper.stands in
+                let after = ap (λ (x : Standing). x.clock.draw) kept_stands in
                 let told = ap commit_count all.lines.told in
                 omega (arith, after, told, all.lines.over.runs.draw);
             met = record {
@@ -531,11 +614,11 @@ module _ {D : Type 0} {tells : D → Option (List ℕ)} {clock : D → ℕ} {ima
                 let kept = all.history shared in
                 record {
                   gathered = subst (λ m. HasGathered old.stands.decls round report.outcomes old.stands.mine m)
-                      (sym (ends.mine ∙ ap (λ (x : Standing). x.mine) all.keeper.stands)) kept.gathered;
+                      (sym (ends.mine ∙ ap (λ (x : Standing). x.mine) kept_stands)) kept.gathered;
                   shares = ap (λ ds. are_arrays ds new.stands.state)
-                      (ends.decls ∙ ap (λ (x : Standing). x.decls) all.keeper.stands)
-                      ∙ ap (are_arrays all.mid.stands.decls)
-                      (ends.state ∙ ap (λ (x : Standing). x.state) all.keeper.stands) ∙ kept.shares;
+                      (ends.decls ∙ ap (λ (x : Standing). x.decls) kept_stands)
+                      ∙ ap (are_arrays all.worked.decls)
+                      (ends.state ∙ ap (λ (x : Standing). x.state) kept_stands) ∙ kept.shares;
                 };
             durable = ends.durable;
             lasts = ends.lasts;

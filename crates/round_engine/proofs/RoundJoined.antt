@@ -8,7 +8,7 @@ use Rattle.std.proofs.lemmas.Bool.{cases_Bool}
 use Rattle.std.proofs.lemmas.List.{append-nil, map-append}
 use Rattle.std.proofs.lemmas.Option.{same_Some}
 use Rattle.lists.specs.Each.{all_weaker}
-use Rattle.lists.specs.Elements.{in_cases, in_head, in_none}
+use Rattle.lists.specs.Elements.{at_below, in_cases, in_head, in_none}
 use Rattle.outside.specs.Faults.{Rose}
 use Rattle.log_writer.specs.Vault.{disk_in}
 use Rattle.outside.specs.declared.device.Device.{Device}
@@ -32,13 +32,17 @@ use Rattle.worker_logs.specs.Rows.{NeverFall}
 use Rattle.round_engine.specs.Ends.{closed_failed, comes_to_advance, comes_to_swap, durable_of, end_of}
 use Rattle.round_engine.specs.Ends.{epoch_after, epoch_joined, first_device, first_of}
 use Rattle.round_engine.specs.Ends.{save_limited, swaps}
-use Rattle.round_engine.specs.Keeping.{IsSavedBySeen, JoinAnswers, KeepsSaves, MarksOf, device_told, epoch_now, is_refusal, keeper_on}
+use Rattle.round_engine.specs.Keeping.{AreByPlace, IsSavedBySeen, JoinAnswers, KeepsSaves, MarksOf, device_told}
+use Rattle.round_engine.specs.Keeping.{epoch_by, epochs_in}
+use Rattle.round_engine.specs.Keeping.{is_refusal, keeper_on, last_seen}
 use Rattle.round_engine.specs.Keeping.{last_epoch_of}
 use Rattle.round_engine.specs.Logs.{IsRefusedBy}
 use Rattle.round_engine.specs.Phases.{JoinsAndSwaps, RunsAll, ended_as, fails_device, made, refused_by}
 use Rattle.round_engine.specs.RanRound.{Rounds, SwapsFiles}
 use Rattle.round_engine.specs.Refusals.{end_told, leaves_out}
-use Rattle.round_engine.specs.Saves.{AreSaved, beside_at_end, saves_told}
+use Rattle.round_engine.specs.Saves.{AreSaved, beside_at_end, GoesBy, saves_told}
+use Rattle.round_engine.proofs.Placed.{at_either}
+use Rattle.round_engine.proofs.RoundMarks.{stood_long}
 use Rattle.round_engine.specs.Sides.{closed_in, closed_numbers, growing_in, other_side}
 use Rattle.round_engine.specs.Standing.{beside_of, IsReady, RuntimeState, Standing, StandsOn}
 use Rattle.round_engine.specs.Swaps.{CutsBanks}
@@ -50,12 +54,13 @@ use Rattle.round_engine.proofs.Devices.{IsBeside, are_down}
 use Rattle.round_engine.proofs.Ended.{down_just, first_down, limited_last}
 use Rattle.round_engine.proofs.EndTold.{IsJoinedAs, IsRefusedAs, NoneRefused, end_done, end_refused}
 use Rattle.round_engine.proofs.EndTold.{nothing, told_some}
-use Rattle.round_engine.proofs.JoinEnds.{JoinFacts, and_parts, asked_by, banks_told, before_later, clock_is, closed_same, cut_quiet, cut_rose}
+use Rattle.round_engine.proofs.JoinEnds.{JoinFacts, and_parts, asked_by, join_below, banks_told, before_later}
+use Rattle.round_engine.proofs.JoinEnds.{clock_is, closed_same, cut_quiet, cut_rose}
 use Rattle.round_engine.proofs.JoinEnds.{cut_uncut, done_at, joined_many, joined_side, leaves, now_many, pre_whole, rests, stands_new}
 use Rattle.round_engine.proofs.JoinEnds.{step, stored_told, told_bank, tried_done, nothing as join_nothing}
 use Rattle.round_engine.proofs.JoinedAs.{bank_told, below_test, closed_is_cut, cut_device, cut_end, durable_by, joined_as, none_down_at}
 use Rattle.round_engine.proofs.Keeping.{keeps_then}
-use Rattle.round_engine.proofs.LinesLeft.{LastStep}
+use Rattle.round_engine.proofs.LinesLeft.{LastStep, shown_in}
 use Rattle.round_engine.proofs.Numbered.{closed_at, closed_many}
 use Rattle.round_engine.proofs.Places.{none_refused, nothing_there, map_there, or_parts}
 use Rattle.round_engine.proofs.RoundDone.{answers_caused, cuts_mid, done}
@@ -64,8 +69,10 @@ use Rattle.round_engine.proofs.RoundKept.{NothingTold, first_told_none, after_wh
 use Rattle.round_engine.proofs.RoundKept.{gleans_told, growing_kept, joined_up, keeps_lines, kept_above, kept_closed}
 use Rattle.round_engine.proofs.RoundKept.{kept_closed_at, kept_counted, kept_durable, kept_first, kept_room, kept_side, kept_snapshot, kept_sound, lines_limit, mid_save}
 use Rattle.round_engine.proofs.GleanDevices.{nothing_in}
-use Rattle.round_engine.proofs.RoundKept.{mark_at, mid_beside, none_told, over_kept, quiet_kept, quiet_snaps_kept, reads_kept, refused_as}
-use Rattle.round_engine.proofs.RoundKept.{rise_on, saves_up}
+use Rattle.round_engine.proofs.RoundKept.{mark_at, mid_beside, mid_side, none_told, over_kept, quiet_kept}
+use Rattle.round_engine.proofs.RoundKept.{quiet_snaps_kept, reads_kept, refused_as}
+use Rattle.round_engine.proofs.RoundKept.{go_on, rise_on, saves_up}
+use Rattle.round_engine.proofs.RoundMarks.{firsts}
 use Rattle.round_engine.proofs.Turned.{TurnsBehind, keeps_onto, turned_files, turned_if, turned_parts, turns_behind}
 use Rattle.round_engine.proofs.Whole.{SeenIn, below_8}
 use Rattle.round_engine.proofs.Places.{item_at, within_of}
@@ -163,9 +170,8 @@ module _ {D : Type 0} {tells : D → Option (List ℕ)} {clock : D → ℕ} {ima
     whole = after_whole stands ready some start_many idle all;
     many = ap length all.keeper.logs ∙ all.lines.over.logs_length ∙ start_many;
     limits = λ w log at. lines_limit stands ready some start_many idle all w log (ap (λ l. slice_get l w) (sym all.keeper.logs) ∙ at);
-    marked = λ w log at. before_later log.mark.epoch old.stands.clock.epoch all.kept.stands.clock.epoch
-        (kept_first stands ready some start_many idle all)
-        (mark_at stands ready some start_many idle all w log (ap (λ l. slice_get l w) (sym all.keeper.logs) ∙ at)).0;
+    marked = λ w log at. before_later log.mark.epoch all.worked.clock.epoch all.kept.stands.clock.epoch all.later
+        (mark_at stands ready some start_many idle all w log (ap (λ l. slice_get l w) (sym all.keeper.logs) ∙ at));
     above = kept_above stands ready some start_many idle all;
     closed = kept_closed stands ready some start_many idle all;
     room = omega (arith, kept_room stands ready some start_many idle all, stands.most_pages);
@@ -324,7 +330,7 @@ module _ {D : Type 0} {tells : D → Option (List ℕ)} {clock : D → ℕ} {ima
       ∙ ap (λ b. cond (not b) (epoch_after all.kept.stands.clock.epoch) all.kept.stands.clock.epoch) (sym out_is)
 
   abbrev Seen : ℕ → List Mark → Type 0
-  Seen = SeenIn old.stands.clock.epoch (epoch_joined ran) all.mid.logs logs
+  Seen = SeenIn old.stands.clock.epoch (epoch_joined ran) (shown_in all.lines.shares) logs
 
   beside_kept : beside_of all.kept ≡ beside_at_end (beside_of old) report.keeper
   beside_kept =
@@ -370,13 +376,42 @@ module _ {D : Type 0} {tells : D → Option (List ℕ)} {clock : D → ℕ} {ima
         (js.joins.stored ++ option_to_list js.joins.failed) js.joins.by_marks);
   }
 
+  -- what the lines stored went by what they saw, and the join stores something only below the last sequence
+  placed_made : (k : ℕ) (saved : Saved) (places : List ℕ)
+      → slice_get ((all.keeper.stored ++ js.joins.stored) ++ option_to_list js.joins.failed) k ≡ Some saved
+      → slice_get all.places k ≡ Some places
+      → (seen : List Mark) × (slice_get all.seen k ≡ Some seen) × GoesBy old.side seen saved
+  unfolding facts
+  placed_made k saved places at told =
+      let whole : slice_get (all.keeper.stored ++ (js.joins.stored ++ option_to_list js.joins.failed)) k ≡ Some saved =
+      ap (λ l. slice_get l k) (sym (append_assoc all.keeper.stored js.joins.stored
+      (option_to_list js.joins.failed))) ∙ at in
+      let by = subst (λ l. AreByPlace all.mid.side all.seen l (sequence_of all.mid.save.newest)
+      (sequence_of all.kept.save.newest))
+      (ap (λ f. all.keeper.stored ++ option_to_list f) keeper_up ∙ append-nil all.keeper.stored) all.keeper.by_place in
+      elim (at_either all.keeper.stored (js.joins.stored ++ option_to_list js.joins.failed) k saved whole) [
+        | inl early ↦
+            let one = by.by k saved early in
+            (one.0, one.1, subst (λ s. GoesBy s one.0 saved) (mid_side stands ready some start_many idle all) one.2)
+        | inr late ↦ absurd (omega (
+          arith,
+          at_below all.places k places told,
+          stood_long all.marks all.places all.seen all.sees,
+          late.1,
+          by.all (join_below facts late.0 saved late.2),
+        ))
+      ]
+
   rise_made : NeverFall (epoch_of old.save.newest)
       (map (λ (s : Saved). s.epoch) ((all.keeper.stored ++ js.joins.stored) ++ option_to_list js.joins.failed))
   rise_made =
       let lines = subst (λ f. NeverFall (epoch_of all.mid.save.newest) (map (λ (s : Saved). s.epoch) (all.keeper.stored ++ option_to_list f))
-      × (last_epoch_of (epoch_of all.mid.save.newest) (map (λ (s : Saved). s.epoch) (all.keeper.stored ++ option_to_list f)) ≤ epoch_now all.kept))
-      keeper_up (all.keeper.rise (saves_up stands ready some start_many idle all)) in
-      let less = saved_epoch_less all.kept.stands.clock.epoch (map (λ (m : Mark). m.epoch) (logs_marks all.kept.logs)) in
+      × (last_epoch_of (epoch_of all.mid.save.newest) (map (λ (s : Saved). s.epoch)
+      (all.keeper.stored ++ option_to_list f))
+      ≤ epoch_by all.kept.stands.clock.epoch (last_seen (firsts all.marks) all.seen)))
+      keeper_up (all.keeper.rise (firsts all.marks) (go_on stands ready some start_many idle all)
+      (saves_up stands ready some start_many idle all)) in
+      let less = saved_epoch_less all.kept.stands.clock.epoch (epochs_in (last_seen (firsts all.marks) all.seen)) in
       subst (λ (x : SaveState). NeverFall (epoch_of x.newest)
       (map (λ (s : Saved). s.epoch) ((all.keeper.stored ++ js.joins.stored) ++ option_to_list js.joins.failed)))
       (mid_save stands ready some start_many idle all)
@@ -483,13 +518,14 @@ module _ {D : Type 0} {tells : D → Option (List ℕ)} {clock : D → ℕ} {ima
   last_made : (w : ℕ) (lines log : LogState) (was is : D) → slice_get all.mid.logs w ≡ Some lines
       → slice_get logs w ≡ Some log → slice_get (growing_in old.side all.between) w ≡ Some was
       → slice_get (growing_in old.side now) w ≡ Some is
-      → LastStep tells clock image_at faults old.stands.clock.epoch lines log was is
+      → LastStep tells clock image_at faults old.stands.clock.epoch all.worked.clock.epoch lines log was is
   last_made w lines log was is at there bank bank_now =
       let made = step facts w lines log was is (ap (λ l. slice_get l w) all.keeper.logs ∙ at) there
       (ap (λ l. slice_get l w) (growing_kept stands ready some start_many idle all) ∙ bank) bank_now in
       record {
         epoch = all.kept.stands.clock.epoch;
         later = omega (arith, kept_first stands ready some start_many idle all);
+        most = omega (arith, all.later);
         goes = made.goes;
         blames = λ first blames. record {
           later = omega (arith, blames.later, made.blames.later);
@@ -515,6 +551,7 @@ module _ {D : Type 0} {tells : D → Option (List ℕ)} {clock : D → ℕ} {ima
     now_many = now_many facts;
     keeps = keeps_made;
     saves = saves_made;
+    placed = placed_made;
     last = last_made;
     fails = λ is. absurd (let no = sym is ∙ ap is_some keeper_up in cc);
     told_others = λ device has. absurd (nothing_in all.keeper.broken told.broken_none device has);

@@ -1,7 +1,7 @@
 -- Where a round stands behind its lines and those of the maintenance thread, and what these were refused.
 use Rattle.std.proofs.Common.{◌≡◌, ◌∙◌, ◌≤◌, ◌<◌, ◌+◌, ◌-◌, ◌++◌, ◌∷◌, inl, inr, sym, ap, subst, refl, ℕ, suc, List, []}
 use Rattle.std.proofs.Common.{length, map, Bool, true, false, cond, not, Option, Some, None, arith}
-use Rattle.std.specs.Prelude.{◌||◌, ◌^◌, flat_map, fold, is_some, min, nat_lt, option_to_list, slice_get, ⊤}
+use Rattle.std.specs.Prelude.{◌||◌, ◌^◌, flat_map, fold, is_some, min, nat_lt, option_to_list, replicate, slice_get}
 use Rattle.std.specs.Option.{option_map}
 use Rattle.std.specs.List.{AllByRecursion, Contains, list_any}
 use Rattle.std.proofs.lemmas.List.{length-map}
@@ -15,7 +15,6 @@ use Rattle.outside.specs.declared.device.Device.{Device}
 use Rattle.outside.specs.declared.device.Device.TheVariants as devices
 use Rattle.log_writer.specs.declared.vault.Vault.{Vault}
 use Rattle.serial_model.specs.Numbers.{last_epoch}
-use Rattle.serial_model.specs.declared.op.Op.{Op}
 use Rattle.script_grammar.specs.Script.{Round, keeper_lines, lines_of_worker}
 use Rattle.wire_form.specs.declared.clock.Mark.{Mark}
 use Rattle.log_writer.specs.Points.{SaveState}
@@ -27,23 +26,26 @@ use Rattle.tx_script.specs.Causes.{KeeperAt, keeper_after, keeper_at_end}
 use Rattle.tx_script.specs.Run.{Ran, is_limit}
 use Rattle.tx_script.specs.declared.answer.Answer.{Answer}
 use Rattle.worker_logs.specs.Logs.{IsJoined, LogState, log_limit}
-use Rattle.worker_logs.specs.Saves.{closed_number, logs_marks}
+use Rattle.worker_logs.specs.Saves.{closed_number}
+use Rattle.worker_logs.specs.Shown.{Stood}
+use Rattle.shared_rounds.specs.Shares.{BeginsAt, shown_epochs}
+use Rattle.tx_script.specs.Seen.{AreAt, first_places}
 use Rattle.worker_logs.specs.declared.savepoints.Beside.{Beside}
 use Rattle.worker_logs.specs.declared.savepoints.Side.{Side}
 use Rattle.worker_logs.specs.Rows.{NeverFall}
 use Rattle.round_engine.specs.Ends.{epoch_after, first_device, full_length, limit_at}
 use Rattle.round_engine.specs.Ends.{save_limited, wants_memory, where_true}
 use Rattle.round_engine.specs.Gleans.{AddsSnapshot, FailsIn, RoundGleans}
-use Rattle.round_engine.specs.Keeping.{IsSavedBySeen, KeepsSaves, epoch_now, is_refusal, keeper_on}
+use Rattle.round_engine.specs.Keeping.{GoOn, IsSavedBySeen, KeepsSaves, epoch_by, epochs_in, is_refusal, keeper_on}
 use Rattle.round_engine.specs.Keeping.{last_epoch_of, refusal_told}
-use Rattle.round_engine.specs.Phases.{RunsAll}
+use Rattle.round_engine.specs.Phases.{RunsAll, as_begun}
 use Rattle.round_engine.specs.Refusals.{damage_in, device_in, first_failed, first_full, first_told}
 use Rattle.round_engine.specs.Refusals.{memory_in}
 use Rattle.round_engine.specs.Saves.{AreSavedIn, beside_at_end}
 use Rattle.round_engine.specs.Shares.{Share}
 use Rattle.round_engine.specs.Sides.{closed_in, growing_in}
 use Rattle.round_engine.specs.Standing.{AreClosed, beside_of, HasSnapshot, IsMarkBefore, IsReady, LogsStand, RuntimeState}
-use Rattle.round_engine.specs.Standing.{StandsOn}
+use Rattle.round_engine.specs.Standing.{Standing, StandsOn}
 use Rattle.round_engine.specs.Workers.{idled, refusal_of}
 use Rattle.round_engine.specs.declared.report.End.{End}
 use Rattle.round_engine.specs.declared.report.End.TheVariants as ends
@@ -56,29 +58,20 @@ use Rattle.round_engine.proofs.Ended.{failed_down, first_down, full_is_first, ke
 use Rattle.round_engine.proofs.Ended.{refused_any}
 use Rattle.round_engine.proofs.EndTold.{IsKeeperEnd, IsRefusedAs}
 use Rattle.round_engine.proofs.GleansSeen.{TellAlike, adds_first, damage_first, found_first, seen_of, seen_same}
-use Rattle.round_engine.proofs.LinesLeft.{lines_at}
+use Rattle.round_engine.proofs.LinesLeft.{lines_at, shown_in}
 use Rattle.round_engine.proofs.LogsStanding.{stand_keeper, stand_ran, stand_start, start_passed}
 use Rattle.round_engine.proofs.Numbered.{closed_at, closed_many, whole_of}
 use Rattle.round_engine.proofs.Places.{all_from}
 use Rattle.round_engine.proofs.RoundDone.{before_many, between_many, closed_mid}
-use Rattle.round_engine.proofs.RoundDone.{keeper_start, map_same, map_true, mid_decls, mid_epoch, ran_with, same_marks, same_saves}
-use Rattle.round_engine.proofs.RoundDone.{start_up}
+use Rattle.round_engine.proofs.RoundDone.{in_order, keeper_start, map_same, map_true, mark_stopped, marks_many}
+use Rattle.round_engine.proofs.RoundDone.{mid_decls}
+use Rattle.round_engine.proofs.RoundDone.{mid_epoch, ran_with, same_saves, seen_shown, start_up, worked_up}
+use Rattle.round_engine.proofs.RoundMarks.{IsAtLeast, begins_low, begins_some, first_at, first_of, firsts, stood_on}
 use Rattle.round_engine.proofs.Saved.{IsOver, lines_weaker, over_begin, over_end}
-use Rattle.round_engine.proofs.Whole.{below_8}
-use Rattle.round_engine.proofs.Places.{item_at}
-use Rattle.round_engine.proofs.Published.{lines_same, published_then}
-
--- a mark of this epoch at least, or of an idle worker
-abbrev pub IsAtLeast : ℕ → Option ℕ → Type 0
-IsAtLeast low None = ⊤
-IsAtLeast low (Some epoch) = low ≤ epoch
-
-pub idled_mark : (lines : List (List Op)) (log : LogState) (epoch low : ℕ) → 1 ≤ epoch → low < epoch → IsJoined epoch log
-    → IsMarkBefore epoch (idled lines log).mark.epoch × IsAtLeast low (idled lines log).mark.epoch
-idled_mark [] log epoch low first above joined = (tt, tt)
-idled_mark (ops ∷ lines) log epoch low first above joined =
-    subst (λ e. IsMarkBefore epoch e × IsAtLeast low e) (sym (ap (λ (m : Mark). m.epoch) joined.marked))
-    (omega (arith, first), omega (arith, above))
+use Rattle.round_engine.proofs.SharesRun.{same_decls}
+use Rattle.round_engine.proofs.Whole.{AreShown, below_8}
+use Rattle.round_engine.proofs.Places.{item_at, map_at}
+use Rattle.round_engine.proofs.Published.{published_then}
 
 -- the least of numbers that are at least this is at least this
 pub least_low : (low n : ℕ) (xs : List ℕ) → low ≤ n → AllByRecursion (λ x. low ≤ x) xs → low ≤ fold min n xs
@@ -90,18 +83,17 @@ pub one_low : (low : ℕ) (mark : Option ℕ) (more : List ℕ) → IsAtLeast lo
 one_low low None more is all = all
 one_low low (Some e) more is all = (is, all)
 
-pub all_low : (low : ℕ) (logs : List LogState)
-    → ((w : ℕ) (log : LogState) → slice_get logs w ≡ Some log → IsAtLeast low log.mark.epoch)
-    → AllByRecursion (λ x. low ≤ x) (flat_map option_to_list (map (λ (m : Mark). m.epoch) (logs_marks logs)))
+pub all_low : (low : ℕ) (marks : List Mark)
+    → ((w : ℕ) (m : Mark) → slice_get marks w ≡ Some m → IsAtLeast low m.epoch)
+    → AllByRecursion (λ x. low ≤ x) (flat_map option_to_list (epochs_in marks))
 all_low low [] each = tt
-all_low low (log ∷ logs) each =
-    one_low low log.mark.epoch _ (each 0 log refl) (all_low low logs (λ w l at. each (suc w) l at))
+all_low low (m ∷ marks) each =
+    one_low low m.epoch _ (each 0 m refl) (all_low low marks (λ w x at. each (suc w) x at))
 
-pub least_from : (low n : ℕ) (logs : List LogState) → low ≤ n
-    → ((w : ℕ) (log : LogState) → slice_get logs w ≡ Some log → IsAtLeast low log.mark.epoch)
-    → low ≤ fold min n (flat_map option_to_list (map (λ (m : Mark). m.epoch) (logs_marks logs)))
-least_from low n logs le each =
-    least_low low n (flat_map option_to_list (map (λ (m : Mark). m.epoch) (logs_marks logs))) le (all_low low logs each)
+pub least_from : (low n : ℕ) (marks : List Mark) → low ≤ n
+    → ((w : ℕ) (m : Mark) → slice_get marks w ≡ Some m → IsAtLeast low m.epoch)
+    → low ≤ fold min n (flat_map option_to_list (epochs_in marks))
+least_from low n marks le each = least_low low n (flat_map option_to_list (epochs_in marks)) le (all_low low marks each)
 
 -- the join never sets the clock back
 pub after_up : (b : Bool) (epoch : ℕ) → epoch ≤ cond b (epoch + 1) epoch
@@ -301,7 +293,8 @@ module _ {D : Type 0} {tells : D → Option (List ℕ)} {clock : D → ℕ} {ima
   pub kept_durable : AlwaysTells tells → LogsStand tells clock image_at all.kept.side all.kept.logs all.kept.counted all.after
   kept_durable always =
       stand_keeper all.keeper (ap (λ (r : RuntimeState). length r.counted) all.alone ∙ stands.closed.workers)
-      (stand_ran round (record old { logs = start }) all.mid before all.between all.lines all.alone start_many
+      (stand_ran round (record old { logs = start }) all.mid all.worked before all.between all.lines all.alone
+      start_many
       (before_many stands ready some start_many idle all)
       (start_passed round old.stands.clock.epoch old.logs start some ready.logs stands.workers start_many idle)
       (closed_mid stands ready some start_many idle all)
@@ -377,17 +370,21 @@ module _ {D : Type 0} {tells : D → Option (List ℕ)} {clock : D → ℕ} {ima
   mid_snapshot =
       let has = stands.snapshot (stands.up ready.up).store in
       subst (λ r. HasSnapshot tells r all.between.snaps) (sym all.alone)
-      (subst (HasSnapshot tells (record old { stands = all.mid.stands; logs = all.mid.logs }))
+      (subst (HasSnapshot tells (record old { stands = as_begun old.stands all.worked; logs = all.mid.logs }))
       (sym (same_saves stands ready some start_many idle all).snaps) (record {
         holds = has.holds;
         contents = has.contents;
         stands = has.stands;
-        decls = mid_decls stands ready some start_many idle all ∙ has.decls;
+        decls = same_decls all.lines.over.runs ∙ has.decls;
         up_to = has.up_to;
         earlier = has.earlier;
         let_in = has.let_in;
-        published = published_then old.stands all.mid.stands old.store.pages old.store.pages old.room old.room
-            (lines_same all.lines.over.runs) refl refl has.published;
+        published = published_then old.stands (as_begun old.stands all.worked) old.store.pages old.store.pages old.room
+            old.room (record {
+              slots = ap (λ (x : Standing). x.slots) all.lines.over.runs.only;
+              pages = refl;
+              resident = ap (λ (x : Standing). x.resident) all.lines.over.runs.only;
+            }) refl refl has.published;
       }))
 
   pub kept_snapshot : all.kept.store.sound ≡ true → HasSnapshot tells all.kept all.after.snaps
@@ -510,30 +507,56 @@ module _ {D : Type 0} {tells : D → Option (List ℕ)} {clock : D → ℕ} {ima
     mid_epoch stands ready some start_many idle all,
   ))
 
-  -- the marks behind the lines, and the epoch that they let save
+  -- the marks behind the lines
   pub mark_at : (w : ℕ) (log : LogState) → slice_get all.mid.logs w ≡ Some log
-      → IsMarkBefore old.stands.clock.epoch log.mark.epoch × IsAtLeast (epoch_of old.save.newest) log.mark.epoch
+      → IsMarkBefore all.worked.clock.epoch log.mark.epoch
   mark_at w log at =
       let below = below_8 all.mid.logs w log at (all.lines.over.logs_length ∙ start_many) in
       let begins = item_at start w (omega (arith, below, start_many)) in
       let was = item_at old.logs w (omega (arith, below, stands.workers)) in
-      let joined = all_at (IsJoined old.stands.clock.epoch) old.logs w was.0 ready.logs was.1 in
-      let is : idled (lines_of_worker round w) was.0 ≡ begins.0 = same_Some _ begins.0 (sym (idle w was.0 was.1) ∙ begins.1) in
-      let same : log.mark.epoch ≡ (idled (lines_of_worker round w) was.0).mark.epoch =
-      same_marks stands ready some start_many idle all w begins.0 log begins.1 at ∙ ap (λ (l : LogState). l.mark.epoch) (sym is) in
-      subst (λ e. IsMarkBefore old.stands.clock.epoch e × IsAtLeast (epoch_of old.save.newest) e) (sym same)
-      (idled_mark (lines_of_worker round w) was.0 old.stands.clock.epoch (epoch_of old.save.newest) some stands.above joined)
+      let bank = item_at (growing_in old.side before) w (omega
+      (arith, below, before_many stands ready some start_many idle all)) in
+      let mid_bank = item_at (growing_in old.side all.between) w
+      (omega (arith, below, between_many stands ready some start_many idle all)) in
+      mark_stopped (lines_of_worker round w) was.0 begins.0 log old.stands.clock.epoch all.worked.clock.epoch some
+      (worked_up stands ready some start_many idle all)
+      (all_at (IsJoined old.stands.clock.epoch) old.logs w was.0 ready.logs was.1)
+      (same_Some _ begins.0 (sym (idle w was.0 was.1) ∙ begins.1))
+      (lines_at w all.lines.over start_many begins.1 at bank.1 mid_bank.1).mark
 
-  pub saves_up : epoch_of all.mid.save.newest ≤ epoch_now all.mid
+  -- the marks of a worker's share
+  share_marks : (w : ℕ) (mine : List Stood) → slice_get all.marks w ≡ Some mine
+      → (p : Share) × BeginsAt old.stands.clock.epoch p.lines mine
+  share_marks w mine at =
+      let p = map_at (λ (share : Share). share.marks) all.lines.shares w mine
+      (ap (λ l. slice_get l w) all.lines.marks_are ∙ at) in
+      (p.0, subst (BeginsAt old.stands.clock.epoch p.0.lines) p.2 (all.lines.begins w p.0 p.1))
+
+  -- no save holds an epoch back that the marks at the begin had left
+  pub go_on : GoOn (firsts all.marks) all.seen
+  go_on = stood_on all.marks first_places (firsts all.marks) all.places all.seen
+      (in_order stands ready some start_many idle all)
+      (subst (λ n. AreAt (map shown_epochs all.marks) (replicate n 0) (epochs_in (firsts all.marks)))
+      (marks_many stands ready some start_many idle all)
+      (first_at all.marks (λ w mine at. let p = share_marks w mine at in
+      begins_some p.0.lines mine old.stands.clock.epoch p.1))) all.back all.sees
+
+  -- and the epoch that these let save
+  pub saves_up : epoch_of all.mid.save.newest ≤ epoch_by all.mid.stands.clock.epoch (firsts all.marks)
   saves_up =
       let same = ap (λ (x : SaveState). epoch_of x.newest) mid_save in
-      let low = least_from (epoch_of old.save.newest) (all.mid.stands.clock.epoch - 1) all.mid.logs
-      (omega (arith, stands.above, mid_epoch stands ready some start_many idle all)) (λ w log at. (mark_at w log at).1) in
+      let low = least_from (epoch_of old.save.newest) (all.mid.stands.clock.epoch - 1) (firsts all.marks)
+      (omega (arith, stands.above, mid_epoch stands ready some start_many idle all)) (λ w m at.
+      let mine = map_at first_of all.marks w m at in
+      let p = share_marks w mine.0 mine.1 in
+      subst (λ (x : Mark). IsAtLeast (epoch_of old.save.newest) x.epoch) mine.2
+      (begins_low p.0.lines mine.0 old.stands.clock.epoch (epoch_of old.save.newest) stands.above p.1)) in
       omega (arith, same, low)
 
   pub rise_lines : NeverFall (epoch_of old.save.newest) (map (λ (s : Saved). s.epoch) (all.keeper.stored ++ option_to_list all.keeper.failed))
   rise_lines = subst (λ (x : SaveState). NeverFall (epoch_of x.newest)
-      (map (λ (s : Saved). s.epoch) (all.keeper.stored ++ option_to_list all.keeper.failed))) mid_save (all.keeper.rise saves_up).0
+      (map (λ (s : Saved). s.epoch) (all.keeper.stored ++ option_to_list all.keeper.failed))) mid_save
+      (all.keeper.rise (firsts all.marks) go_on saves_up).0
 
   -- what was kept by the lines, since the begin
   pub keeps_lines : KeepsSaves tells clock image_at faults all.keeper.stored all.keeper.failed old all.kept before all.after
@@ -542,8 +565,14 @@ module _ {D : Type 0} {tells : D → Option (List ℕ)} {clock : D → ℕ} {ima
   -- how the maintenance thread's lines saved
   pub by_lines : (Seen : ℕ → List Mark → Type 0)
       → ((at : ℕ) (seen : List Mark) → (old.stands.clock.epoch ≤ at) → (at ≤ all.kept.stands.clock.epoch)
-      → seen ≡ logs_marks all.mid.logs → Seen at seen)
+      → AreShown (shown_in all.lines.shares) seen → Seen at seen)
       → AreSavedIn (IsSavedBySeen Seen) (beside_of old) report.keeper all.keeper.stored
   by_lines Seen so = subst (λ b. AreSavedIn (IsSavedBySeen Seen) b report.keeper all.keeper.stored) mid_beside
-      (lines_weaker (λ b saved is. (is.0, is.1, so is.0 is.1 (omega (arith, is.2.0, mid_first)) is.2.1 is.2.2, is.3)) report.keeper
+      (lines_weaker (λ b saved is. (
+        is.0,
+        is.1,
+        so is.0 is.1 (omega (arith, is.2.0, mid_first)) is.2.1
+            (seen_shown stands ready some start_many idle all is.1 is.2.2),
+        is.3,
+      )) report.keeper
       (beside_of all.mid) all.keeper.stored all.keeper.by_lines)

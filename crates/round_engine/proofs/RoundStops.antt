@@ -15,7 +15,6 @@ use Rattle.log_writer.specs.Vault.{IsWhole, disk_in}
 use Rattle.outside.specs.declared.device.Device.{Device}
 use Rattle.outside.specs.declared.device.Device.TheVariants as devices
 use Rattle.log_writer.specs.declared.vault.Vault.{Vault}
-use Rattle.serial_model.specs.declared.op.Op.{Op}
 use Rattle.script_grammar.specs.Script.{Line, Round, keeper_lines, lines_of_worker, ops_of_worker}
 use Rattle.script_grammar.specs.Script.{worker_lines}
 use Rattle.log_writer.specs.Points.{SaveState, sequence_of}
@@ -29,7 +28,7 @@ use Rattle.tx_script.specs.declared.answer.Answer.TheVariants as answers
 use Rattle.wire_form.specs.declared.clock.Mark.{Mark}
 use Rattle.worker_logs.specs.Logs.{IsJoined, LogState, log_limit}
 use Rattle.worker_logs.specs.Saves.{growing_number}
-use Rattle.worker_logs.specs.Rows.{AreLogsUp, IsBeforeOne, IsLogUp, KeepsMarkIn}
+use Rattle.worker_logs.specs.Rows.{AreLogsUp, IsLogUp}
 use Rattle.round_engine.specs.Crashes.{CarriesCrashes}
 use Rattle.round_engine.specs.Changes.{AreLogged}
 use Rattle.round_engine.specs.Gleans.{RoundGleans}
@@ -37,7 +36,8 @@ use Rattle.round_engine.specs.Keeping.{KeepsSaves}
 use Rattle.round_engine.specs.Logs.{IsRefusedBy}
 use Rattle.round_engine.specs.Phases.{RunsSome}
 use Rattle.round_engine.specs.RanRound.{AreRoundMarks, LeavesVault, Rounds, SwapsFiles}
-use Rattle.round_engine.specs.Shares.{RunsShares, Share, logged_in}
+use Rattle.round_engine.specs.Shares.{IsShare, RunsShares, Share, logged_in}
+use Rattle.shared_rounds.specs.Shares.{shown_epochs}
 use Rattle.round_engine.specs.Sides.{closed_in, growing_in}
 use Rattle.round_engine.specs.Standing.{files_of, HasSnapshot, IsMarkBefore, IsReady, LogsStand, RuntimeState, StandsOn}
 use Rattle.round_engine.specs.Workers.{idled}
@@ -47,40 +47,19 @@ use Rattle.round_engine.proofs.Devices.{are_down, at_first, bank_down, bank_in, 
 use Rattle.round_engine.proofs.Ended.{devices_down}
 use Rattle.round_engine.proofs.Fronts.{lines_from, no_keepers, ran_at, ran_of as run_of}
 use Rattle.round_engine.proofs.LinesLeft.{LastStep, front_nothing, last_none, lines_at}
-use Rattle.round_engine.proofs.LinesLeft.{logs_total, logs_up}
+use Rattle.round_engine.proofs.LinesLeft.{logs_total, logs_up, shown_in, shown_some, shown_told}
 use Rattle.round_engine.proofs.LogsStanding.{stand_lines, stand_start, start_passed}
 use Rattle.round_engine.proofs.Numbered.{closed_at, closed_many, growing_at, growing_many, log_of_is, whole_of}
 use Rattle.round_engine.proofs.SharesRun.{IsRanOf, lines_of, logged_above, logged_nothing, outcomes_of, run_caused}
-use Rattle.round_engine.proofs.SharesRun.{same_slots, tries_caused}
+use Rattle.round_engine.proofs.SharesRun.{marks_of, readied_in, same_slots, shares_readied, shares_rise, tries_caused}
 use Rattle.round_engine.proofs.SharesRun.{same_decls}
 use Rattle.round_engine.proofs.SharesRun.{shares_lines, shares_run}
 use Rattle.round_engine.proofs.Places.{all_from, map_there}
-use Rattle.round_engine.proofs.JoinEnds.{before_later}
-use Rattle.round_engine.proofs.RoundDone.{idled_up, logs_caused, round_marks, same_closed_in}
-use Rattle.round_engine.proofs.Whole.{LogsTotal, below_8, epochs_at, first_epochs, leaves_vault, round_front}
+use Rattle.round_engine.proofs.RoundDone.{idled_up, logs_caused, mark_stopped, same_closed_in}
+use Rattle.round_engine.proofs.RoundMarks.{worker_marks}
+use Rattle.round_engine.proofs.Whole.{LogsTotal, below_8, leaves_vault}
 use Rattle.round_engine.proofs.Places.{item_at, map_at, within_of}
 use Rattle.round_engine.proofs.Published.{lines_same, published_then}
-
--- the mark of a worker that ran in part
-pub mark_stopped : (lines : List (List Op)) (was begins log : LogState) (epoch high : ℕ) → 1 ≤ epoch → epoch ≤ high
-    → IsJoined epoch was → idled lines was ≡ begins → KeepsMarkIn epoch high begins log
-    → IsMarkBefore high log.mark.epoch
-mark_stopped lines was begins log epoch high first later joined is (inl same) =
-    subst (λ (m : Mark). IsMarkBefore high m.epoch) (sym same)
-    (subst (λ (l : LogState). IsMarkBefore high l.mark.epoch) is
-    (before_later (idled lines was).mark.epoch epoch high later (idled_before lines was epoch first joined)))
-  where
-    idled_before : (lines : List (List Op)) (was : LogState) (epoch : ℕ) → 1 ≤ epoch → IsJoined epoch was
-        → IsMarkBefore epoch (idled lines was).mark.epoch
-    idled_before [] was epoch first joined = tt
-    idled_before (ops ∷ lines) was epoch first joined =
-        subst (IsMarkBefore epoch) (sym (ap (λ (m : Mark). m.epoch) joined.marked)) (omega (arith, first))
-mark_stopped lines was begins log epoch high first later joined is (inr set) =
-    set_before log.mark.epoch set
-  where
-    set_before : (marked : Option ℕ) → IsBeforeOne epoch high marked → IsMarkBefore high marked
-    set_before None is = tt
-    set_before (Some e) is = omega (arith, first, later, is.1)
 
 -- so many workers from this one on
 abbrev pub workers_from : ℕ → ℕ → List ℕ
@@ -150,7 +129,9 @@ module _ {D : Type 0} {tells : D → Option (List ℕ)} {clock : D → ℕ} {ima
       room = old.room;
       slots = old.stands.slots;
       files = files_of old;
-      marks = first_epochs start;
+      marks = marks_of part.stops.shares;
+      readied = readied_in part.stops.shares;
+      seen = [];
       logs = map (λ (p : Share). p.refusal) part.stops.shares;
       tries = tries;
       refused = map (λ (p : Share). p.tries_refused) part.stops.shares;
@@ -162,6 +143,14 @@ module _ {D : Type 0} {tells : D → Option (List ℕ)} {clock : D → ℕ} {ima
 
   runs : RunsShares tries old.stands mid.stands part.stops.shares
   runs = part.stops.over.runs
+
+  marks_eight : length (marks_of part.stops.shares) ≡ 8
+  marks_eight = length-map (map (λ (share : Share). share.marks) shares) shown_epochs
+      ∙ length-map shares (λ (share : Share). share.marks) ∙ runs.workers
+
+  -- no line of the maintenance thread was run
+  epoch_same : mid.stands.clock.epoch ≡ old.stands.clock.epoch
+  epoch_same = part.epoch
 
   before_many : length (growing_in old.side before) ≡ 8
   before_many = growing_many old.side before stands.whole
@@ -225,20 +214,24 @@ module _ {D : Type 0} {tells : D → Option (List ℕ)} {clock : D → ℕ} {ima
     refused = refl;
     asked = sym (no_keepers 0 shares);
     answers = ap length (sym (no_keepers 0 shares));
-    epoch = runs.epoch;
+    epoch = epoch_same;
+    later = omega arith;
   }
 
-  total : LogsTotal tells clock image_at faults (logged_in shares) start old.logs mid.logs mid.logs (growing_in old.side before)
+  total : LogsTotal tells clock image_at faults (logged_in shares) (shown_in shares) old.logs mid.logs
+      (growing_in old.side before)
       (growing_in old.side now)
   total = logs_total round part.stops.over start_many stands.workers (part.stops.over.logs_length ∙ start_many) before_many
       (part.stops.over.banks_length ∙ before_many) some ready.logs idle
-      (λ w none. logged_nothing old.stands.decls old.stands.clock.draw mid.stands.clock.draw tries shares w runs.each
+      (λ w none. logged_nothing old.stands.decls old.stands.clock.epoch old.stands.clock.draw mid.stands.clock.draw
+      tries shares w runs.each
       (λ p at. front_nothing p.lines (lines_of_worker round w) (part.stops.fronts w p at) none))
       (λ w lines log was is at there bank bank_now.
-      subst (λ x. LastStep tells clock image_at faults old.stands.clock.epoch lines x was is)
+      subst (λ x. LastStep tells clock image_at faults old.stands.clock.epoch mid.stands.clock.epoch lines x was is)
       (same_Some lines log (sym at ∙ there))
-      (subst (λ x. LastStep tells clock image_at faults old.stands.clock.epoch lines lines was x)
-      (same_Some was is (sym bank ∙ bank_now)) (last_none old.stands.clock.epoch lines was)))
+      (subst (λ x. LastStep tells clock image_at faults old.stands.clock.epoch mid.stands.clock.epoch lines lines was x)
+      (same_Some was is (sym bank ∙ bank_now))
+      (last_none old.stands.clock.epoch mid.stands.clock.epoch lines was runs.epoch)))
 
   keeps : KeepsSaves tells clock image_at faults [] None old new before now
   keeps = keeps_from same_saves mid_save mid_store
@@ -338,7 +331,7 @@ module _ {D : Type 0} {tells : D → Option (List ℕ)} {clock : D → ℕ} {ima
           earlier = has.earlier;
           let_in = has.let_in;
           published = published_then old.stands mid.stands old.store.pages old.store.pages old.room old.room
-              (lines_same runs) refl refl has.published;
+              (lines_same runs part.pages) refl refl has.published;
         }));
     reaches = λ w log bank at there.
         let below = below_8 mid.logs w log at (part.stops.over.logs_length ∙ start_many) in
@@ -350,7 +343,8 @@ module _ {D : Type 0} {tells : D → Option (List ℕ)} {clock : D → ℕ} {ima
         subst (λ (x : RuntimeState). LogsStand tells clock image_at x.side mid.logs x.counted now) (sym part.alone)
         (stand_lines old.side before now part.stops.over start_many before_many
         (λ w log at any. start_passed round old.stands.clock.epoch old.logs start some ready.logs stands.workers start_many idle
-        w log at (λ none. any (logged_nothing old.stands.decls old.stands.clock.draw mid.stands.clock.draw tries shares w
+        w log at (λ none. any (logged_nothing old.stands.decls old.stands.clock.epoch old.stands.clock.draw
+        mid.stands.clock.draw tries shares w
         runs.each (λ p p_at. front_nothing p.lines (lines_of_worker round w) (part.stops.fronts w p p_at) none))))
         closed_same
         (stand_start round old.stands.clock.epoch ready.logs stands.workers start_many idle (stands.durable always)));
@@ -402,10 +396,11 @@ module _ {D : Type 0} {tells : D → Option (List ℕ)} {clock : D → ℕ} {ima
       → (v : LeavesVault tells clock image_at faults ran (logged_in shares) old new before now)
       × CarriesCrashes tells clock image_at (logged_in shares) (v.stored ++ option_to_list v.failed) ran old new before now
   unfolding files
-  left reads = with_crashes reads stands (length-map start (λ (log : LogState). log.mark.epoch ∷ []) ∙ start_many)
+  left reads = with_crashes reads stands marks_eight
       (λ epoch is. absurd (let no = is in cc))
-      (leaves_vault ran (logged_in shares) start mid.logs mid.logs old new before now [] None total
-      (record { lines = []; rest = []; all = refl; told = refl; behind = tt }) keeps.newest (round_front start)
+      (leaves_vault ran (logged_in shares) (shown_in shares) mid.logs old new before now [] None total
+      (record { lines = []; rest = []; all = refl; told = refl; behind = tt }) keeps.newest
+      (λ k saved places at told. absurd (let no = at in cc)) (shown_told shares)
       (λ w below. logged_above w (epoch_of old.save.newest) below stands.above runs)
       stands.whole stands.closed.workers files now_whole (λ is. absurd (let no = is in cc))
       [] keeps stands_new refl (λ device has. absurd (in_none device has)) (λ device has. absurd (in_none device has))
@@ -439,11 +434,26 @@ module _ {D : Type 0} {tells : D → Option (List ℕ)} {clock : D → ℕ} {ima
             room = refl;
             slots = refl;
             files = refl;
-            workers = length-map start (λ (log : LogState). log.mark.epoch ∷ []) ∙ start_many;
+            workers = marks_eight;
             marks = λ w log epochs at are.
-                subst (AreRoundMarks (lines_of_worker round w) log.mark.epoch old.stands.clock.epoch mid.stands.clock.epoch)
-                (epochs_at start w (idled (lines_of_worker round w) log) epochs (idle w log at) are)
-                (round_marks (lines_of_worker round w) log old.stands.clock.epoch mid.stands.clock.epoch);
+                let below = below_8 old.logs w log at stands.workers in
+                let p = item_at shares w (omega (arith, below, runs.workers)) in
+                let share = all_at (IsShare old.stands.decls old.stands.clock.epoch old.stands.clock.draw
+                mid.stands.clock.draw tries) shares w p.0 runs.each p.1 in
+                let begins = item_at start w (omega (arith, below, start_many)) in
+                let mid_log = item_at mid.logs w (omega (arith, below, start_many, part.stops.over.logs_length)) in
+                let bank = item_at (growing_in old.side before) w (omega (arith, below, before_many)) in
+                let mid_bank = item_at (growing_in old.side now) w (omega (arith, below, now_many)) in
+                let over = part.stops.over.each w p.0 begins.0 mid_log.0 bank.0 mid_bank.0 p.1 begins.1 mid_log.1 bank.1
+                mid_bank.1 in
+                subst (AreRoundMarks (lines_of_worker round w) log.mark.epoch old.stands.clock.epoch
+                mid.stands.clock.epoch)
+                (ap shown_epochs (sym (shown_some shares w p.0 p.1)) ∙ shown_told shares w epochs are)
+                (worker_marks (lines_of_worker round w) log.mark.epoch old.stands.clock.epoch mid.stands.clock.epoch
+                mid.stands.clock.epoch p.0.marks some runs.epoch (omega arith)
+                (λ not. ap (λ (m : Mark). m.epoch)
+                (all_at (IsJoined old.stands.clock.epoch) old.logs w log ready.logs at).marked)
+                (part.stops.begins w p.0 p.1) share.rise over.below);
           };
           lines = record {
             decls = same_decls runs;
@@ -455,8 +465,19 @@ module _ {D : Type 0} {tells : D → Option (List ℕ)} {clock : D → ℕ} {ima
               tries = tries_caused old.stands.slots shares runs.caused;
               answers = tt;
             };
+            beside = record {
+              readied = shares_readied old.stands.decls old.stands.clock.epoch old.stands.clock.draw
+                  mid.stands.clock.draw
+                  tries shares runs.each;
+              order = shares_rise old.stands.decls old.stands.clock.epoch old.stands.clock.draw
+                  mid.stands.clock.draw tries
+                  shares runs.each;
+              places = tt;
+              saves = refl;
+            };
             conflicts = runs.conflicts;
-            lines_are = λ w below. shares_lines old.stands.decls old.stands.clock.draw mid.stands.clock.draw tries shares w runs.each;
+            lines_are = λ w below. shares_lines old.stands.decls old.stands.clock.epoch old.stands.clock.draw
+                mid.stands.clock.draw tries shares w runs.each;
             logged_are = λ index w below. subst (λ es. AreLogged old.stands.decls w old.stands.state es (logged_in shares w))
                 (sym (run index).1) ((runs.ordered index).logged w below);
           };

@@ -1,6 +1,6 @@
 -- A round that was run to its end, whichever way its join went.
-use Rattle.std.proofs.Common.{◌≡◌, ◌∙◌, ◌≤◌, ◌∷◌, inl, inr, sym, subst, ℕ, List, [], length}
-use Rattle.std.proofs.Common.{Option, Some, arith}
+use Rattle.std.proofs.Common.{◌≡◌, ◌∙◌, ◌≤◌, ◌∷◌, inl, inr, sym, subst, refl, ℕ, List, [], length}
+use Rattle.std.proofs.Common.{Option, Some, None, arith}
 use Rattle.std.specs.Prelude.{slice_get, Ok}
 use Rattle.std.specs.List.{AllByRecursion}
 use Rattle.std.proofs.lemmas.Option.{same_Some}
@@ -10,6 +10,7 @@ use Rattle.serial_model.specs.declared.op.Op.{Op}
 use Rattle.script_grammar.specs.Script.{Round, lines_of_worker}
 use Rattle.worker_logs.specs.Logs.{IsJoined, LogState}
 use Rattle.worker_logs.specs.Rows.{AreLogsUp, IsLogUp}
+use Rattle.shared_rounds.specs.First.{AreIdle}
 use Rattle.round_engine.specs.Keeping.{CanKeep}
 use Rattle.round_engine.specs.Phases.{RunsAll}
 use Rattle.round_engine.specs.RanRound.{Rounds}
@@ -20,6 +21,7 @@ use Rattle.round_engine.specs.declared.report.Report.{Report}
 use Rattle.round_engine.proofs.LinesLeft.{logs_up}
 use Rattle.round_engine.proofs.LogsStanding.{stand_start, start_passed}
 use Rattle.round_engine.proofs.RoundCases.{left_out}
+use Rattle.round_engine.proofs.Numbered.{closed_many}
 use Rattle.round_engine.proofs.RoundDone.{idled_up}
 use Rattle.round_engine.proofs.RoundJoined.{joined_round}
 use Rattle.round_engine.proofs.Whole.{below_8}
@@ -56,7 +58,7 @@ module _ {D : Type 0} {tells : D → Option (List ℕ)} {clock : D → ℕ} {ima
       let up = stands.up ready.up in
       let has = stands.snapshot up.store in
       record {
-        whole = stands.whole;
+        files = closed_many old.side before stands.whole;
         workers = start_many;
         up = up.save;
         stored = stands.stored up.save;
@@ -81,6 +83,20 @@ module _ {D : Type 0} {tells : D → Option (List ℕ)} {clock : D → ℕ} {ima
   pub start_passes : ArePassed round (record old { logs = start })
   start_passes = start_passed round old.stands.clock.epoch old.logs start (omega (arith, stands.above)) ready.logs
       stands.workers start_many idle
+
+-- the logs of workers without lines are idle
+pub start_idle : (round : Round) (logs start : List LogState) → length logs ≡ 8 → length start ≡ 8
+    → ((w : ℕ) (log : LogState) → slice_get logs w ≡ Some log → slice_get start w ≡ Some (idled
+    (lines_of_worker round w) log))
+    → AreIdle round start
+start_idle round logs start many start_many idle w log at none =
+    let was = item_at logs w (omega (arith, below_8 start w log at start_many, many)) in
+    subst (λ (l : LogState). l.mark.epoch ≡ None) (same_Some _ log (sym (idle w was.0 was.1) ∙ at))
+    (idled_none (lines_of_worker round w) was.0 none)
+  where
+    idled_none : (lines : List (List Op)) (was : LogState) → lines ≡ [] → (idled lines was).mark.epoch ≡ None
+    idled_none [] was none = refl
+    idled_none (ops ∷ lines) was none = absurd (let no = none in cc)
 
 -- ---- a round
 

@@ -1,28 +1,31 @@
 -- The phases of a round, put together from its calls.
-use Rattle.std.proofs.Common.{◌≡◌, ◌∙◌, ◌<◌, refl, sym, ap, subst, ℕ, List, length, false, true}
+use Rattle.std.proofs.Common.{◌≡◌, ◌∙◌, ◌<◌, sym, ap, subst, refl, ℕ, List, length, false, true}
 use Rattle.std.proofs.Common.{Option, None, arith}
 use Rattle.std.specs.Prelude.{◌^◌, is_some}
 use Rattle.std.specs.List.{AllByRecursion}
 use Rattle.std.proofs.lemmas.List.{length-map}
+use Rattle.wire_form.specs.declared.clock.Mark.{Mark}
 use Rattle.log_writer.specs.Vault.{IsWhole}
 use Rattle.outside.specs.declared.device.Device.TheVariants as devices
 use Rattle.log_writer.specs.declared.vault.Vault.{Vault}
 use Rattle.script_grammar.specs.Script.{Round, keeper_lines}
 use Rattle.log_writer.specs.Save.{IsStored}
+use Rattle.tx_script.specs.Run.{Readied}
 use Rattle.tx_script.specs.declared.answer.Answer.{Answer}
 use Rattle.tx_script.specs.declared.outcome.Outcome.{Outcome}
 use Rattle.worker_logs.specs.Logs.{LogState}
 use Rattle.worker_logs.specs.declared.savepoints.Side.{Side}
 use Rattle.worker_logs.specs.declared.savepoints.Side.TheVariants.{Even, Odd}
 use Rattle.worker_logs.specs.Rows.{AreLogsUp}
+use Rattle.worker_logs.specs.Shown.{Stood}
 use Rattle.round_engine.specs.Keeping.{CanKeep, RunsKeeper}
-use Rattle.round_engine.specs.Phases.{IsReadyToJoin, RunsSome}
+use Rattle.round_engine.specs.Phases.{IsReadyToJoin, RunsFront, RunsSome, as_begun}
 use Rattle.round_engine.specs.Unbegun.{RoomAlone}
 use Rattle.round_engine.specs.Refusals.{device_in, device_refused, first_failed, leaves_out}
 use Rattle.round_engine.specs.Saves.{beside_at_end}
 use Rattle.round_engine.specs.Shares.{Share}
 use Rattle.round_engine.specs.Sides.{SameButGrowing, closed_in, growing_in}
-use Rattle.round_engine.specs.Standing.{AreClosed, ArePassed, beside_of, HasSnapshot, RuntimeState}
+use Rattle.round_engine.specs.Standing.{AreClosed, ArePassed, beside_of, HasSnapshot, RuntimeState, Standing}
 use Rattle.round_engine.specs.Workers.{RunsWorkers, StopsWorkers, refusal_of}
 use Rattle.round_engine.specs.declared.report.End.{End}
 use Rattle.round_engine.specs.declared.rounds.LineRefusals.{LineRefusals}
@@ -42,7 +45,7 @@ use Rattle.round_engine.proofs.Saved.{IsOver, over_begin, over_end}
 use Rattle.round_engine.proofs.SharesRun.{same_decls}
 use Rattle.round_engine.proofs.Whole.{below_8}
 use Rattle.round_engine.proofs.Places.{item_at}
-use Rattle.round_engine.proofs.Published.{lines_same, published_then}
+use Rattle.round_engine.proofs.Published.{published_then}
 
 pub same_growing_in : {D : Type 0} (side : Side) (old new : Vault D) → RoomAlone old new → growing_in side new ≡ growing_in side old
 same_growing_in Even old new room = ap (λ v. v.items) room.even
@@ -50,39 +53,49 @@ same_growing_in Odd old new room = ap (λ v. v.items) room.odd
 
 module _ {D : Type 0} (tells : D → Option (List ℕ)) (clock : D → ℕ) (image_at : D → ℕ → List ℕ → Type 0)
     (faults : D → ℕ) (tries : ℕ) (round : Round) where
-  -- some lines were run, or none
+  -- some lines were run
   pub some_lines : (old new : RuntimeState) (before lent now : Vault D)
-      → StopsWorkers tells clock image_at faults tries round old.stands new.stands old.logs new.logs
-      (growing_in old.side lent) (growing_in old.side now)
-      → new ≡ record old { stands = new.stands; logs = new.logs } → RoomAlone before lent → SameButGrowing old.side lent now
+      → RunsFront tells clock image_at faults tries round old new lent now → RoomAlone before lent
       → RunsSome tells clock image_at faults tries round old new before now
-  some_lines old new before lent now stops alone room same = record {
+  some_lines old new before lent now front room = record {
+    marks = front.marks;
+    readied = front.readied;
     stops = subst (λ (b : List D). StopsWorkers tells clock image_at faults tries round old.stands new.stands
-        old.logs new.logs b (growing_in old.side now)) (same_growing_in old.side before lent room) stops;
-    alone = alone;
+        front.marks
+        front.readied old.logs new.logs b (growing_in old.side now))
+        (same_growing_in old.side before lent room) front.stops;
+    alone = front.alone;
+    epoch = front.epoch;
+    pages = front.pages;
     lent = lent;
     room = room;
-    beside = same;
+    beside = front.beside;
   }
 
 module _ {D : Type 0} {tells : D → Option (List ℕ)} {clock : D → ℕ} {image_at : D → ℕ → List ℕ → Type 0}
-    {faults : D → ℕ} {tries : ℕ} {round : Round} {r mid : RuntimeState} {before lent between : Vault D}
-    {outcomes : List (List Outcome)} {ends : List LogEnd}
-    (logs_up : AreLogsUp tells r.logs (growing_in r.side before)) (ready : CanKeep tells clock image_at r before)
+    {faults : D → ℕ} {tries : ℕ} {round : Round} {r mid : RuntimeState} {worked : Standing} {before lent between :
+    Vault D}
+    {outcomes : List (List Outcome)} {ends : List LogEnd} {marks : List (List Stood)} {readied : List (List Readied)}
+    (logs_up : AreLogsUp tells r.logs (growing_in r.side before)) (whole : IsWhole before)
+    (ready : CanKeep tells clock image_at r before)
     (passed : ArePassed round r)
-    (lines : RunsWorkers tells clock image_at faults tries round r.stands mid.stands outcomes ends r.logs mid.logs
+    (lines : RunsWorkers tells clock image_at faults tries round r.stands worked outcomes ends marks readied r.logs
+    mid.logs
     (growing_in r.side before) (growing_in r.side between))
-    (alone : mid ≡ record r { stands = mid.stands; logs = mid.logs }) (room : RoomAlone before lent)
+    (alone : mid ≡ record r { stands = as_begun r.stands worked; logs = mid.logs }) (room : RoomAlone before lent)
     (beside : SameButGrowing r.side lent between) where
   before_many : length (growing_in r.side before) ≡ 8
-  before_many = growing_many r.side before ready.whole
+  before_many = growing_many r.side before whole
 
   mid_side : mid.side ≡ r.side
   mid_side = ap (λ (x : RuntimeState). x.side) alone
 
   -- the clock and the storages behind the lines
   mid_kept : (mid.stands.decls ≡ r.stands.decls) × (mid.stands.clock.epoch ≡ r.stands.clock.epoch)
-  mid_kept = (same_decls lines.over.runs, lines.over.runs.epoch)
+  mid_kept = (
+    ap (λ (x : RuntimeState). x.stands.decls) alone ∙ same_decls lines.over.runs,
+    ap (λ (x : RuntimeState). x.stands.clock.epoch) alone,
+  )
 
   first_is : first_failed r.side 0 ends ≡ first_down r.side 0 (are_down mid.logs)
   first_is = failed_down r.side 0 ends
@@ -110,26 +123,31 @@ module _ {D : Type 0} {tells : D → Option (List ℕ)} {clock : D → ℕ} {ima
   mid_snapshot : HasSnapshot tells mid between.snaps
   mid_snapshot =
       subst (λ x. HasSnapshot tells x between.snaps) (sym alone)
-      (subst (HasSnapshot tells (record r { stands = mid.stands; logs = mid.logs })) (sym (beside.snaps ∙ room.snaps)) (record {
+      (subst (HasSnapshot tells (record r { stands = as_begun r.stands worked; logs = mid.logs })) (sym
+      (beside.snaps ∙ room.snaps)) (record {
         holds = ready.snapshot.holds;
         contents = ready.snapshot.contents;
         stands = ready.snapshot.stands;
-        decls = mid_kept.0 ∙ ready.snapshot.decls;
+        decls = same_decls lines.over.runs ∙ ready.snapshot.decls;
         up_to = ready.snapshot.up_to;
         earlier = ready.snapshot.earlier;
         let_in = ready.snapshot.let_in;
-        published = published_then r.stands mid.stands r.store.pages r.store.pages r.room r.room
-            (lines_same lines.over.runs) refl refl ready.snapshot.published;
+        published = published_then r.stands (as_begun r.stands worked) r.store.pages r.store.pages r.room r.room
+            (record {
+              slots = ap (λ (x : Standing). x.slots) lines.over.runs.only;
+              pages = refl;
+              resident = ap (λ (x : Standing). x.resident) lines.over.runs.only;
+            }) refl refl ready.snapshot.published;
       }))
 
   between_whole : IsWhole between
   between_whole = whole_of r.side between (lines.over.banks_length ∙ before_many)
-      (ap length (beside.closed ∙ same_closed_in r.side before lent room) ∙ closed_many r.side before ready.whole)
+      (ap length (beside.closed ∙ same_closed_in r.side before lent room) ∙ ready.files)
 
   -- what the maintenance thread's lines find
   pub can_keep : CanKeep tells clock image_at mid between
   can_keep = record {
-    whole = between_whole;
+    files = subst (λ s. length (closed_in s between) ≡ 8) (sym mid_side) (closed_many r.side between between_whole);
     workers = lines.over.logs_length ∙ ready.workers;
     up = ap (λ (x : RuntimeState). x.save.down) alone ∙ ready.up;
     stored = subst (λ (x : RuntimeState). IsStored tells clock image_at between.save x.save.newest) (sym alone)
@@ -142,12 +160,13 @@ module _ {D : Type 0} {tells : D → Option (List ℕ)} {clock : D → ℕ} {ima
     most_pages = omega (arith, ap (λ (x : RuntimeState). x.room) alone, ready.most_pages);
     sound = ap (λ (x : RuntimeState). x.store.sound) alone ∙ ready.sound;
     snapshot = mid_snapshot;
-    durable = λ always. stand_ran round r mid before between lines alone ready.workers before_many passed
+    durable = λ always. stand_ran round r mid worked before between lines alone ready.workers before_many passed
         (beside.closed ∙ same_closed_in r.side before lent room) (ready.durable always);
   }
 
-  module _ {kept : RuntimeState} {after : Vault D} {said : List Answer} {refusal : Option End}
-      (keeper : RunsKeeper tells clock image_at faults (keeper_lines round) said refusal mid kept between after) where
+  module _ {seen : List (List Mark)} {kept : RuntimeState} {after : Vault D} {said : List Answer} {refusal : Option End}
+      (keeper : RunsKeeper tells clock image_at faults seen (keeper_lines round) said refusal mid kept between
+      after) where
     kept_side : kept.side ≡ r.side
     kept_side = keeper.leaves.side ∙ mid_side
 
@@ -157,7 +176,7 @@ module _ {D : Type 0} {tells : D → Option (List ℕ)} {clock : D → ℕ} {ima
     after_whole : IsWhole after
     after_whole = whole_of r.side after (ap length growing_kept ∙ lines.over.banks_length ∙ before_many)
         (subst (λ s. length (closed_in s after) ≡ length (closed_in s between)) mid_side keeper.leaves.over.many
-        ∙ ap length (beside.closed ∙ same_closed_in r.side before lent room) ∙ closed_many r.side before ready.whole)
+        ∙ ap length (beside.closed ∙ same_closed_in r.side before lent room) ∙ ready.files)
 
     kept_counted : kept.counted ≡ (beside_at_end (beside_of r) said).closed
     kept_counted = keeper.leaves.counted ∙ ap (λ (x : RuntimeState). (beside_at_end (beside_of x) said).closed) alone

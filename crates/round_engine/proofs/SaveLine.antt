@@ -1,8 +1,9 @@
 -- A line of the maintenance thread that asks for a save.
-use Rattle.std.proofs.Common.{◌≡◌, ◌∙◌, ◌<◌, ◌-◌, ◌∷◌, inl, inr, sym, ap, subst, refl, ℕ, List, [], map}
+use Rattle.std.proofs.Common.{◌≤◌, ◌≡◌, ◌∙◌, ◌<◌, ◌-◌, ◌∷◌, inl, inr, sym, ap, subst, refl, ℕ, List, []}
 use Rattle.std.proofs.Common.{true, false, Option, Some, None, arith}
 use Rattle.std.specs.Prelude.{◌^◌, Result, Ok, Err}
 use Rattle.std.proofs.lemmas.Bool.{cases_eq}
+use Rattle.lists.specs.Elements.{in_head}
 use Rattle.log_writer.specs.declared.vault.Vault.{Vault}
 use Rattle.script_grammar.specs.declared.lines.KeeperLine.TheVariants as asks
 use Rattle.wire_form.specs.declared.clock.Mark.{Mark}
@@ -11,17 +12,20 @@ use Rattle.log_writer.specs.declared.save.SaveFault.{SaveFault}
 use Rattle.log_writer.specs.declared.save.SaveFault.TheVariants.{Device, Down, Limit}
 use Rattle.joint_crashes.specs.Images.{epoch_of}
 use Rattle.tx_script.specs.Causes.{last_sequence}
+use Rattle.tx_script.specs.SeenLaws.{saved_no_less}
 use Rattle.tx_script.specs.declared.answer.Answer.{Answer}
 use Rattle.tx_script.specs.declared.answer.Answer.TheVariants as answers
-use Rattle.worker_logs.specs.Saves.{SavesMarks, logs_marks}
+use Rattle.worker_logs.specs.Saves.{SavesMarks}
 use Rattle.worker_logs.specs.SavesLaws.{saved_epoch_less}
 use Rattle.worker_logs.specs.declared.savepoints.Side.{Side}
 use Rattle.worker_logs.specs.declared.savepoints.Side.TheVariants.{Even, Odd}
-use Rattle.round_engine.specs.Keeping.{CanKeep, IsSavedBySeen, keeper_on, MarksOf, RunsKeeper, save_answer, save_refusal}
-use Rattle.round_engine.specs.Keeping.{StepsSave}
+use Rattle.round_engine.specs.Keeping.{CanKeep, epoch_by, epochs_in, GoOn, IsSavedBySeen, keeper_on, RunsKeeper, save_answer}
+use Rattle.round_engine.specs.Keeping.{save_refusal, SeenAmong, StepsSave}
 use Rattle.round_engine.specs.Sides.{closed_in, growing_in}
 use Rattle.round_engine.specs.Standing.{beside_of, RuntimeState}
 use Rattle.round_engine.proofs.KeepingSaves.{keeps_saves, with_save}
+use Rattle.round_engine.specs.Saves.{GoesBy}
+use Rattle.round_engine.proofs.Placed.{place_limit, place_one}
 use Rattle.round_engine.proofs.PlainLine.{gleans_none, IsPlain, leaves_none, needs_none, plain_line, TellsNone, Ungleaned}
 
 -- both sides are as they were
@@ -58,11 +62,11 @@ limit_plain = record {
 }
 
 module _ {D : Type 0} {tells : D → Option (List ℕ)} {clock : D → ℕ} {image_at : D → ℕ → List ℕ → Type 0} (faults : D → ℕ)
-    (r : RuntimeState) (vault : Vault D) (ready : CanKeep tells clock image_at r vault) where
+    (r : RuntimeState) (vault : Vault D) (ready : CanKeep tells clock image_at r vault) (marks : List Mark) where
   module _ (save : SaveState) (now : Vault D) where
     abbrev Saves : Result ℕ SaveFault → Type 0
-    Saves result = SavesMarks tells clock image_at faults r.stands.clock.epoch (logs_marks r.logs) (beside_of r) r.save save
-        vault now result
+    Saves result = SavesMarks tells clock image_at faults r.stands.clock.epoch marks (beside_of r) r.save save vault now
+        result
 
     -- the last sequence was not met where nothing else says so
     below_last : (result : Result ℕ SaveFault) (saves : Saves result)
@@ -85,14 +89,33 @@ module _ {D : Type 0} {tells : D → Option (List ℕ)} {clock : D → ℕ} {ima
       cuts = ap (λ c. c.items) saves.cuts;
     }
 
-    -- it was saved by the marks that the logs have
+    -- it was saved by these marks
+    goes_with : (result : Result ℕ SaveFault) (saves : Saves result) → GoesBy r.side marks saves.saved
+    goes_with result saves = record {
+      clock = r.stands.clock.epoch;
+      beside = beside_of r;
+      growing = refl;
+      workers = ready.closed.workers;
+      saves = saves.by_marks;
+    }
+
+    -- which are the ones that were seen
     by_marks : (result : Result ℕ SaveFault) (saves : Saves result)
-        → IsSavedBySeen (MarksOf r r.stands.clock.epoch r.stands.clock.epoch) (beside_of r) saves.saved
+        → IsSavedBySeen (SeenAmong (marks ∷ []) r.stands.clock.epoch r.stands.clock.epoch) (beside_of r) saves.saved
     by_marks result saves =
-        (r.stands.clock.epoch, logs_marks r.logs, (omega arith, omega arith, refl), saves.by_marks)
+        (r.stands.clock.epoch, marks, (omega arith, omega arith, in_head marks []), saves.by_marks)
+
+    -- its epoch is none before that of marks that these go on from
+    no_less : (result : Result ℕ SaveFault) (saves : Saves result) (from : List Mark) → GoOn from (marks ∷ [])
+        → epoch_of r.save.newest ≤ epoch_by r.stands.clock.epoch from → epoch_of r.save.newest ≤ saves.saved.epoch
+    no_less result saves from going low =
+        let rises = saved_no_less r.stands.clock.epoch r.stands.clock.epoch (epochs_in from) (epochs_in marks) (omega arith)
+        going.0 in
+        omega (arith, low, rises, saves.by_marks.epoch)
 
     saved_line : (epoch : ℕ) (saves : Saves (Ok epoch))
-        → RunsKeeper tells clock image_at faults (asks.Save ∷ []) (answers.Save epoch ∷ []) None r (with_save r save) vault now
+        → RunsKeeper tells clock image_at faults (marks ∷ []) (asks.Save ∷ []) (answers.Save epoch ∷ []) None r
+        (with_save r save) vault now
     saved_line epoch saves =
         record {
           stored = saves.saved ∷ [];
@@ -103,10 +126,16 @@ module _ {D : Type 0} {tells : D → Option (List ℕ)} {clock : D → ℕ} {ima
           keeps = keeps_saves r (Ok epoch) saves ready.up ready.stored;
           by_lines = (saves.saved, [], refl, by_marks (Ok epoch) saves, refl);
           by_failed = tt;
+          by_place = place_one r.side marks saves.saved (sequence_of r.save.newest) (sequence_of save.newest)
+              (below_last (Ok epoch) saves (λ sequence is. absurd (let no = is in cc)))
+              (goes_with (Ok epoch) saves);
           gleaned = gleans_none tells clock image_at faults (answers.Save epoch) (tells_save epoch) (ungleaned (Ok epoch) saves);
           leaves = leaves_none tells clock image_at faults (answers.Save epoch) (tells_save epoch) (ungleaned (Ok epoch) saves);
           needs = needs_none tells clock image_at faults (answers.Save epoch) (tells_save epoch) (ungleaned (Ok epoch) saves);
-          rise = λ low. ((omega (arith, low, saves.by_marks.epoch), tt), omega (arith, saves.by_marks.epoch));
+          rise = λ from going low. (
+            (no_less (Ok epoch) saves from going low, tt),
+            omega (arith, saves.by_marks.epoch),
+          );
           later = omega arith;
           stands = refl;
           logs = refl;
@@ -120,26 +149,36 @@ module _ {D : Type 0} {tells : D → Option (List ℕ)} {clock : D → ℕ} {ima
           caused = λ ran rests. (
             (
               below_last (Ok epoch) saves (λ sequence is. absurd (let no = is in cc)),
-              map (λ (m : Mark). m.epoch) (logs_marks r.logs),
-              rests.marks,
+              epochs_in marks,
+              rests.marks.0,
               saves.told ∙ saves.by_marks.epoch,
             ),
             tt,
+          );
+          saw = λ ran index are. (
+            record {
+              places = are.0.places;
+              marks = epochs_in marks;
+              told = are.0.told;
+              stood = are.0.stood;
+              least = saves.told ∙ saves.by_marks.epoch;
+            },
+            refl,
           );
           above = λ low. omega (
             arith,
             low,
             ap epoch_of saves.stores.newest,
             saves.by_marks.epoch,
-            saved_epoch_less r.stands.clock.epoch (map (λ (m : Mark). m.epoch) (logs_marks r.logs)),
+            saved_epoch_less r.stands.clock.epoch (epochs_in marks),
           );
           tie_room = saves.room;
           cut_room = saves.cuts;
         }
 
     failed_line : (saves : Saves (Err Device))
-        → RunsKeeper tells clock image_at faults (asks.Save ∷ []) (answers.Device ∷ []) (save_refusal answers.Device)
-        r (with_save r save) vault now
+        → RunsKeeper tells clock image_at faults (marks ∷ []) (asks.Save ∷ []) (answers.Device ∷ [])
+        (save_refusal answers.Device) r (with_save r save) vault now
     failed_line saves =
         record {
           stored = [];
@@ -150,10 +189,16 @@ module _ {D : Type 0} {tells : D → Option (List ℕ)} {clock : D → ℕ} {ima
           keeps = keeps_saves r (Err Device) saves ready.up ready.stored;
           by_lines = refl;
           by_failed = (by_marks (Err Device) saves, tt);
+          by_place = place_one r.side marks saves.saved (sequence_of r.save.newest) (sequence_of save.newest)
+              (below_last (Err Device) saves (λ sequence is. absurd (let no = is in cc)))
+              (goes_with (Err Device) saves);
           gleaned = gleans_none tells clock image_at faults answers.Device tells_device (ungleaned (Err Device) saves);
           leaves = leaves_none tells clock image_at faults answers.Device tells_device (ungleaned (Err Device) saves);
           needs = needs_none tells clock image_at faults answers.Device tells_device (ungleaned (Err Device) saves);
-          rise = λ low. ((omega (arith, low, saves.by_marks.epoch), tt), omega (arith, saves.by_marks.epoch));
+          rise = λ from going low. (
+            (no_less (Err Device) saves from going low, tt),
+            omega (arith, saves.by_marks.epoch),
+          );
           later = omega arith;
           stands = refl;
           logs = refl;
@@ -168,33 +213,37 @@ module _ {D : Type 0} {tells : D → Option (List ℕ)} {clock : D → ℕ} {ima
             (below_last (Err Device) saves (λ sequence is. absurd (let no = is in cc)), rests.store refl),
             tt,
           );
+          saw = λ ran index are. refl;
           above = λ low. omega (arith, low, ap epoch_of saves.stores.kept);
           tie_room = saves.room;
           cut_room = saves.cuts;
         }
 
   by_result : (save : SaveState) (now : Vault D) (result : Result ℕ SaveFault) (saves : Saves save now result)
-      → RunsKeeper tells clock image_at faults (asks.Save ∷ []) (save_answer result ∷ []) (save_refusal (save_answer result))
-      r (with_save r save) vault now
+      → RunsKeeper tells clock image_at faults (marks ∷ []) (asks.Save ∷ []) (save_answer result ∷ [])
+      (save_refusal (save_answer result)) r (with_save r save) vault now
   by_result save now (Ok epoch) saves = saved_line save now epoch saves
   by_result save now (Err Device) saves = failed_line save now saves
   by_result save now (Err (Down count)) saves = absurd (let no = sym ready.up ∙ (saves.stores.down count).0 refl in cc)
   by_result save now (Err (Limit sequence)) saves =
       let met = (saves.stores.limit sequence).0 refl in
-      subst (λ s. RunsKeeper tells clock image_at faults (asks.Save ∷ []) (answers.Limit ∷ []) None r (with_save r s) vault now)
+      subst (λ s. RunsKeeper tells clock image_at faults (marks ∷ []) (asks.Save ∷ []) (answers.Limit ∷ []) None r
+      (with_save r s) vault now)
       (sym (saves.stores.untouched (λ is. cc)).0)
-      (subst (λ v. RunsKeeper tells clock image_at faults (asks.Save ∷ []) (answers.Limit ∷ []) None r r vault v)
+      (subst (λ v. RunsKeeper tells clock image_at faults (marks ∷ []) (asks.Save ∷ []) (answers.Limit ∷ []) None r r vault v)
       (sym (saves.untied (λ is. cc)))
       (plain_line r vault ready asks.Save answers.Limit r.stands.clock.epoch limit_plain (omega arith) refl refl
-      (λ ran. sym met.1 ∙ met.2)))
+      (λ ran. sym met.1 ∙ met.2) (marks ∷ []) (λ ran index. refl)
+      (place_limit r.side marks (sequence_of r.save.newest) (sym met.1 ∙ met.2))))
 
   -- A save is answered.
   pub save_line : (answer : Answer) {new : RuntimeState} {now : Vault D}
-      → StepsSave tells clock image_at faults answer r new vault now
-      → RunsKeeper tells clock image_at faults (asks.Save ∷ []) (answer ∷ []) (save_refusal answer) r new vault now
+      → StepsSave tells clock image_at faults marks answer r new vault now
+      → RunsKeeper tells clock image_at faults (marks ∷ []) (asks.Save ∷ []) (answer ∷ []) (save_refusal answer) r new vault
+      now
   save_line answer {new} {now} step =
-      subst (λ a. RunsKeeper tells clock image_at faults (asks.Save ∷ []) (a ∷ []) (save_refusal a) r new vault now)
-      (sym step.answer_is)
-      (subst (λ s. RunsKeeper tells clock image_at faults (asks.Save ∷ []) (save_answer step.result ∷ [])
+      subst (λ a. RunsKeeper tells clock image_at faults (marks ∷ []) (asks.Save ∷ []) (a ∷ []) (save_refusal a) r new vault
+      now) (sym step.answer_is)
+      (subst (λ s. RunsKeeper tells clock image_at faults (marks ∷ []) (asks.Save ∷ []) (save_answer step.result ∷ [])
       (save_refusal (save_answer step.result)) r s vault now) (sym step.alone)
       (by_result new.save now step.result step.saves))

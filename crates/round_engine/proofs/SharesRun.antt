@@ -23,8 +23,12 @@ use Rattle.tx_script.specs.declared.answer.Answer.{Answer}
 use Rattle.tx_script.specs.declared.answer.Answer.TheVariants as answers
 use Rattle.tx_script.specs.declared.outcome.Outcome.{Outcome}
 use Rattle.tx_script.specs.Causes.{IsTryCause, WorkersCaused}
-use Rattle.tx_script.specs.Run.{AdvancesTo, IsBetween, IsOfRound, IsRun, LogRefusal, OneForEach, Ran, TryRefusal}
+use Rattle.tx_script.specs.Readied.{AllReadied}
+use Rattle.tx_script.specs.Seen.{AllInOrder}
+use Rattle.tx_script.specs.Run.{AdvancesTo, IsBetween, IsOfRound, IsRun, LogRefusal, OneForEach, Ran, Readied}
+use Rattle.tx_script.specs.Run.{TryRefusal}
 use Rattle.tx_script.specs.Run.{entries_of_workers, of_worker}
+use Rattle.shared_rounds.specs.Shares.{shown_epochs}
 use Rattle.round_engine.specs.Changes.{AreLogged}
 use Rattle.round_engine.specs.Shares.{IsShare, RunsShares, Share, entries_in, logged_in}
 use Rattle.round_engine.specs.Standing.{Standing}
@@ -72,10 +76,11 @@ same_slots runs = ap (λ (x : Standing). x.slots) runs.only
 
 -- ---- one outcome for each line
 
-pub shares_one_each : (decls : List Decl) (first last tries : ℕ) (shares : List Share)
-    → AllByRecursion (IsShare decls first last tries) shares → OneForEach (lines_of shares) (outcomes_of shares)
-shares_one_each decls first last tries [] each = tt
-shares_one_each decls first last tries (p ∷ shares) each = (each.0.one_each, shares_one_each decls first last tries shares each.1)
+pub shares_one_each : (decls : List Decl) (epoch first last tries : ℕ) (shares : List Share)
+    → AllByRecursion (IsShare decls epoch first last tries) shares → OneForEach (lines_of shares) (outcomes_of shares)
+shares_one_each decls epoch first last tries [] each = tt
+shares_one_each decls epoch first last tries (p ∷ shares) each =
+    (each.0.one_each, shares_one_each decls epoch first last tries shares each.1)
 
 -- ---- causes
 
@@ -88,11 +93,36 @@ tries_caused slots (p ∷ shares) each = (each.0, tries_caused slots shares each
 
 -- each line has its cause
 shares_caused : (decls : List Decl) (ran : Ran) (shares : List Share)
-    → AllByRecursion (IsShare decls ran.printed.begin.draw ran.printed.end.draw ran.beside.tries) shares
-    → WorkersCaused ran (refusals_of shares) (outcomes_of shares) (tries_of shares)
+    → AllByRecursion (IsShare decls ran.printed.begin.epoch ran.printed.begin.draw ran.printed.end.draw
+    ran.beside.tries)
+    shares → WorkersCaused ran (refusals_of shares) (outcomes_of shares) (tries_of shares)
 shares_caused decls ran [] each = tt
 shares_caused decls ran (p ∷ shares) each =
     (each.0.come, each.0.unrun_last, shares_caused decls ran shares each.1)
+
+-- ---- marks
+
+-- of each worker the epochs of the marks that were shown of it, and what it had as its lines began
+abbrev pub marks_of : List Share → List (List (Option ℕ))
+marks_of shares = map shown_epochs (map (λ (share : Share). share.marks) shares)
+
+abbrev pub readied_in : List Share → List (List Readied)
+readied_in shares = map (λ (share : Share). share.readied) shares
+
+-- each line began so
+pub shares_readied : (decls : List Decl) (epoch first last tries : ℕ) (shares : List Share)
+    → AllByRecursion (IsShare decls epoch first last tries) shares
+    → AllReadied epoch (marks_of shares) (readied_in shares) (outcomes_of shares)
+shares_readied decls epoch first last tries [] each = tt
+shares_readied decls epoch first last tries (p ∷ shares) each =
+    (each.0.readied, shares_readied decls epoch first last tries shares each.1)
+
+-- the epochs of each worker's marks never fall
+pub shares_rise : (decls : List Decl) (epoch first last tries : ℕ) (shares : List Share)
+    → AllByRecursion (IsShare decls epoch first last tries) shares → AllInOrder (marks_of shares)
+shares_rise decls epoch first last tries [] each = tt
+shares_rise decls epoch first last tries (p ∷ shares) each =
+    (each.0.rise, shares_rise decls epoch first last tries shares each.1)
 
 -- ---- shares by their workers
 
@@ -102,19 +132,22 @@ logged_some [] w p is = absurd cc
 logged_some (q ∷ shares) zero p is = ap (λ (x : Share). x.logged) (same_Some q p is)
 logged_some (q ∷ shares) (suc w) p is = logged_some shares w p is
 
-pub shares_lines : (decls : List Decl) (first last tries : ℕ) (shares : List Share) (w : ℕ)
-    → AllByRecursion (IsShare decls first last tries) shares → AllByRecursion (IsLineOf decls) (logged_in shares w)
-shares_lines decls first last tries [] w each = tt
-shares_lines decls first last tries (p ∷ shares) zero each = each.0.lines_are
-shares_lines decls first last tries (p ∷ shares) (suc w) each = shares_lines decls first last tries shares w each.1
+pub shares_lines : (decls : List Decl) (epoch first last tries : ℕ) (shares : List Share) (w : ℕ)
+    → AllByRecursion (IsShare decls epoch first last tries) shares → AllByRecursion (IsLineOf decls)
+    (logged_in shares w)
+shares_lines decls epoch first last tries [] w each = tt
+shares_lines decls epoch first last tries (p ∷ shares) zero each = each.0.lines_are
+shares_lines decls epoch first last tries (p ∷ shares) (suc w) each = shares_lines decls epoch first last tries
+    shares w each.1
 
 -- nothing was logged of no lines
-pub logged_nothing : (decls : List Decl) (first last tries : ℕ) (shares : List Share) (w : ℕ)
-    → AllByRecursion (IsShare decls first last tries) shares
+pub logged_nothing : (decls : List Decl) (epoch first last tries : ℕ) (shares : List Share) (w : ℕ)
+    → AllByRecursion (IsShare decls epoch first last tries) shares
     → ((p : Share) → slice_get shares w ≡ Some p → p.lines ≡ []) → logged_in shares w ≡ []
-logged_nothing decls first last tries [] w each none = refl
-logged_nothing decls first last tries (p ∷ shares) zero each none = each.0.none (none p refl)
-logged_nothing decls first last tries (p ∷ shares) (suc w) each none = logged_nothing decls first last tries shares w each.1 none
+logged_nothing decls epoch first last tries [] w each none = refl
+logged_nothing decls epoch first last tries (p ∷ shares) zero each none = each.0.none (none p refl)
+logged_nothing decls epoch first last tries (p ∷ shares) (suc w) each none = logged_nothing decls epoch first last
+    tries shares w each.1 none
 
 -- what holds of the numbers of the commits holds of what was logged
 logged_numbers : (P : Number → Type 0) (decls : List Decl) (worker : ℕ) (s : State) (es : List Entry)
@@ -182,6 +215,7 @@ pub record IsRanOf (tries : ℕ) (round : Round) (s t : Standing) (shares : List
   pub asked : ran.printed.asked ≡ keeper_lines round
   pub answers : length ran.printed.answers ≡ length (keeper_lines round)
   pub epoch : AdvancesTo s.clock.epoch ran.printed.answers ran.printed.end.epoch
+  pub later : t.clock.epoch ≤ ran.printed.end.epoch
 
 module _ {tries : ℕ} {s t : Standing} {shares : List Share} (round : Round) (ran : Ran)
     (runs : RunsShares tries s t shares) (of : IsRanOf tries round s t shares ran) where
@@ -189,7 +223,7 @@ module _ {tries : ℕ} {s t : Standing} {shares : List Share} (round : Round) (r
   is_of_round = record {
     outcomes = subst (λ l. OneForEach l ran.printed.outcomes) of.lines
         (subst (OneForEach (lines_of shares)) (sym of.outcomes)
-        (shares_one_each s.decls s.clock.draw t.clock.draw tries shares runs.each));
+        (shares_one_each s.decls s.clock.epoch s.clock.draw t.clock.draw tries shares runs.each));
     asked = of.asked;
     answers = of.answers;
   }
@@ -199,10 +233,9 @@ module _ {tries : ℕ} {s t : Standing} {shares : List Share} (round : Round) (r
   later n is =
       let begin_epoch = ap (λ (n : Number). n.epoch) of.begin in
       let begin_draw = ap (λ (n : Number). n.draw) of.begin in
-      let up = advances_up ran.printed.answers s.clock.epoch ran.printed.end.epoch of.epoch in
       record {
         epoch_from = omega (arith, is.epoch_from, begin_epoch);
-        epoch_to = omega (arith, is.epoch_to, runs.epoch, up);
+        epoch_to = omega (arith, is.epoch_to, of.later);
         draw_from = omega (arith, is.draw_from, begin_draw);
         draw_before = omega (arith, is.draw_before, of.draw);
       }
@@ -248,10 +281,16 @@ module _ {tries : ℕ} {s t : Standing} {shares : List Share} (round : Round) (r
   pub run_caused : WorkersCaused ran (refusals_of shares) ran.printed.outcomes ran.beside.refused
   run_caused =
       let first : ran.printed.begin.draw ≡ s.clock.draw = ap (λ (n : Number). n.draw) of.begin in
-      let each : AllByRecursion (IsShare s.decls ran.printed.begin.draw ran.printed.end.draw ran.beside.tries) shares =
-      subst (λ n. AllByRecursion (IsShare s.decls ran.printed.begin.draw ran.printed.end.draw n) shares) (sym of.tried)
-      (subst (λ n. AllByRecursion (IsShare s.decls n ran.printed.end.draw tries) shares) (sym first)
-      (subst (λ n. AllByRecursion (IsShare s.decls s.clock.draw n tries) shares) (sym of.draw) runs.each)) in
+      let began : ran.printed.begin.epoch ≡ s.clock.epoch = ap (λ (n : Number). n.epoch) of.begin in
+      let each : AllByRecursion (IsShare s.decls ran.printed.begin.epoch ran.printed.begin.draw ran.printed.end.draw
+      ran.beside.tries) shares =
+      subst (λ n. AllByRecursion (IsShare s.decls ran.printed.begin.epoch ran.printed.begin.draw ran.printed.end.draw n)
+      shares) (sym of.tried)
+      (subst (λ e. AllByRecursion (IsShare s.decls e ran.printed.begin.draw ran.printed.end.draw tries) shares)
+      (sym began)
+      (subst (λ n. AllByRecursion (IsShare s.decls s.clock.epoch n ran.printed.end.draw tries) shares) (sym first)
+      (subst (λ n. AllByRecursion (IsShare s.decls s.clock.epoch s.clock.draw n tries) shares)
+      (sym of.draw) runs.each))) in
       subst (λ r. WorkersCaused ran (refusals_of shares) ran.printed.outcomes r) (sym of.refused)
       (subst (λ o. WorkersCaused ran (refusals_of shares) o (tries_of shares)) (sym of.outcomes)
       (shares_caused s.decls ran shares each))

@@ -1,12 +1,12 @@
 -- What a round leaves of the vault, from what it leaves of each log, of the save, and of the closed log files.
-use Rattle.std.proofs.Common.{◌≡◌, ◌∙◌, ◌≤◌, ◌<◌, ◌⊎◌, ◌++◌, ◌∷◌, inl, inr, sym, ap, subst, refl, ℕ, zero}
-use Rattle.std.proofs.Common.{suc, List, [], length, map, Bool, true, false, cond, not, Option, Some, None, arith}
+use Rattle.std.proofs.Common.{◌≡◌, ◌∙◌, ◌≤◌, ◌<◌, ◌⊎◌, ◌++◌, ◌∷◌, inl, inr, sym, ap, subst, refl, ℕ}
+use Rattle.std.proofs.Common.{List, [], length, map, Bool, true, false, cond, not, Option, Some, None, arith}
 use Rattle.std.specs.Prelude.{◌&&◌, is_some, option_to_list, slice_get}
 use Rattle.std.specs.List.{AllByRecursion, Contains}
 use Rattle.std.proofs.lemmas.List.{append-nil}
 use Rattle.std.proofs.lemmas.Option.{same_Some}
 use Rattle.lists.specs.Elements.{in_cases, in_none}
-use Rattle.lists.specs.Fronts.{IsFront, front_length, front_refl}
+use Rattle.lists.specs.Fronts.{front_length, front_refl}
 use Rattle.log_writer.specs.Vault.{IsWhole, disk_in}
 use Rattle.outside.specs.declared.device.Device.{Device}
 use Rattle.outside.specs.declared.device.Device.TheVariants as devices
@@ -28,12 +28,15 @@ use Rattle.worker_logs.specs.LogLaws.{log_of as log_is, log_resets}
 use Rattle.worker_logs.specs.Saves.{closed_number, CountsOf, growing_number, IsCounted, logs_marks}
 use Rattle.worker_logs.specs.declared.savepoints.Beside.{Beside}
 use Rattle.worker_logs.specs.Rows.{Blames, NeverFall}
+use Rattle.worker_logs.specs.Shown.{IsShownSince, Stood}
+use Rattle.shared_rounds.specs.Shares.{shown_epochs}
 use Rattle.round_engine.specs.Ends.{comes_to_advance, comes_to_save, comes_to_swap, epoch_joined, swaps}
 use Rattle.round_engine.specs.Gleans.{RoundGleans}
 use Rattle.round_engine.specs.Keeping.{IsSavedBySeen, KeepsSaves}
-use Rattle.round_engine.specs.Logs.{AreClosedFiles, AreLogs, IsClosedFile, IsRefusedBy, LeavesLog}
+use Rattle.round_engine.specs.Logs.{AreClosedFiles, AreLogs, IsClosedFile, IsFirstAt, IsRefusedBy, LeavesLog}
 use Rattle.round_engine.specs.RanRound.{AreFailed, LeavesVault, LogsRan, SwapsFiles}
-use Rattle.round_engine.specs.Saves.{AreSaved, AreSeen, beside_at_end, IsSavedBy, newest_after, saves_told}
+use Rattle.round_engine.specs.Saves.{AreSaved, AreSeen, AreShownAt, beside_at_end, GoesBy, IsSavedBy, newest_after}
+use Rattle.round_engine.specs.Saves.{saves_told}
 use Rattle.round_engine.specs.Sides.{closed_in, closed_numbers, growing_in, other_side}
 use Rattle.round_engine.specs.Standing.{beside_of, RuntimeState, StandsOn}
 use Rattle.round_engine.specs.Swaps.{behind_swap, CutsBanks, since_swap}
@@ -47,32 +50,39 @@ use Rattle.round_engine.proofs.Saved.{counts_after, covers_all, IsOver, logs_see
 use Rattle.round_engine.proofs.Saved.{saved_by_had}
 use Rattle.round_engine.proofs.Places.{item_at, map_at, within_of}
 
--- marks of the logs behind the lines, or behind the join, at an epoch of the clock from the first to the last of these
-abbrev pub SeenIn : ℕ → ℕ → List LogState → List LogState → ℕ → List Mark → Type 0
-SeenIn first last lines_logs logs clock seen = (first ≤ clock) × (clock ≤ last)
-    × ((seen ≡ logs_marks lines_logs) ⊎ (seen ≡ logs_marks logs))
+-- of each worker one of the marks that others were shown of it
+pub record AreShown (shown : ℕ → List Stood) (seen : List Mark) : Type 0 where
+  pub workers : length seen ≡ 8
+  pub each : (w : ℕ) (m : Mark) → slice_get seen w ≡ Some m → (s : Stood) × Contains (shown w) s × (s.mark ≡ m)
+
+-- marks of the logs that others were shown while the lines ran, or those behind the join, at an epoch of the clock from
+-- the first to the last of these
+abbrev pub SeenIn : ℕ → ℕ → (ℕ → List Stood) → List LogState → ℕ → List Mark → Type 0
+SeenIn first last shown logs clock seen = (first ≤ clock) × (clock ≤ last)
+    × (AreShown shown seen ⊎ (seen ≡ logs_marks logs))
 
 module _ {D : Type 0} (tells : D → Option (List ℕ)) (clock : D → ℕ) (image_at : D → ℕ → List ℕ → Type 0)
     (faults : D → ℕ) where
   -- what a worker's log comes to over a round, with its file's faults
-  pub record Total (logged : List Commit) (epoch : Option ℕ) (old mid new : LogState) (before now : D) : Type 0 where
+  pub record Total (logged : List Commit) (shown : List Stood) (old new : LogState) (before now : D) : Type 0 where
     pub leaves : (commits : List Commit) (was : List ℕ) → IsLog tells clock image_at commits was old before
-        → Leaves tells clock image_at commits logged was epoch mid new before now
+        → Leaves tells clock image_at commits logged was shown new before now
+    pub first : IsFirstAt (clock before) shown
     pub blames : Blames faults before now new.journal
     pub reaches : Reaches tells now new.journal
 
-  -- all logs, and what was seen of their marks
-  pub record LogsTotal (logged : ℕ → List Commit) (start old mid new : List LogState) (before now : List D) : Type 0 where
+  -- all logs
+  pub record LogsTotal (logged : ℕ → List Commit) (shown : ℕ → List Stood) (old new : List LogState)
+      (before now : List D)
+      : Type 0 where
     pub old_many : length old ≡ 8
-    pub start_many : length start ≡ 8
-    pub mid_many : length mid ≡ 8
     pub new_many : length new ≡ 8
     pub before_many : length before ≡ 8
     pub now_many : length now ≡ 8
-    pub each : (w : ℕ) (begins was lines log : LogState) (bank_was bank : D) → slice_get start w ≡ Some begins
-        → slice_get old w ≡ Some was → slice_get mid w ≡ Some lines → slice_get new w ≡ Some log
+    pub each : (w : ℕ) (was log : LogState) (bank_was bank : D) → slice_get old w ≡ Some was
+        → slice_get new w ≡ Some log
         → slice_get before w ≡ Some bank_was → slice_get now w ≡ Some bank
-        → Total (logged w) begins.mark.epoch was lines log bank_was bank
+        → Total (logged w) (shown w) was log bank_was bank
 
 pub and_first : (a b : Bool) → (a && b) ≡ true → a ≡ true
 and_first true b is = refl
@@ -86,17 +96,6 @@ pub none_some : (x : Option ℕ) → is_some x ≡ false → x ≡ None
 none_some None is = refl
 none_some (Some n) is = absurd cc
 
--- the epochs of the marks as the lines begin
-abbrev pub first_epochs : List LogState → List (List (Option ℕ))
-first_epochs logs = map (λ (log : LogState). log.mark.epoch ∷ []) logs
-
-pub epochs_at : (logs : List LogState) (w : ℕ) (log : LogState) (epochs : List (Option ℕ)) → slice_get logs w ≡ Some log
-    → slice_get (first_epochs logs) w ≡ Some epochs → log.mark.epoch ∷ [] ≡ epochs
-epochs_at [] w log epochs is at = absurd cc
-epochs_at (x ∷ logs) zero log epochs is at =
-    ap (λ (l : LogState). l.mark.epoch ∷ []) (sym (same_Some x log is)) ∙ same_Some (x.mark.epoch ∷ []) epochs at
-epochs_at (x ∷ logs) (suc w) log epochs is at = epochs_at logs w log epochs is at
-
 pub below_8 : (logs : List LogState) (w : ℕ) (log : LogState) → slice_get logs w ≡ Some log → length logs ≡ 8 → w < 8
 below_8 logs w log at many = omega (arith, many, within_of logs w log at)
 
@@ -109,16 +108,17 @@ marks_in commits durable (x ∷ marks) m all has = elim (in_cases m x marks has)
   | inr later ↦ marks_in commits durable marks m all.1 later
 ]
 
+-- each of the marks that were shown is one that the log had
+pub among_of : (P : Stood → Type 0) (shown : List Stood) (s : Stood) → AllByRecursion P shown → Contains shown s → P s
+among_of P [] s all has = absurd (in_none s has)
+among_of P (x ∷ shown) s all has = elim (in_cases s x shown has) [
+  | inl here ↦ subst P here all.0
+  | inr later ↦ among_of P shown s all.1 later
+]
+
 pub none_failed : (failed : Option Saved) → is_some failed ≡ false → failed ≡ None
 none_failed None is = refl
 none_failed (Some saved) is = absurd cc
-
--- the epochs that are told of a round are those that its marks begin with
-pub round_front : (starts : List LogState) (w : ℕ) (begins : LogState) (epochs : List (Option ℕ))
-    → slice_get starts w ≡ Some begins → slice_get (first_epochs starts) w ≡ Some epochs → (told : List (Option ℕ))
-    → IsFront (begins.mark.epoch ∷ []) told → IsFront epochs told
-round_front starts w begins epochs at are told front =
-    subst (λ es. IsFront es told) (epochs_at starts w begins epochs at are) front
 
 -- a log that is up, of which no line waits, and whose mark counts all that is durable
 pub record IsAtRest (log : LogState) : Type 0 where
@@ -127,56 +127,60 @@ pub record IsAtRest (log : LogState) : Type 0 where
   pub up : log.journal.down ≡ None
 
 module _ {D : Type 0} {tells : D → Option (List ℕ)} {clock : D → ℕ} {image_at : D → ℕ → List ℕ → Type 0}
-    {faults : D → ℕ} (ran : Ran) (logged : ℕ → List Commit) (start mid logs : List LogState) (old new : RuntimeState)
-    (before now : Vault D) (stored : List Saved) (failed : Option Saved)
-    (total : LogsTotal tells clock image_at faults logged start old.logs mid logs (growing_in old.side before)
+    {faults : D → ℕ} (ran : Ran) (logged : ℕ → List Commit) (shown : ℕ → List Stood) (logs : List LogState)
+    (old new : RuntimeState) (before now : Vault D) (stored : List Saved) (failed : Option Saved)
+    (total : LogsTotal tells clock image_at faults logged shown old.logs logs (growing_in old.side before)
     (growing_in old.side now))
-    (saves : AreSaved (IsSavedBySeen (SeenIn ran.printed.begin.epoch (epoch_joined ran) mid logs)) (beside_of old) ran.printed.answers
+    (saves : AreSaved (IsSavedBySeen (SeenIn ran.printed.begin.epoch (epoch_joined ran) shown logs))
+    (beside_of old) ran.printed.answers
     (stored ++ option_to_list failed))
     (newest : new.save.newest ≡ newest_after old.save.newest stored)
-    (front_so : (w : ℕ) (begins : LogState) (epochs : List (Option ℕ)) → slice_get start w ≡ Some begins
-    → slice_get ran.beside.marks w ≡ Some epochs → (told : List (Option ℕ)) → IsFront (begins.mark.epoch ∷ []) told → IsFront epochs told)
+    (placed : (k : ℕ) (saved : Saved) (places : List ℕ) → slice_get (stored ++ option_to_list failed) k ≡ Some saved
+    → slice_get ran.beside.seen k ≡ Some places → (seen : List Mark) × AreShownAt shown places seen
+    × GoesBy old.side seen saved)
+    (shown_so : (w : ℕ) (epochs : List (Option ℕ)) → slice_get ran.beside.marks w ≡ Some epochs
+    → shown_epochs (shown w) ≡ epochs)
     (above : (w : ℕ) → w < 8 → AllByRecursion (IsAbove (epoch_of old.save.newest)) (logged w))
     (whole : IsWhole before) (counted_many : length old.counted ≡ 8)
     (files : SwapsFiles tells clock image_at faults ran logs old new before now) (between_whole : IsWhole files.between)
     (rests : swaps ran ≡ true → (w : ℕ) (log : LogState) → slice_get logs w ≡ Some log → IsAtRest log) where
   -- what is known of worker w's log in the end
   abbrev Known : (ℕ → List Commit) → (ℕ → List ℕ) → ℕ → List ℕ × List Mark → Type 0
-  Known commits was w x = (begins old_log lines log : LogState) (bank_was bank : D) → slice_get start w ≡ Some begins
-      → slice_get old.logs w ≡ Some old_log → slice_get mid w ≡ Some lines → slice_get logs w ≡ Some log
+  Known commits was w x = (old_log log : LogState) (bank_was bank : D) → slice_get old.logs w ≡ Some old_log
+      → slice_get logs w ≡ Some log
       → slice_get (growing_in old.side before) w ≡ Some bank_was → slice_get (growing_in old.side now) w ≡ Some bank
-      → LeavesLog tells clock image_at (commits w) (logged w) (was w) x.0 x.1 (begins.mark.epoch ∷ []) bank_was bank log
-      × Contains x.1 lines.mark × Contains x.1 log.mark
+      → LeavesLog tells clock image_at (commits w) (logged w) (was w) x.0 x.1 (shown w) (shown_epochs
+      (shown w)) bank_was
+      bank log × Contains x.1 log.mark
 
   one_known : (commits : ℕ → List Commit) (was : ℕ → List ℕ) → AreLogs tells clock image_at commits was old before
       → (w : ℕ) → w < 8 → (x : List ℕ × List Mark) × Known commits was w x
   one_known commits was are w below =
-      let begins = item_at start w (omega (arith, below, total.start_many)) in
       let old_log = item_at old.logs w (omega (arith, below, total.old_many)) in
-      let lines = item_at mid w (omega (arith, below, total.mid_many)) in
       let log = item_at logs w (omega (arith, below, total.new_many)) in
       let bank_was = item_at (growing_in old.side before) w (omega (arith, below, total.before_many)) in
       let bank = item_at (growing_in old.side now) w (omega (arith, below, total.now_many)) in
-      let one = total.each w begins.0 old_log.0 lines.0 log.0 bank_was.0 bank.0 begins.1 old_log.1 lines.1 log.1 bank_was.1 bank.1 in
+      let one = total.each w old_log.0 log.0 bank_was.0 bank.0 old_log.1 log.1 bank_was.1 bank.1 in
       let is = are w old_log.0 bank_was.0 old_log.1 (growing_at old.side before w ∙ bank_was.1) in
       let leaves = one.leaves (commits w) (was w) is in (
         (leaves.durable, leaves.marks),
-        λ b o l g d e at_b at_o at_l at_g at_d at_e.
-            let same_b = same_Some begins.0 b (sym begins.1 ∙ at_b) in
-            let same_l = same_Some lines.0 l (sym lines.1 ∙ at_l) in
+        λ o g d e at_o at_g at_d at_e.
             let same_g = same_Some log.0 g (sym log.1 ∙ at_g) in
             let same_d = same_Some bank_was.0 d (sym bank_was.1 ∙ at_d) in
             let same_e = same_Some bank.0 e (sym bank.1 ∙ at_e) in (
               subst (λ x. LeavesLog tells clock image_at (commits w) (logged w) (was w) leaves.durable leaves.marks
-                  (x.mark.epoch ∷ []) d e g) same_b
+                  (shown w) (shown_epochs (shown w)) x e g) same_d
                   (subst (λ x. LeavesLog tells clock image_at (commits w) (logged w) (was w) leaves.durable leaves.marks
-                  (begins.0.mark.epoch ∷ []) x e g) same_d
+                  (shown w) (shown_epochs (shown w)) bank_was.0 x g) same_e
                   (subst (λ x. LeavesLog tells clock image_at (commits w) (logged w) (was w) leaves.durable leaves.marks
-                  (begins.0.mark.epoch ∷ []) bank_was.0 x g) same_e
-                  (subst (λ x. LeavesLog tells clock image_at (commits w) (logged w) (was w) leaves.durable leaves.marks
-                  (begins.0.mark.epoch ∷ []) bank_was.0 bank.0 x) same_g
-                  (record { ran = leaves.ran; while_run = leaves.while_run; rise = leaves.rise })))),
-              subst (λ (x : LogState). Contains leaves.marks x.mark) same_l leaves.behind_lines,
+                  (shown w) (shown_epochs (shown w)) bank_was.0 bank.0 x) same_g
+                  (record {
+                    ran = leaves.ran;
+                    while_run = refl;
+                    first = one.first;
+                    since = leaves.since;
+                    rise = leaves.rise;
+                  }))),
               subst (λ (x : LogState). Contains leaves.marks x.mark) same_g leaves.behind_join,
             ),
       )
@@ -197,49 +201,53 @@ module _ {D : Type 0} {tells : D → Option (List ℕ)} {clock : D → ℕ} {ima
 
     -- of the log and the log file that a worker has in the end
     leaves_at : (w : ℕ) (log : LogState) (bank : D) → slice_get logs w ≡ Some log → slice_get (growing_in old.side now) w ≡ Some bank
-        → (begins lines : LogState) × (bank_was : D) × (slice_get start w ≡ Some begins) × (slice_get mid w ≡ Some lines)
-        × LeavesLog tells clock image_at (commits w) (logged w) (was w) (durable w) (marks w) (begins.mark.epoch ∷ []) bank_was bank log
-        × Contains (marks w) lines.mark × Contains (marks w) log.mark
+        → (bank_was : D) × LeavesLog tells clock image_at (commits w) (logged w) (was w) (durable w) (marks w) (shown w)
+        (shown_epochs (shown w)) bank_was bank log × Contains (marks w) log.mark
     unfolding durable chosen marks
     leaves_at w log bank at there =
         let below = below_8 logs w log at total.new_many in
-        let begins = item_at start w (omega (arith, below, total.start_many)) in
         let old_log = item_at old.logs w (omega (arith, below, total.old_many)) in
-        let lines = item_at mid w (omega (arith, below, total.mid_many)) in
         let bank_was = item_at (growing_in old.side before) w (omega (arith, below, total.before_many)) in
-        let known = chosen.1 w below begins.0 old_log.0 lines.0 log bank_was.0 bank begins.1 old_log.1 lines.1 at bank_was.1 there in
-        (begins.0, lines.0, bank_was.0, begins.1, lines.1, known.0, known.1, known.2)
+        let known = chosen.1 w below old_log.0 log bank_was.0 bank old_log.1 at bank_was.1 there in
+        (bank_was.0, known.0, known.1)
 
     some_bank : (w : ℕ) → w < 8 → (bank : D) × (slice_get (growing_in old.side now) w ≡ Some bank)
     some_bank w below = item_at (growing_in old.side now) w (omega (arith, below, total.now_many))
 
     -- each mark that was seen is one of the worker's
-    lines_seen : AreSeen marks (logs_marks mid)
-    lines_seen = logs_seen marks mid total.mid_many (λ w log at.
-        let below = below_8 mid w log at total.mid_many in
-        let last = item_at logs w (omega (arith, below, total.new_many)) in
-        let bank = some_bank w below in
-        let all = leaves_at w last.0 bank.0 last.1 bank.1 in
-        subst (λ (x : LogState). Contains (marks w) x.mark) (same_Some all.1 log (sym all.4 ∙ at)) all.6)
+    lines_seen : (seen : List Mark) → AreShown shown seen → AreSeen marks seen
+    lines_seen seen are_shown = record {
+      workers = are_shown.workers;
+      each = λ w m at.
+          let below : w < 8 = omega (arith, within_of seen w m at, are_shown.workers) in
+          let log = item_at logs w (omega (arith, below, total.new_many)) in
+          let bank = some_bank w below in
+          let stood = are_shown.each w m at in
+          let left = leaves_at w log.0 bank.0 log.1 bank.1 in
+          let is = among_of (IsShownSince clock image_at (durable w) (clock left.0) bank.0 (marks w)) (shown w) stood.0
+          left.1.since stood.1 in
+          subst (Contains (marks w)) stood.2 is.among;
+    }
 
     ends_seen : AreSeen marks (logs_marks logs)
     ends_seen = logs_seen marks logs total.new_many (λ w log at.
         let bank = some_bank w (below_8 logs w log at total.new_many) in
-        (leaves_at w log bank.0 at bank.1).7)
+        (leaves_at w log bank.0 at bank.1).2)
 
-    had : (at_clock : ℕ) (seen : List Mark) → SeenIn ran.printed.begin.epoch (epoch_joined ran) mid logs at_clock seen
+    had : (at_clock : ℕ) (seen : List Mark) → SeenIn ran.printed.begin.epoch (epoch_joined ran) shown logs at_clock seen
         → (ran.printed.begin.epoch ≤ at_clock) × (at_clock ≤ epoch_joined ran) × AreSeen marks seen
     had at_clock seen is = (
       is.0,
       is.1,
       elim is.2 [
-        | inl lines_are ↦ subst (AreSeen marks) (sym lines_are) lines_seen
+        | inl are_shown ↦ lines_seen seen are_shown
         | inr logs_are ↦ subst (AreSeen marks) (sym logs_are) ends_seen
       ],
     )
 
     by : AreSaved (IsSavedBy ran.printed.begin.epoch (epoch_joined ran) marks) (beside_of old) ran.printed.answers (stored ++ option_to_list failed)
-    by = saved_by_had ran.printed.begin.epoch (epoch_joined ran) marks (SeenIn ran.printed.begin.epoch (epoch_joined ran) mid logs) (beside_of old)
+    by = saved_by_had ran.printed.begin.epoch (epoch_joined ran) marks (SeenIn ran.printed.begin.epoch
+        (epoch_joined ran) shown logs) (beside_of old)
         had ran.printed.answers (stored ++ option_to_list failed) saves
 
     -- its marks say what they count
@@ -247,13 +255,13 @@ module _ {D : Type 0} {tells : D → Option (List ℕ)} {clock : D → ℕ} {ima
     says w m below has =
         let log = item_at logs w (omega (arith, below, total.new_many)) in
         let bank = some_bank w below in
-        marks_in (commits w ++ logged w) (durable w) (marks w) m (leaves_at w log.0 bank.0 log.1 bank.1).5.ran.had has
+        marks_in (commits w ++ logged w) (durable w) (marks w) m (leaves_at w log.0 bank.0 log.1 bank.1).1.ran.had has
 
     grown : (w : ℕ) → w < 8 → length (was w) ≤ length (durable w)
     grown w below =
         let log = item_at logs w (omega (arith, below, total.new_many)) in
         let bank = some_bank w below in
-        front_length (was w) (durable w) (leaves_at w log.0 bank.0 log.1 bank.1).5.ran.grows.more
+        front_length (was w) (durable w) (leaves_at w log.0 bank.0 log.1 bank.1).1.ran.grows.more
 
     -- a closed log file as it was
     closed_was : (w : ℕ) → w < 8 → (n : ℕ) × (bank : D) × (slice_get old.counted w ≡ Some n)
@@ -329,7 +337,7 @@ module _ {D : Type 0} {tells : D → Option (List ℕ)} {clock : D → ℕ} {ima
         → AreLogs tells clock image_at (since_swap b (λ w. commits w ++ logged w)) (since_swap b durable) new now
     logs_by false is w log bank at there =
         let bank_there = grows_now (growing_number new.side w) w bank (ap (λ s. growing_number s w) (side_is false is)) there in
-        log_is (leaves_at w log bank (ap (λ l. slice_get l w) (sym (logs_are false is)) ∙ at) bank_there).5.ran
+        log_is (leaves_at w log bank (ap (λ l. slice_get l w) (sym (logs_are false is)) ∙ at) bank_there).1.ran
     logs_by true is w log bank at there =
         let l = map_at reset_log logs w log (ap (λ l. slice_get l w) (sym (logs_are true is)) ∙ at) in
         let below = below_8 logs w l.0 l.1 total.new_many in
@@ -373,7 +381,7 @@ module _ {D : Type 0} {tells : D → Option (List ℕ)} {clock : D → ℕ} {ima
         let bank_there = grows_now (closed_number new.side w) w bank
         (ap (λ s. closed_number s w) (side_is true is) ∙ other_closed old.side w) there in
         let leaves = leaves_at w log.0 bank log.1 bank_there in
-        let ran_so = leaves.5.ran in
+        let ran_so = leaves.1.ran in
         let rest = rests is w log.0 log.1 in
         record {
           lines = ran_so.lines ∙ ap (λ l. durable w ++ l) rest.flushed ∙ append-nil (durable w);
@@ -391,7 +399,7 @@ module _ {D : Type 0} {tells : D → Option (List ℕ)} {clock : D → ℕ} {ima
         let log = map_at (λ (l : LogState). l.mark) logs w length_at.0 length_at.1 in
         let bank = item_at (growing_in old.side now) w
         (omega (arith, below_8 logs w log.0 log.1 total.new_many, total.now_many)) in
-        let ran_so = (leaves_at w log.0 bank.0 log.1 bank.1).5.ran in
+        let ran_so = (leaves_at w log.0 bank.0 log.1 bank.1).1.ran in
         let rest = rests is w log.0 log.1 in
         sym length_at.2 ∙ ap (λ (m : Mark). m.length) (sym log.2) ∙ rest.marked ∙ sym ran_so.journal_of.durable.size
         ∙ ap length (sym (ran_so.lines ∙ ap (λ l. durable w ++ l) rest.flushed ∙ append-nil (durable w)))
@@ -401,18 +409,20 @@ module _ {D : Type 0} {tells : D → Option (List ℕ)} {clock : D → ℕ} {ima
     logs_ran = record {
       durable = durable;
       marks = marks;
+      shown = shown;
       each = λ w log_was log bank_was bank epochs at_was at there now_there epochs_are.
           let below = below_8 old.logs w log_was at_was total.old_many in
-          let begins = item_at start w (omega (arith, below, total.start_many)) in
-          let lines = item_at mid w (omega (arith, below, total.mid_many)) in
-          let one = chosen.1 w below begins.0 log_was lines.0 log bank_was bank begins.1 at_was lines.1 at
+          let one = chosen.1 w below log_was log bank_was bank at_was at
           (sym (growing_at old.side before w) ∙ there) (sym (growing_at old.side now w) ∙ now_there) in
           record {
             ran = one.0.ran;
-            while_run = front_so w begins.0 epochs begins.1 epochs_are (map (λ (m : Mark). m.epoch) (marks w)) one.0.while_run;
+            while_run = shown_so w epochs epochs_are;
+            first = one.0.first;
+            since = one.0.since;
             rise = one.0.rise;
           };
       saved = by;
+      placed = placed;
       counts_here = counts_here;
       counts = λ counts. counts_by counts (swaps ran) refl;
       are_logs = logs_by (swaps ran) refl;
@@ -450,11 +460,8 @@ module _ {D : Type 0} {tells : D → Option (List ℕ)} {clock : D → ℕ} {ima
             (are_failed faults old.side logs before now (is_some failed) others (total.new_many ∙ sym total.before_many)
             (total.new_many ∙ sym total.now_many)
             (λ w log was is at bank_at now_at.
-            let below = below_8 logs w log at total.new_many in
-            let begins = item_at start w (omega (arith, below, total.start_many)) in
-            let old_log = item_at old.logs w (omega (arith, below, total.old_many)) in
-            let lines = item_at mid w (omega (arith, below, total.mid_many)) in
-            (total.each w begins.0 old_log.0 lines.0 log was is begins.1 old_log.1 lines.1 at bank_at now_at).blames)
+            let old_log = item_at old.logs w (omega (arith, below_8 logs w log at total.new_many, total.old_many)) in
+            (total.each w old_log.0 log was is old_log.1 at bank_at now_at).blames)
             rose_others quiet_snaps quiet_closed keeps.rose (λ none. keeps.quiet (none_failed failed none)));
         logs = logs;
         files = files;

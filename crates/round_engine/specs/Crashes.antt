@@ -1,8 +1,9 @@
 -- What a round leaves of the crashes of all devices. Each joint crash of moments since some moments finds a savepoint
 -- that it could find as the round began, or one that was stored in it, with all that it counts; a stop as it returns is
 -- a joint crash, and none is lost.
-use Rattle.std.specs.Prelude.{◌≡◌, ◌<◌, ◌≤◌, ◌+◌, ◌++◌, ℕ, List, Option, Some, is_some, length}
+use Rattle.std.specs.Prelude.{◌≡◌, ◌<◌, ◌≤◌, ◌+◌, ◌++◌, ℕ, List, Option, None, Some, is_some, length}
 use Rattle.std.specs.Prelude.{map, slice_get, take, true}
+use Rattle.std.specs.List.{AllByRecursion}
 use Rattle.lists.specs.Fronts.{IsFront}
 use Rattle.outside.specs.Fronts.{AllBegin}
 use Rattle.log_writer.specs.Vault.{disk_in}
@@ -10,18 +11,23 @@ use Rattle.outside.specs.declared.device.Device.TheVariants.{Bank}
 use Rattle.log_writer.specs.declared.vault.Vault.{Vault}
 use Rattle.serial_model.specs.declared.number.Commit.{Commit}
 use Rattle.wire_form.specs.LogFile.{lines_bytes}
+use Rattle.wire_form.specs.declared.clock.Mark.{Mark}
 use Rattle.log_writer.specs.Points.{point_of, sequence_of}
 use Rattle.log_writer.specs.declared.saved.Saved.{Saved}
 use Rattle.snapshot_store.specs.Store.{bytes_of_pages, StoreState}
 use Rattle.worker_logs.specs.Saves.{CountsOf, closed_number, growing_number}
 use Rattle.worker_logs.specs.Rows.{NeverFall}
-use Rattle.joint_crashes.specs.Images.{Images, epoch_of}
+use Rattle.worker_logs.specs.Shown.{IsShownSince, Stood}
+use Rattle.worker_logs.specs.declared.savepoints.Side.{Side}
+use Rattle.shared_rounds.specs.Shares.{shown_epochs}
+use Rattle.joint_crashes.specs.Causal.{AreSince, Since}
+use Rattle.joint_crashes.specs.Images.{Images, counted_of, epoch_of}
 use Rattle.joint_crashes.specs.JointCrash.{CrashesNow, HasCut, IsJointCrash, IsSince, KeepsCrashes, Moments, Parts}
 use Rattle.joint_crashes.specs.JointCrash.{parts_of}
 use Rattle.joint_crashes.specs.Story.{BankOpen, BankReady, IsTold, StandsFor, Story}
 use Rattle.tx_script.specs.Run.{Ran}
 use Rattle.round_engine.specs.Ends.{comes_to_swap, swaps}
-use Rattle.round_engine.specs.Logs.{AreClosedFiles, AreLogs}
+use Rattle.round_engine.specs.Logs.{AreClosedFiles, AreLogs, IsFirstAt}
 use Rattle.round_engine.specs.Saves.{GoesOnWith}
 use Rattle.round_engine.specs.Standing.{RuntimeState}
 use Rattle.round_engine.specs.Swaps.{behind_swap, since_swap}
@@ -82,6 +88,27 @@ module _ {D : Type 0} (tells : D → Option (List ℕ)) (clock : D → ℕ) (ima
         → IsFront (story.pages k) (bytes_of_pages r.store.pages)
     pub pages_durable : AllBegin (image_at vault.snaps (clock vault.snaps)) (bytes_of_pages r.store.pages)
 
+  -- What a round leaves of the moments of marks that were known. What its saves stored, one after another behind the
+  -- newest savepoint of before, is counted from the moments of the marks on that they saw: of each worker that at the
+  -- place that is told among those that its log showed. Of the growing log files each savepoint counts just what that
+  -- mark does; where no places are told, as of the join's save, it counts from the round's end on. The closed log files
+  -- are counted from the begin on.
+  pub record LeavesSince (story : Story) (from : Moments) (low last count : ℕ) (known : Since) (shown : ℕ → List Stood)
+      (side : Side) (ran : Ran) (before now : Vault D) : Type 0 where
+    pub since : Since
+    pub same : (k n : ℕ) → k ≤ last → since k n ≡ known k n
+    pub stood : AreSince clock image_at story since from low (last + count) (parts_of now)
+    pub marked : (k w place : ℕ) (places : List ℕ) (m : Stood) → k < count
+        → slice_get ran.beside.seen k ≡ Some places → slice_get places w ≡ Some place
+        → slice_get (shown w) place ≡ Some m
+        → (since (last + 1 + k) (growing_number side w) ≡ m.since)
+        × (counted_of (story.point (last + 1 + k)) (growing_number side w) ≡ m.mark.length)
+    pub behind : (k w : ℕ) (bank : D) → slice_get ran.beside.seen k ≡ None
+        → disk_in now (Bank (growing_number side w)) ≡ Some bank
+        → since (last + 1 + k) (growing_number side w) ≡ clock bank
+    pub shut : (k w : ℕ) (bank : D) → disk_in before (Bank (closed_number side w)) ≡ Some bank
+        → since (last + 1 + k) (closed_number side w) ≡ clock bank
+
   -- What a round leaves of that, which logged so many commits more, and began to store these savepoints, one after
   -- another.
   pub record LeavesCrashes (story : Story) (from : Moments) (low : ℕ) (commits more gone : ℕ → List Commit)
@@ -105,6 +132,21 @@ module _ {D : Type 0} (tells : D → Option (List ℕ)) (clock : D → ℕ) (ima
     pub fronts : (k w : ℕ) → sequence_of old.save.newest < k → k ≤ sequence_of old.save.newest + length begun → w < 8
         → IsFront (after.counted k (growing_number old.side w)) (durable w)
         × IsFront (after.counted k (closed_number old.side w)) (closed w)
+    -- The moments of marks go on, whatever was known of them. Others were shown these marks of the workers, of the
+    -- epochs that are told: each is one that its log had, and since its moment every image of the log file begins with
+    -- what it counts.
+    pub marks : ℕ → List Mark
+    pub shown : ℕ → List Stood
+    pub shown_are : (w : ℕ) (epochs : List (Option ℕ)) → slice_get ran.beside.marks w ≡ Some epochs
+        → shown_epochs (shown w) ≡ epochs
+    pub moments : (w : ℕ) (bank_was bank : D) → w < 8
+        → disk_in before (Bank (growing_number old.side w)) ≡ Some bank_was
+        → disk_in now (Bank (growing_number old.side w)) ≡ Some bank → IsFirstAt (clock bank_was) (shown w)
+        × AllByRecursion (IsShownSince clock image_at (durable w) (clock bank_was) bank (marks w)) (shown w)
+    pub since : (known : Since)
+        → AreSince clock image_at story known from low (sequence_of old.save.newest) (parts_of before)
+        → LeavesSince after from low (sequence_of old.save.newest) (length begun) known shown old.side ran before
+        now
     -- From its return on each of them stands for the epoch that was made durable, or for a later one.
     pub covers : (epoch : ℕ) → ran.printed.durable ≡ Some epoch → (at : Moments) (left : Images) → IsSince from at
         → IsJointCrash clock image_at (parts_of now) at left → clock now.save ≤ at.save

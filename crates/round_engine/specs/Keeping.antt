@@ -6,7 +6,6 @@ use Rattle.std.specs.List.{AllByRecursion, Contains, list_any}
 use Rattle.lists.specs.declared.memory.OrMemory.{OrMemory}
 use Rattle.lists.specs.declared.memory.OrMemory.TheVariants as or
 use Rattle.outside.specs.Faults.{Rose}
-use Rattle.log_writer.specs.Vault.{IsWhole}
 use Rattle.outside.specs.declared.device.Device.{Device as TheDevice}
 use Rattle.outside.specs.declared.device.Device.TheVariants as devices
 use Rattle.log_writer.specs.declared.records.Tie.{Tie}
@@ -30,16 +29,19 @@ use Rattle.gleaner.specs.declared.gleaning.Gleaned.TheVariants.{Empty, Snap}
 use Rattle.joint_crashes.specs.Images.{epoch_of}
 use Rattle.tx_script.specs.Run.{AdvancesTo, Ran}
 use Rattle.tx_script.specs.Causes.{AnswersCaused, AreMarksOf, KeeperAt, keeper_after, last_sequence, some_counted}
+use Rattle.tx_script.specs.CausedBeside.{SavesSee}
+use Rattle.tx_script.specs.Seen.{AreAt, AreNoLess}
 use Rattle.tx_script.specs.declared.answer.Answer.{Answer}
 use Rattle.tx_script.specs.declared.answer.Answer.TheVariants as answers
 use Rattle.worker_logs.specs.Logs.{IsJoined, LogGoesOn, LogState}
 use Rattle.worker_logs.specs.Saves.{SavesBy, SavesMarks, growing_number, logs_marks, saved_epoch}
 use Rattle.worker_logs.specs.declared.savepoints.Beside.{Beside}
+use Rattle.worker_logs.specs.declared.savepoints.Side.{Side}
 use Rattle.worker_logs.specs.Rows.{Blames, KeepsMark, NeverFall}
 use Rattle.round_engine.specs.Ends.{epoch_after, first_device, wants_memory, where_true}
 use Rattle.round_engine.specs.Gleans.{Gleans, LeaveGleans, RoundGleans}
 use Rattle.round_engine.specs.RanRound.{KeeperStored}
-use Rattle.round_engine.specs.Saves.{AreSavedIn, AreTied, beside_at_end, HaveEnded, newest_after, saves_told}
+use Rattle.round_engine.specs.Saves.{AreSavedIn, AreTied, beside_at_end, GoesBy, HaveEnded, newest_after, saves_told}
 use Rattle.round_engine.specs.Sides.{closed_in, growing_in, is_odd}
 use Rattle.round_engine.specs.Standing.{AreClosed, beside_of, HasSnapshot, LogsStand, RuntimeState}
 use Rattle.round_engine.specs.declared.report.End.{End}
@@ -89,9 +91,40 @@ answers_end k said = fold keeper_after k said
 abbrev pub MarksOf : RuntimeState → ℕ → ℕ → ℕ → List Mark → Type 0
 MarksOf r first last clock seen = (first ≤ clock) × (clock ≤ last) × (seen ≡ logs_marks r.logs)
 
--- the epoch that would be saved now
-abbrev pub epoch_now : RuntimeState → ℕ
-epoch_now r = saved_epoch r.stands.clock.epoch (map (λ (m : Mark). m.epoch) (logs_marks r.logs))
+-- ---- what saves see
+
+-- one of the marks that saves saw, at an epoch of the clock from the first to the last of these
+abbrev pub SeenAmong : List (List Mark) → ℕ → ℕ → ℕ → List Mark → Type 0
+SeenAmong all first last clock seen = (first ≤ clock) × (clock ≤ last) × Contains all seen
+
+-- the epochs of marks
+abbrev pub epochs_in : List Mark → List (Option ℕ)
+epochs_in marks = map (λ (m : Mark). m.epoch) marks
+
+-- the epoch that is saved by these marks
+abbrev pub epoch_by : ℕ → List Mark → ℕ
+epoch_by clock marks = saved_epoch clock (epochs_in marks)
+
+-- Marks that were seen one after another, from these on: none holds an epoch back that one of the same worker before it
+-- had left.
+abbrev pub GoOn : List Mark → List (List Mark) → Type 0
+GoOn from [] = ⊤
+GoOn from (seen ∷ more) = AreNoLess (epochs_in from) (epochs_in seen) × GoOn seen more
+
+-- the last of them
+abbrev pub last_seen : List Mark → List (List Mark) → List Mark
+last_seen from [] = from
+last_seen from (seen ∷ more) = last_seen seen more
+
+-- what a line sees of the marks that stand as it is run
+abbrev pub seen_by : KeeperLine → List Mark → List (List Mark)
+seen_by asks.Save marks = marks ∷ []
+seen_by line marks = []
+
+-- it isn't run behind a refusal
+abbrev pub seen_unless : Option End → KeeperLine → List Mark → List (List Mark)
+seen_unless (Some end) line marks = []
+seen_unless None line marks = seen_by line marks
 
 -- the last of some epochs, or else the one before them
 abbrev pub last_epoch_of : ℕ → List ℕ → ℕ
@@ -133,9 +166,9 @@ refusal_told None None None said = where_true (list_any wants_memory said) ends.
 
 -- What the causes of the answers rest on, of what was run: the marks, the log files and the pages that were let in at
 -- its begin, what was found by gleans, and the devices that failed.
-pub record RestsOn (r : RuntimeState) (gleans : List (Option ℕ)) (failed : Option Saved) (broken : List TheDevice)
-    (damaged : Option (TheDevice × ℕ)) (ran : Ran) : Type 0 where
-  pub marks : AreMarksOf ran.beside.marks (map (λ (m : Mark). m.epoch) (logs_marks r.logs))
+pub record RestsOn (r : RuntimeState) (seen : List (List Mark)) (gleans : List (Option ℕ)) (failed : Option Saved)
+    (broken : List TheDevice) (damaged : Option (TheDevice × ℕ)) (ran : Ran) : Type 0 where
+  pub marks : AllByRecursion (λ (marks : List Mark). AreMarksOf ran.beside.marks (epochs_in marks)) seen
   pub odd : ran.beside.files.odd ≡ is_odd r.side
   pub closed_at : ran.beside.files.closed_at ≡ r.closed_at
   pub room : ran.beside.room ≡ r.room
@@ -144,11 +177,31 @@ pub record RestsOn (r : RuntimeState) (gleans : List (Option ℕ)) (failed : Opt
   pub store : is_some failed ≡ true → Contains ran.beside.devices devices.Save
   pub device : (device : TheDevice) → Contains broken device → Contains ran.beside.devices device
 
--- What a line of the maintenance thread that is run finds: the stores are up, a newest snapshot stands, and, where the
--- disks tell their bytes, what counts of the log files is durable.
+-- The marks that a save saw, of which so many were run before it in the round: where they stood among those of their
+-- workers is told.
+pub record IsSeenAt (ran : Ran) (index : ℕ) (marks : List Mark) : Type 0 where
+  pub places : List ℕ
+  pub told : slice_get ran.beside.seen index ≡ Some places
+  pub stood : AreAt ran.beside.marks places (epochs_in marks)
+
+-- so it is with those of all saves from there on
+abbrev pub AreSeenFrom : Ran → ℕ → List (List Mark) → Type 0
+AreSeenFrom ran index [] = ⊤
+AreSeenFrom ran index (marks ∷ more) = IsSeenAt ran index marks × AreSeenFrom ran (index + 1) more
+
+-- What was stored went by the marks that were seen, one after another, each by its own; the newest had the one sequence
+-- before, and has the other one behind. Only where the last sequence was met more was seen than stored.
+pub record AreByPlace (side : Side) (seen : List (List Mark)) (begun : List Saved) (was is : ℕ) : Type 0 where
+  pub by : (k : ℕ) (saved : Saved) → slice_get begun k ≡ Some saved
+      → (marks : List Mark) × (slice_get seen k ≡ Some marks) × GoesBy side marks saved
+  pub left : (k : ℕ) (saved : Saved) → slice_get begun k ≡ Some saved → was + k < last_sequence
+  pub all : is < last_sequence → length seen ≡ length begun
+
+-- What a line of the maintenance thread that is run finds: the closed log files are there, the stores are up, a newest
+-- snapshot stands, and, where the disks tell their bytes, what counts of the log files that are there is durable.
 pub record CanKeep {D : Type 0} (tells : D → Option (List ℕ)) (clock : D → ℕ) (image_at : D → ℕ → List ℕ → Type 0)
     (r : RuntimeState) (vault : Vault D) : Type 0 where
-  pub whole : IsWhole vault
+  pub files : length (closed_in r.side vault) ≡ 8
   pub workers : length r.logs ≡ 8
   pub up : r.save.down ≡ None
   pub stored : IsStored tells clock image_at vault.save r.save.newest
@@ -167,27 +220,30 @@ pub record NeedCounted (r : RuntimeState) (said : List Answer) (gleans : List (O
   pub device : (device : TheDevice) → Contains broken device → some_counted r.counted ≡ true
 
 -- The lines of the maintenance thread were run and answered, each with its cause. They touch neither the logs nor the
--- engine but for its epoch and the pages that are published to it.
+-- engine but for its epoch and the pages that are published to it. Each save that was run saw these marks, in their
+-- order.
 pub record RunsKeeper {D : Type 0} (tells : D → Option (List ℕ)) (clock : D → ℕ) (image_at : D → ℕ → List ℕ → Type 0)
-    (faults : D → ℕ) (lines : List KeeperLine) (said : List Answer) (refusal : Option End) (old new : RuntimeState)
-    (before now : Vault D) : Type 0 where
+    (faults : D → ℕ) (seen : List (List Mark)) (lines : List KeeperLine) (said : List Answer) (refusal : Option End)
+    (old new : RuntimeState) (before now : Vault D) : Type 0 where
   pub stored : List Saved
   pub failed : Option Saved
   pub gleans : List (Option ℕ)
   pub broken : List TheDevice
   pub damaged : Option (TheDevice × ℕ)
   pub keeps : KeepsSaves tells clock image_at faults stored failed old new before now
-  pub by_lines : AreSavedIn (IsSavedBySeen (MarksOf old old.stands.clock.epoch new.stands.clock.epoch)) (beside_of old)
-      said stored
-  pub by_failed : AllByRecursion (IsSavedBySeen (MarksOf old old.stands.clock.epoch new.stands.clock.epoch)
+  pub by_lines : AreSavedIn (IsSavedBySeen (SeenAmong seen old.stands.clock.epoch new.stands.clock.epoch))
+      (beside_of old) said stored
+  pub by_failed : AllByRecursion (IsSavedBySeen (SeenAmong seen old.stands.clock.epoch new.stands.clock.epoch)
       (beside_at_end (beside_of old) said)) (option_to_list failed)
+  pub by_place : AreByPlace old.side seen (stored ++ option_to_list failed) (sequence_of old.save.newest)
+      (sequence_of new.save.newest)
   pub gleaned : RoundGleans tells said gleans damaged old new before now
   pub leaves : LeaveGleans tells clock image_at faults said broken old new before now
   pub needs : NeedCounted old said gleans broken damaged
-  pub rise : epoch_of old.save.newest ≤ epoch_now old
+  pub rise : (from : List Mark) → GoOn from seen → epoch_of old.save.newest ≤ epoch_by old.stands.clock.epoch from
       → NeverFall (epoch_of old.save.newest) (map (λ (s : Saved). s.epoch) (stored ++ option_to_list failed))
       × (last_epoch_of (epoch_of old.save.newest) (map (λ (s : Saved). s.epoch) (stored ++ option_to_list failed))
-      ≤ epoch_now new)
+      ≤ epoch_by new.stands.clock.epoch (last_seen from seen))
   pub later : old.stands.clock.epoch ≤ new.stands.clock.epoch
   pub stands : new.stands ≡ record old.stands {
     clock = record old.stands.clock { epoch = new.stands.clock.epoch };
@@ -202,8 +258,10 @@ pub record RunsKeeper {D : Type 0} (tells : D → Option (List ℕ)) (clock : D 
   pub refused : is_some refusal ≡ list_any is_refusal said
   pub refusal_is : refusal ≡ refusal_told failed (first_device broken) damaged said
   pub told : map (λ (s : Saved). s.epoch) stored ≡ saves_told said
-  pub caused : (ran : Ran) → RestsOn old gleans failed broken damaged ran
+  pub caused : (ran : Ran) → RestsOn old seen gleans failed broken damaged ran
       → AnswersCaused ran (keeper_on old false) lines said
+  pub saw : (ran : Ran) (index : ℕ) → AreSeenFrom ran index seen
+      → SavesSee ran index (keeper_on old false) lines said (index + length seen)
   pub above : epoch_of old.save.newest < old.stands.clock.epoch → epoch_of new.save.newest < new.stands.clock.epoch
   pub tie_room : before.ties.room ≤ now.ties.room + length lines
   pub cut_room : now.cuts ≡ before.cuts
@@ -222,11 +280,12 @@ save_answer (Err (Limit sequence)) = answers.Limit
 save_answer (Err Device) = answers.Device
 save_answer (Err (Down count)) = answers.Device
 
--- A save by a line of the maintenance thread: it touches neither the engine nor the logs.
+-- A save by a line of the maintenance thread, by these marks: it touches neither the engine nor the logs.
 pub record StepsSave {D : Type 0} (tells : D → Option (List ℕ)) (clock : D → ℕ) (image_at : D → ℕ → List ℕ → Type 0)
-    (faults : D → ℕ) (answer : Answer) (old new : RuntimeState) (before now : Vault D) : Type 0 where
+    (faults : D → ℕ) (marks : List Mark) (answer : Answer) (old new : RuntimeState) (before now : Vault D)
+    : Type 0 where
   pub result : Result ℕ SaveFault
-  pub saves : SavesMarks tells clock image_at faults old.stands.clock.epoch (logs_marks old.logs) (beside_of old)
+  pub saves : SavesMarks tells clock image_at faults old.stands.clock.epoch marks (beside_of old)
       old.save new.save before now result
   pub answer_is : answer ≡ save_answer result
   pub alone : new ≡ record old { save = new.save }
@@ -270,22 +329,32 @@ StepsEpoch _ old new = ⊥
 
 module _ {D : Type 0} (tells : D → Option (List ℕ)) (clock : D → ℕ) (image_at : D → ℕ → List ℕ → Type 0)
     (faults : D → ℕ) where
-  -- A line of the maintenance thread is answered, which refuses the lines behind it or doesn't.
-  abbrev pub StepsLine : KeeperLine → Answer → Option End → RuntimeState → RuntimeState → Vault D → Vault D → Type 0
-  StepsLine asks.Epoch answer refusal old new before now =
+  -- A line of the maintenance thread is answered, which refuses the lines behind it or doesn't. A save goes by these
+  -- marks.
+  abbrev pub StepsLine : List Mark → KeeperLine → Answer → Option End → RuntimeState → RuntimeState → Vault D → Vault D
+      → Type 0
+  StepsLine marks asks.Epoch answer refusal old new before now =
       StepsEpoch answer old new × (now ≡ before) × (refusal ≡ None)
-  StepsLine asks.Save answer refusal old new before now =
-      StepsSave tells clock image_at faults answer old new before now × (refusal ≡ save_refusal answer)
-  StepsLine asks.Glean answer refusal old new before now =
+  StepsLine marks asks.Save answer refusal old new before now =
+      StepsSave tells clock image_at faults marks answer old new before now × (refusal ≡ save_refusal answer)
+  StepsLine marks asks.Glean answer refusal old new before now =
       StepsGlean tells clock image_at faults answer refusal old new before now
-  StepsLine asks.Drop answer refusal old new before now = ⊥
+  StepsLine marks asks.Drop answer refusal old new before now = ⊥
 
   -- Behind a refusal a line isn't run.
-  abbrev pub StepsKeeper : Option End → KeeperLine → Answer → Option End → RuntimeState → RuntimeState → Vault D
-      → Vault D → Type 0
-  StepsKeeper (Some end) line answer refusal old new before now =
+  abbrev pub StepsKeeper : List Mark → Option End → KeeperLine → Answer → Option End → RuntimeState → RuntimeState
+      → Vault D → Vault D → Type 0
+  StepsKeeper marks (Some end) line answer refusal old new before now =
       (answer ≡ answers.Unrun) × (refusal ≡ Some end) × (new ≡ old) × (now ≡ before)
-  StepsKeeper None line answer refusal old new before now = StepsLine line answer refusal old new before now
+  StepsKeeper marks None line answer refusal old new before now =
+      StepsLine marks line answer refusal old new before now
+
+  -- The lines of the maintenance thread were run behind the workers': each save saw the marks of their logs.
+  pub record RunsBehind (lines : List KeeperLine) (said : List Answer) (refusal : Option End) (old new : RuntimeState)
+      (before now : Vault D) : Type 0 where
+    pub seen : List (List Mark)
+    pub sees : AllByRecursion (λ (marks : List Mark). marks ≡ logs_marks old.logs) seen
+    pub runs : RunsKeeper tells clock image_at faults seen lines said refusal old new before now
 
 -- ---- the join
 

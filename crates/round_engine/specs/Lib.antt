@@ -24,3 +24,5 @@ pub mod Unbegun
 pub mod Owners
 pub mod RoundCalls
 pub mod KnownAtFirst
+pub mod SideLines
+pub mod Together

@@ -1,6 +1,6 @@
 -- What the workers' lines are run on, as a standing.
 use Rattle.std.specs.Prelude.{◌≡◌, Bool, true}
-use Rattle.shared_rounds.specs.Lines.{standing}
+pub use Rattle.shared_rounds.specs.Lines.{standing}
 use Rattle.shared_rounds.specs.SharedState.{are_arrays}
 use Rattle.shared_rounds.specs.Standing.{Standing}
 use Rattle.round_engine.specs.declared.engine.LineEngine.{LineEngine}

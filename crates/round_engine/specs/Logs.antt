@@ -1,5 +1,6 @@
 -- What a round leaves of each worker's log and its log files.
-use Rattle.std.specs.Prelude.{◌≡◌, ◌⊎◌, ◌++◌, ℕ, List, flat_map, length, map, option_to_list}
+use Rattle.std.specs.Prelude.{◌≡◌, ◌⊎◌, ◌++◌, ℕ, List, flat_map, length, option_to_list}
+use Rattle.std.specs.List.{AllByRecursion}
 use Rattle.std.specs.Prelude.{Option, Some, slice_get}
 use Rattle.lists.specs.Fronts.{IsFront}
 use Rattle.outside.specs.Fronts.{AllBegin}
@@ -12,16 +13,21 @@ use Rattle.wire_form.specs.declared.clock.Mark.{Mark}
 use Rattle.worker_logs.specs.Logs.{IsLog, LogRan, LogState}
 use Rattle.worker_logs.specs.Saves.{closed_number, growing_number}
 use Rattle.worker_logs.specs.Rows.{NeverFall}
+use Rattle.worker_logs.specs.Shown.{IsShownSince, Stood}
+use Rattle.shared_rounds.specs.Shares.{shown_epochs}
 use Rattle.round_engine.specs.Standing.{RuntimeState}
-pub use Rattle.shared_rounds.specs.Workers.{IsRefusedBy}
+pub use Rattle.shared_rounds.specs.Workers.{IsFirstAt, IsRefusedBy}
 
 module _ {D : Type 0} (tells : D → Option (List ℕ)) (clock : D → ℕ) (image_at : D → ℕ → List ℕ → Type 0) where
   -- A worker's part of a round: it logged so many commits more, its log file grew, and the marks that it had say what
-  -- they count; the first of them, of these epochs, it had while its lines ran, and their epochs never fall.
-  pub record LeavesLog (commits more : List Commit) (was durable : List ℕ) (marks : List Mark)
+  -- they count, and their epochs never fall. Those of them, of these epochs, were shown to others while its lines ran,
+  -- the first one from the begin on, and each other since its own moment.
+  pub record LeavesLog (commits more : List Commit) (was durable : List ℕ) (marks : List Mark) (shown : List Stood)
       (epochs : List (Option ℕ)) (before now : D) (log : LogState) : Type 0 where
     pub ran : LogRan tells clock image_at (commits ++ more) was durable marks before now log
-    pub while_run : IsFront epochs (map (λ (m : Mark). m.epoch) marks)
+    pub while_run : shown_epochs shown ≡ epochs
+    pub first : IsFirstAt (clock before) shown
+    pub since : AllByRecursion (IsShownSince clock image_at durable (clock before) now marks) shown
     pub rise : NeverFall 0 (flat_map (λ (m : Mark). option_to_list m.epoch) marks)
 
   -- the workers' logs are those of these commits, of which these bytes are durable

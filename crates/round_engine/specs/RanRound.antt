@@ -25,6 +25,7 @@ use Rattle.snapshot_store.specs.Store.{bytes_of_pages, StoreState}
 use Rattle.worker_logs.specs.Logs.{LogState, reset_log}
 use Rattle.worker_logs.specs.Saves.{closed_number, CountsOf, growing_number, logs_marks}
 use Rattle.worker_logs.specs.Rows.{NeverFall}
+use Rattle.worker_logs.specs.Shown.{Stood}
 use Rattle.joint_crashes.specs.JointCrash.{Moments}
 use Rattle.joint_crashes.specs.Rounds.{KeeperRan}
 use Rattle.joint_crashes.specs.Story.{Story, SaveTold, SnapsTold}
@@ -33,6 +34,7 @@ use Rattle.joint_crashes.specs.Images.{counted_of, epoch_of}
 use Rattle.joint_crashes.specs.Marks.{IsAbove}
 use Rattle.tx_script.specs.Run.{LogFailed, LogRefusal, Ran, IsRun}
 use Rattle.tx_script.specs.Causes.{AllCaused, keeper_at_end, last_sequence, log_of, some_counted}
+use Rattle.tx_script.specs.CausedBeside.{CausedBeside}
 use Rattle.tx_script.specs.Conflicts.{AreMet}
 use Rattle.tx_script.specs.Draws.{DrawsAreCounted, HasTree, RunsPlainly}
 use Rattle.tx_script.specs.declared.outcome.Outcome.{Outcome}
@@ -46,7 +48,7 @@ use Rattle.round_engine.specs.Histories.{KeepsHistory}
 use Rattle.round_engine.specs.Logs.{AreClosedFiles, AreLogs, IsRefusedBy, LeavesLog}
 use Rattle.round_engine.specs.LineEngines.{SharesWords}
 use Rattle.round_engine.specs.Saves.{ArePages, AreSaved, beside_at_end, GoesOnWith, IsSavedBy, newest_after}
-use Rattle.round_engine.specs.Saves.{AreTied, HaveEnded, saves_told}
+use Rattle.round_engine.specs.Saves.{AreShownAt, AreTied, GoesBy, HaveEnded, saves_told}
 use Rattle.round_engine.specs.Sides.{closed_numbers, other_side}
 use Rattle.round_engine.specs.Shares.{all_conflicts}
 use Rattle.round_engine.specs.Standing.{beside_of, files_of, RuntimeState, StandsOn}
@@ -87,14 +89,16 @@ pub record Begins (tries : ℕ) (round : Round) (old : RuntimeState) (ran : Ran)
       → AreRoundMarks (lines_of_worker round worker) log.mark.epoch ran.printed.begin.epoch ran.printed.end.epoch epochs
 
 -- What was run of a round on the engine: its commits are a serial run from the old contents to the new, and the logs
--- have what they changed, as log lines; each outcome, answer and refusal has its cause. The conflicts that are told of
--- lines' tries are those that the engine counted.
+-- have what they changed, as log lines; each outcome, answer and refusal has its cause, and so has what the maintenance
+-- thread's saves saw of the workers' marks, beside which it may have run. The conflicts that are told of lines' tries
+-- are those that the engine counted.
 pub record RunsRoundLines (round : Round) (old new : RuntimeState) (ran : Ran) (logged : ℕ → List Commit) : Type 0 where
   pub decls : new.stands.decls ≡ old.stands.decls
   pub slots : new.stands.slots ≡ old.stands.slots
   pub run : (index : ℕ)
       → IsRun old.stands.decls index (round ∷ []) old.stands.state old.stands.clock (ran ∷ []) new.stands.state
   pub caused : AllCaused ran
+  pub beside : CausedBeside ran
   pub conflicts : new.stands.conflicts ≡ old.stands.conflicts + all_conflicts ran.beside.refused
   pub lines_are : (worker : ℕ) → worker < 8 → AllByRecursion (IsLineOf old.stands.decls) (logged worker)
   pub logged_are : (index worker : ℕ) → worker < 8
@@ -134,15 +138,20 @@ module _ {D : Type 0} (tells : D → Option (List ℕ)) (clock : D → ℕ) (ima
       (old new : RuntimeState) (before now : Vault D) : Type 0 where
     pub durable : ℕ → List ℕ
     pub marks : ℕ → List Mark
+    pub shown : ℕ → List Stood
     pub each : (worker : ℕ) (log_was log : LogState) (bank_was bank : D) (epochs : List (Option ℕ))
         → slice_get old.logs worker ≡ Some log_was → slice_get logs worker ≡ Some log
         → disk_in before (Bank (growing_number old.side worker)) ≡ Some bank_was
         → disk_in now (Bank (growing_number old.side worker)) ≡ Some bank
         → slice_get ran.beside.marks worker ≡ Some epochs
         → LeavesLog tells clock image_at (commits worker) (logged worker) (was worker) (durable worker) (marks worker)
-        epochs bank_was bank log
+        (shown worker) epochs bank_was bank log
     pub saved : AreSaved (IsSavedBy ran.printed.begin.epoch (epoch_joined ran) marks) (beside_of old)
         ran.printed.answers (stored ++ option_to_list failed)
+    -- what a save stored went by the marks at the places that it saw
+    pub placed : (k : ℕ) (saved : Saved) (places : List ℕ) → slice_get (stored ++ option_to_list failed) k ≡ Some saved
+        → slice_get ran.beside.seen k ≡ Some places
+        → (seen : List Mark) × AreShownAt shown places seen × GoesBy old.side seen saved
     pub counts_here : CountsOf old.side commits gone was closed old.save.newest
         → CountsOf old.side (λ w. commits w ++ logged w) gone durable closed new.save.newest
     pub counts : CountsOf old.side commits gone was closed old.save.newest

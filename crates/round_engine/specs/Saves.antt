@@ -8,7 +8,9 @@ use Rattle.wire_form.specs.declared.page.Page.{Page}
 use Rattle.wire_form.specs.declared.savepoint.Savepoint.{Savepoint}
 use Rattle.snapshot_store.specs.Store.{bytes_of_pages}
 use Rattle.worker_logs.specs.Saves.{SavesBy}
+use Rattle.worker_logs.specs.Shown.{Stood}
 use Rattle.worker_logs.specs.declared.savepoints.Beside.{Beside}
+use Rattle.worker_logs.specs.declared.savepoints.Side.{Side}
 use Rattle.log_writer.specs.Points.{point_of, sequence_of}
 use Rattle.log_writer.specs.Records.{AddsTies}
 use Rattle.log_writer.specs.declared.saved.Saved.{Saved}
@@ -25,6 +27,20 @@ pub record AreSeen (marks : ℕ → List Mark) (seen : List Mark) : Type 0 where
 abbrev pub IsSavedBy : ℕ → ℕ → (ℕ → List Mark) → Beside → Saved → Type 0
 IsSavedBy first last marks beside saved = (clock : ℕ) × (first ≤ clock) × (clock ≤ last) × (seen : List Mark)
     × AreSeen marks seen × SavesBy clock seen beside saved
+
+-- it is saved by these marks, while the log files of this side grow
+pub record GoesBy (side : Side) (marks : List Mark) (saved : Saved) : Type 0 where
+  pub clock : ℕ
+  pub beside : Beside
+  pub growing : beside.growing ≡ side
+  pub workers : length beside.closed ≡ 8
+  pub saves : SavesBy clock marks beside saved
+
+-- of each worker the mark that stands at this place among those that others were shown of it
+pub record AreShownAt (shown : ℕ → List Stood) (places : List ℕ) (seen : List Mark) : Type 0 where
+  pub workers : length seen ≡ 8
+  pub each : (worker place : ℕ) → slice_get places worker ≡ Some place → (m : Stood)
+      × (slice_get (shown worker) place ≡ Some m) × (slice_get seen worker ≡ Some m.mark)
 
 -- ---- what counts beside the growing log files
 

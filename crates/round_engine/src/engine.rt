@@ -1,5 +1,5 @@
 // What the workers' lines are run on: a map, one line after another, or words that threads share.
-ghost use Rattle.std.specs.Prelude.{◌≡◌, ◌+◌, ◌-◌, ◌<◌, ◌≤◌, ℕ, [], Bool, IfErr, IfOk, IfSome, IsSome, List, None};
+ghost use Rattle.std.specs.Prelude.{◌≡◌, ◌+◌, ◌-◌, ◌<◌, ◌≤◌, ℕ, [], Bool, IfOk, IfSome, IsSome, List, None};
 ghost use Rattle.std.specs.Prelude.{false, true, length};
 ghost use Rattle.std.specs.List.{AllByRecursion};
 ghost use Rattle.serial_model.specs.Decls.{AreDecls};
@@ -8,17 +8,22 @@ ghost use Rattle.wire_form.specs.Pages.{Contents};
 ghost use Rattle.snapshot_store.specs.Content.{words_of};
 ghost use Rattle.recovery_core.specs.NewestSnapshot.{IsNewestSnapshot};
 ghost use Rattle.tx_script.specs.Draws.{HasTree};
+ghost use Rattle.tx_script.specs.Readied.{Readied};
 ghost use Rattle.tx_script.specs.Run.{CanRun};
 ghost use Rattle.worker_logs.specs.Rows.{AreLogsUp};
+ghost use Rattle.worker_logs.specs.Shown.{Stood};
+ghost use Rattle.engine_pages.specs.declared.view.View.{View};
+ghost use Rattle.shared_rounds.specs.First.{AreIdle};
 ghost use Rattle.shared_rounds.specs.Lines.{LinesCome, standing};
+ghost use Rattle.round_engine.specs.Lines.{AreLastOf};
 ghost use Rattle.shared_rounds.specs.Rooms.{IsRoomOf};
 ghost use Rattle.shared_rounds.specs.SharedState.{are_arrays};
 ghost use Rattle.round_engine.specs.Begun.{Begins};
 ghost use Rattle.round_engine.specs.Gleans.{CanPublish};
 ghost use Rattle.round_engine.specs.Histories.{KeepsHistory};
-ghost use Rattle.plain_rounds.specs.InTurn.{RunsInTurn};
 ghost use Rattle.plain_rounds.specs.Plainly.{DrewOnce};
 ghost use Rattle.round_engine.specs.LineEngines.{SharesWords, standing_of};
+ghost use Rattle.round_engine.specs.Together.{MayBegin, RunsTogether};
 ghost use Rattle.shared_rounds.specs.Below.{AreAllTold};
 
 use crate::opening::newest_start;
@@ -26,7 +31,7 @@ use lists::Sequence;
 use outside::Disk;
 use plain_rounds::PlainEngine;
 use serial_model::{Decl, Decls, Memory, Number, State};
-use shared_rounds::{LineGate, Rooms, SharedEngine, WorkersRan, are_arrays, make_rooms};
+use shared_rounds::{Beside, LineGate, Rooms, SharedEngine, WorkersRan, are_arrays, make_rooms};
 use snapshot_store::SnapStore;
 use std::alloc::Global;
 use std::marker::Model;
@@ -161,26 +166,76 @@ impl Engine {
         requires { length round.now.lines ≤ 65536 }
         ensures room { IfOk result (λ rooms. IfSome rooms (IsRoomOf round.now)) }
         ensures made { IfOk result (λ rooms. SharesWords self.now → IsSome rooms) }
+        ensures none { IfOk result (λ rooms. IsSome rooms → SharesWords self.now) }
     {
         match &self.line_engine {
             LineEngine::Plain(engine) => Ok(no_rooms(engine)),
-            LineEngine::Shared(_) => Ok(Some(make_rooms(alloc, round)?)),
+            LineEngine::Shared(engine) => {
+                // Called for what it promises of the contents: they are arrays'.
+                let _ = engine.clock();
+                Ok(Some(make_rooms(alloc, round)?))
+            }
         }
     }
 
-    /// Runs all workers' lines, each of them so often at most, over their logs and log files. In room that was made for
-    /// them they want no memory.
-    pub(crate) fn run_workers<R: Threads + Sync, D: Disk + Send + Drop, G: LineGate + Sync>(
+    /// Runs all workers' lines on the plain map, one after another, over their logs and log files.
+    pub(crate) fn run_plainly<D: Disk + Drop, G: LineGate>(
         &mut self,
-        rt: &R,
         alloc: Global,
         logs: &mut Vec<WorkerLog>,
         growing: &mut Vec<D>,
-        rooms: Option<Rooms<D>>,
+        round: &Round<'_>,
+        gate: &G,
+    ) -> Result<WorkersRan, Memory>
+        requires plain { SharesWords self.old → ⊥ }
+        requires lines { CanRun self.old.decls round.now }
+        requires goes_on { self.old.ended ≡ false }
+        requires logs { length logs.old.items ≡ 8 }
+        requires growing { length growing.old.items ≡ 8 }
+        requires up { AreLogsUp D.tells logs.old.items growing.old.items }
+        requires flushed { AllByRecursion (λ log. log.journal.lines ≡ []) logs.old.items }
+        requires idle { AreIdle round.now logs.old.items }
+        ensures runs { (tries : ℕ) → 1 ≤ tries → (marks : List (List Stood)) × (readied : List (List Readied))
+            × LinesCome D.tells D.clock D.image_at D.faults tries round.now self.old self.new marks readied
+            logs.old.items logs.new.items growing.old.items growing.new.items result
+            × IfOk result (λ ran. AreLastOf marks logs.new.items) }
+        ensures epoch { self.new.clock.epoch ≡ self.old.clock.epoch }
+        ensures pages { self.new.pages ≡ self.old.pages }
+        ensures once { IfOk result (λ ran. DrewOnce self.old self.new ran.outcomes) }
+        ensures calls { IfOk result (λ ran. AreAllTold 0 ran.outcomes ran.ends.items) }
+    {
+        match &mut self.line_engine {
+            LineEngine::Plain(engine) => {
+                plain_rounds::run_workers(alloc, engine, logs, growing, round, gate)
+            }
+            LineEngine::Shared(engine) => {
+                // Called for what it promises of the contents: they are arrays'.
+                let _ = engine.clock();
+                unreachable!()
+            }
+        }
+    }
+
+    /// Runs all workers' lines on words that threads share, each of them so often at most, over their logs and log
+    /// files, and beside them what the maintenance thread has to do. In room that was made for them they want no
+    /// memory.
+    pub(crate) fn run_together<
+        R: Threads + Sync,
+        D: Disk + Send + Drop,
+        G: LineGate + Sync,
+        B: Beside,
+    >(
+        &mut self,
+        rt: &R,
+        logs: &mut Vec<WorkerLog>,
+        growing: &mut Vec<D>,
+        rooms: Rooms<D>,
         round: &Round<'_>,
         tries: u32,
         gate: &G,
-    ) -> Result<WorkersRan, Memory>
+        beside: &mut B,
+    ) -> WorkersRan
+        requires shares { SharesWords self.old }
         requires lines { CanRun self.old.decls round.now }
         requires some_try { 1 ≤ tries }
         requires goes_on { self.old.ended ≡ false }
@@ -188,21 +243,27 @@ impl Engine {
         requires growing { length growing.old.items ≡ 8 }
         requires up { AreLogsUp D.tells logs.old.items growing.old.items }
         requires flushed { AllByRecursion (λ log. log.journal.lines ≡ []) logs.old.items }
-        requires room { IfSome rooms (IsRoomOf round.now) }
-        ensures runs { LinesCome D.tells D.clock D.image_at D.faults tries round.now self.old self.new
-            logs.old.items logs.new.items growing.old.items growing.new.items result }
-        ensures once { IfOk result (λ ran. HasTree self.old.decls → DrewOnce self.old self.new ran.outcomes) }
-        ensures history { IfOk result (λ ran. SharesWords self.old
-            → KeepsHistory round.now ran.outcomes self.old self.new) }
-        ensures enough { IfErr result (λ memory. SharesWords self.old → IsSome rooms → ⊥) }
-        ensures calls { IfOk result (λ ran. AreAllTold 0 ran.outcomes ran.ends.items) }
+        requires idle { AreIdle round.now logs.old.items }
+        requires room { IsRoomOf round.now rooms }
+        requires beside { (v : View) → MayBegin self.old v → B.can beside.old v }
+        ensures runs { RunsTogether D.tells D.clock D.image_at D.faults (B.did beside.old beside.new) tries
+            round.now self.old self.new logs.old.items logs.new.items growing.old.items growing.new.items result }
+        ensures arrays { HasTree self.old.decls → ⊥ }
+        ensures history { KeepsHistory round.now result.outcomes self.old self.new }
+        ensures calls { AreAllTold 0 result.outcomes result.ends.items }
     {
         match &mut self.line_engine {
-            LineEngine::Plain(engine) => run_plain(
-                alloc, engine, logs, growing, rooms, round, gate,
-            ),
+            LineEngine::Plain(engine) => {
+                // Called for what it promises of the contents: words that threads share couldn't have them.
+                let _ = engine.clock();
+                unreachable!()
+            }
             LineEngine::Shared(engine) => {
-                run_shared(rt, alloc, engine, logs, growing, rooms, round, tries, gate)
+                // Called for what it promises of the slots.
+                let _ = engine.clock();
+                shared_rounds::run_workers(
+                    rt, engine, logs, growing, rooms, round, tries, gate, beside,
+                )
             }
         }
     }
@@ -235,64 +296,6 @@ fn no_rooms<D: Disk + Drop>(engine: &PlainEngine) -> Option<Rooms<D>>
     // Called for what it promises of the contents: words that threads share couldn't have them.
     let _ = engine.clock();
     None
-}
-
-// Runs all workers' lines on the plain map, which takes no room that was made for lines on words.
-fn run_plain<D: Disk + Drop, G: LineGate>(
-    alloc: Global,
-    engine: &mut PlainEngine,
-    logs: &mut Vec<WorkerLog>,
-    growing: &mut Vec<D>,
-    rooms: Option<Rooms<D>>,
-    round: &Round<'_>,
-    gate: &G,
-) -> Result<WorkersRan, Memory>
-    requires lines { CanRun engine.old.decls round.now }
-    requires logs { length logs.old.items ≡ 8 }
-    requires growing { length growing.old.items ≡ 8 }
-    requires up { AreLogsUp D.tells logs.old.items growing.old.items }
-    requires flushed { AllByRecursion (λ log. log.journal.lines ≡ []) logs.old.items }
-    ensures { RunsInTurn D.tells D.clock D.image_at D.faults round.now engine.old engine.new
-        logs.old.items logs.new.items growing.old.items growing.new.items result }
-{
-    drop(rooms);
-    plain_rounds::run_workers(alloc, engine, logs, growing, round, gate)
-}
-
-// Runs all workers' lines on words that threads share, in this room, or else in room that is made first.
-fn run_shared<R: Threads + Sync, D: Disk + Send + Drop, G: LineGate + Sync>(
-    rt: &R,
-    alloc: Global,
-    engine: &mut SharedEngine,
-    logs: &mut Vec<WorkerLog>,
-    growing: &mut Vec<D>,
-    rooms: Option<Rooms<D>>,
-    round: &Round<'_>,
-    tries: u32,
-    gate: &G,
-) -> Result<WorkersRan, Memory>
-    requires lines { CanRun engine.old.decls round.now }
-    requires some_try { 1 ≤ tries }
-    requires logs { length logs.old.items ≡ 8 }
-    requires growing { length growing.old.items ≡ 8 }
-    requires up { AreLogsUp D.tells logs.old.items growing.old.items }
-    requires flushed { AllByRecursion (λ log. log.journal.lines ≡ []) logs.old.items }
-    requires room { IfSome rooms (IsRoomOf round.now) }
-    ensures runs { (ended : Bool) → LinesCome D.tells D.clock D.image_at D.faults tries round.now
-        (standing ended engine.old) (standing ended engine.new)
-        logs.old.items logs.new.items growing.old.items growing.new.items result }
-    ensures arrays { IfOk result (λ ran. HasTree engine.old.decls → ⊥) }
-    ensures history { (ended : Bool) → IfOk result (λ ran. KeepsHistory round.now ran.outcomes
-        (standing ended engine.old) (standing ended engine.new)) }
-    ensures enough { IfErr result (λ memory. IsSome rooms → ⊥) }
-    ensures calls { IfOk result (λ ran. AreAllTold 0 ran.outcomes ran.ends.items) }
-{
-    let rooms = match rooms {
-        Some(rooms) => rooms,
-        None => make_rooms(alloc, round)?,
-    };
-    let ran = shared_rounds::run_workers(rt, engine, logs, growing, rooms, round, tries, gate);
-    Ok(ran)
 }
 
 // What runs lines on these storages.

@@ -1,6 +1,5 @@
 // A glean: what the closed log files have becomes the next snapshot.
 ghost use Rattle.std.specs.Prelude.{◌≡◌, ◌≢◌, ◌<◌, ◌≤◌, ◌^◌, ℕ, List, false, is_some, length, true, ◌||◌};
-ghost use Rattle.log_writer.specs.Vault.{IsWhole};
 ghost use Rattle.wire_form.specs.Pages.{Contents};
 ghost use Rattle.snapshot_store.specs.Content.{CatalogueAt, words_of};
 ghost use Rattle.snapshot_store.specs.Store.{HoldsPages};
@@ -97,15 +96,18 @@ fn publish_made(runtime: &mut Runtime, gleaned: &Result<Gleaned, OrMemory<GleanF
     runtime.engine.publish(&runtime.store);
 }
 
-// Whether a snapshot was made.
-fn has_made(gleaned: &Result<Gleaned, OrMemory<GleanFault>>) -> bool
+/// Whether a snapshot was made.
+pub(crate) fn has_made(gleaned: &Result<Gleaned, OrMemory<GleanFault>>) -> bool
     ensures { result ≡ has_made gleaned.now }
 {
     matches!(gleaned, Ok(Gleaned::Snap { .. }))
 }
 
-// What counts of the closed log files behind a glean.
-fn counted_behind(gleaned: &Result<Gleaned, OrMemory<GleanFault>>, counted: [u64; 8]) -> [u64; 8]
+/// What counts of the closed log files behind a glean.
+pub(crate) fn counted_behind(
+    gleaned: &Result<Gleaned, OrMemory<GleanFault>>,
+    counted: [u64; 8],
+) -> [u64; 8]
     ensures { result ≡ counted_after gleaned.now counted }
 {
     match gleaned {
@@ -151,8 +153,8 @@ fn glean_side<R: Threads + Wait + Sync, D: Disk + Send>(
     )
 }
 
-// Gleans the log files of the other side than that which grows.
-fn glean_over<R: Threads + Wait + Sync, D: Disk + Send>(
+/// Gleans the log files of the other side than that which grows.
+pub(crate) fn glean_over<R: Threads + Wait + Sync, D: Disk + Send>(
     rt: &R,
     alloc: Global,
     vault: &mut Vault<D>,
@@ -165,7 +167,7 @@ fn glean_over<R: Threads + Wait + Sync, D: Disk + Send>(
 ) -> Gleaning
     requires can { none_counted closed.now.lengths ≢ true
         → (contents : Contents) × CanGlean (words_of store.old.pages) decls.now newest closed.now contents }
-    requires whole { IsWhole vault.old }
+    requires files { length (closed_in side vault.old) ≡ 8 }
     requires room { room ≤ 65536 }
     requires sound { store.old.sound ≡ true }
     requires holds { HoldsPages D.tells vault.old.snaps store.old.pages }
@@ -231,8 +233,8 @@ fn glean_files<R: Threads + Wait + Sync, D: Disk + Send>(
     gleaned
 }
 
-// The newest snapshot, whose catalogue is the last page.
-fn newest_in(store: &SnapStore) -> Newest
+/// The newest snapshot, whose catalogue is the last page.
+pub(crate) fn newest_in(store: &SnapStore) -> Newest
     requires some { (contents : Contents) × CatalogueAt (words_of store.now.pages) (length store.now.pages) contents }
     ensures page { result.page ≡ length store.now.pages }
     ensures epoch { (contents : Contents)

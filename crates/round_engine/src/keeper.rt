@@ -1,14 +1,15 @@
 // The lines of the maintenance thread in a round.
-ghost use Rattle.std.specs.Prelude.{◌≡◌, ◌≤◌, ◌<◌, ◌+◌, ◌||◌, [], None, length, vec_capacity, ◌++◌, ◌∷◌, ℕ, List};
+ghost use Rattle.std.specs.Prelude.{◌≡◌, ◌≤◌, ◌<◌, ◌+◌, ◌||◌, [], None, false, length, vec_capacity, ◌++◌, ◌∷◌};
+ghost use Rattle.std.specs.Prelude.{ℕ, List};
 ghost use Rattle.tx_script.specs.declared.answer.Answer.{Answer};
 ghost use Rattle.script_grammar.specs.Script.{IsAsked, keeper_lines};
 ghost use Rattle.tx_script.specs.Run.{CanRun};
 ghost use Rattle.shared_rounds.specs.Below.{Before, IsTold, calls_for, calls_in, calls_of};
 ghost use Rattle.worker_logs.specs.Saves.{SavesMarks, logs_marks};
 ghost use Rattle.round_engine.specs.Ends.{save_limited};
-ghost use Rattle.round_engine.specs.Keeping.{CanKeep, RunsKeeper, StepsEpoch, StepsGlean, StepsKeeper, StepsLine};
+ghost use Rattle.round_engine.specs.Keeping.{CanKeep, RunsBehind, StepsEpoch, StepsGlean, StepsKeeper, StepsLine};
 ghost use Rattle.round_engine.specs.Keeping.{StepsSave, glean_answer, glean_refusal, is_limited, refusal_beside};
-ghost use Rattle.round_engine.specs.Keeping.{save_refusal};
+ghost use Rattle.round_engine.specs.Keeping.{save_answer, save_refusal};
 ghost use Rattle.round_engine.specs.RoundCalls.{is_answered};
 ghost use Rattle.round_engine.specs.Standing.{beside_of};
 
@@ -26,7 +27,7 @@ use tx_script::{Answer, KeeperLine, Round};
 use worker_logs::{Beside, save_marks};
 
 /// The maintenance thread, as a gate is told of it.
-const KEEPER: u8 = 255;
+pub(crate) const KEEPER: u8 = 255;
 
 /// What the maintenance thread's lines were refused, and what the gate was told of them.
 #[derive(Clone, Copy)]
@@ -37,6 +38,21 @@ pub(crate) struct KeeperEnd {
     pub(crate) limited: bool,
     /// The calls of the gate.
     pub(crate) calls: GateCalls,
+}
+
+impl KeeperEnd {
+    /// That of no line.
+    pub(crate) fn none() -> Self
+        ensures refusal { result.refusal ≡ None }
+        ensures limited { result.limited ≡ false }
+        ensures calls { calls_in result.calls ≡ [] }
+    {
+        KeeperEnd {
+            refusal: None,
+            limited: false,
+            calls: GateCalls::none(),
+        }
+    }
 }
 
 /// Runs the lines of the maintenance thread, each between two calls of the gate, and adds their answers. Behind a
@@ -55,16 +71,12 @@ pub(crate) fn run_keeper<R: Threads + Wait + Sync, D: Disk + Send, G: LineGate>(
     requires answer_room { length (keeper_lines round.now) ≤ vec_capacity answers.old }
     requires ready { CanKeep D.tells D.clock D.image_at runtime.old vault.old }
     requires tie_room { length (keeper_lines round.now) ≤ vault.old.ties.room }
-    ensures runs { RunsKeeper D.tells D.clock D.image_at D.faults (keeper_lines round.now) answers.new.items
+    ensures runs { RunsBehind D.tells D.clock D.image_at D.faults (keeper_lines round.now) answers.new.items
         result.refusal runtime.old runtime.new vault.old vault.new }
     ensures limited { result.limited ≡ save_limited (keeper_lines round.now) answers.new.items }
     ensures calls { calls_in result.calls ≡ calls_for is_answered 255 0 answers.new.items }
 {
-    let mut end = KeeperEnd {
-        refusal: None,
-        limited: false,
-        calls: GateCalls::none(),
-    };
+    let mut end = KeeperEnd::none();
     // Where there is no room for an answer, no line is the maintenance thread's.
     if answers.capacity() == 0 {
         return end;
@@ -95,8 +107,8 @@ fn answer_line<R: Threads + Wait + Sync, D: Disk + Send, G: LineGate>(
     requires ready { end.old.refusal ≡ None → CanKeep D.tells D.clock D.image_at runtime.old vault.old }
     requires tie_room { 1 ≤ vault.old.ties.room }
     requires calls { end.old.refusal ≡ None → calls_in end.old.calls ≡ calls_of 255 count }
-    ensures steps { StepsKeeper D.tells D.clock D.image_at D.faults end.old.refusal line result end.new.refusal
-        runtime.old runtime.new vault.old vault.new }
+    ensures steps { StepsKeeper D.tells D.clock D.image_at D.faults (logs_marks runtime.old.logs) end.old.refusal
+        line result end.new.refusal runtime.old runtime.new vault.old vault.new }
     ensures limited { end.new.limited ≡ (end.old.limited || is_limited line result) }
     ensures calls { (said : List Answer)
         → IsTold is_answered 255 count (end.old.refusal ≡ None) said (calls_in end.old.calls)
@@ -114,8 +126,8 @@ fn answer_line<R: Threads + Wait + Sync, D: Disk + Send, G: LineGate>(
     answer
 }
 
-// Whether a save met the last sequence.
-fn met_limit(line: KeeperLine, answer: Answer) -> bool
+/// Whether a save met the last sequence.
+pub(crate) fn met_limit(line: KeeperLine, answer: Answer) -> bool
     ensures { result ≡ is_limited line answer }
 {
     match line {
@@ -138,8 +150,8 @@ fn run_line<R: Threads + Wait + Sync, D: Disk + Send>(
     requires begun { (count : ℕ) × (calls_in calls.now ≡ calls_of 255 count ++ Before 255 count ∷ []) }
     requires ready { CanKeep D.tells D.clock D.image_at runtime.old vault.old }
     requires tie_room { 1 ≤ vault.old.ties.room }
-    ensures steps { StepsLine D.tells D.clock D.image_at D.faults line result.0 result.1
-        runtime.old runtime.new vault.old vault.new }
+    ensures steps { StepsLine D.tells D.clock D.image_at D.faults (logs_marks runtime.old.logs) line
+        result.0 result.1 runtime.old runtime.new vault.old vault.new }
 {
     let _ = calls;
     match line {
@@ -166,11 +178,19 @@ fn advance_line(runtime: &mut Runtime) -> Answer
 fn save_line<D: Disk>(runtime: &mut Runtime, vault: &mut Vault<D>) -> (Answer, Option<End>)
     requires ready { CanKeep D.tells D.clock D.image_at runtime.old vault.old }
     requires tie_room { 1 ≤ vault.old.ties.room }
-    ensures steps { StepsSave D.tells D.clock D.image_at D.faults result.0
+    ensures steps { StepsSave D.tells D.clock D.image_at D.faults (logs_marks runtime.old.logs) result.0
         runtime.old runtime.new vault.old vault.new }
     ensures refusal { result.1 ≡ save_refusal result.0 }
 {
-    match save_marked(runtime, vault) {
+    told_of_save(save_marked(runtime, vault))
+}
+
+/// What is told of a save: the answer, and the refusal behind which no line is run.
+pub(crate) fn told_of_save(saved: Result<u32, SaveFault>) -> (Answer, Option<End>)
+    ensures answer { result.0 ≡ save_answer saved }
+    ensures refusal { result.1 ≡ save_refusal result.0 }
+{
+    match saved {
         Ok(epoch) => (Answer::Save { epoch }, None),
         Err(SaveFault::Limit { .. }) => (Answer::Limit, None),
         Err(SaveFault::Device | SaveFault::Down { .. }) => {
@@ -193,8 +213,8 @@ fn glean_line<R: Threads + Wait + Sync, D: Disk + Send>(
     told_of_glean(glean_closed(rt, alloc, runtime, vault))
 }
 
-// What is told of a glean: the answer, and the refusal behind which no line is run.
-fn told_of_glean(gleaning: Gleaning) -> (Answer, Option<End>)
+/// What is told of a glean: the answer, and the refusal behind which no line is run.
+pub(crate) fn told_of_glean(gleaning: Gleaning) -> (Answer, Option<End>)
     ensures answer { result.0 ≡ glean_answer gleaning.answer }
     ensures refusal { result.1 ≡ refusal_beside gleaning.beside (glean_refusal gleaning.answer) }
 {

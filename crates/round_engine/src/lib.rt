@@ -1,13 +1,16 @@
 //! Rounds of a script, run on an engine over the devices of a database.
 //!
 //! Promises, whichever the engine is (`LineEngines`), the plain map, as where a tree is declared, or words that threads
-//! share; that workers overlap on these is shown by a test of the program alone:
+//! share; that workers, and the maintenance thread with them, overlap on these is shown by tests of the program alone:
 //! - [`round`]: one outcome for each line and one answer for each line of the maintenance thread, each with its cause;
 //!   the commits, in order of number, are a serial run from the standing before to the one after, and the logs have
 //!   what they changed; each number was drawn for a commit or for a try that was refused behind its draw; a try in
 //!   conflict at a record met a line of another worker of the round; on words the commits are those of their history;
-//!   the join makes the round's last epoch durable or ends the run, with the first refusal (`rounds`, by `RanRound`). A
-//!   line is left out only where its worker's log refused one earlier in the round (`rounds`, by `LeavesLinesOut`). Of the
+//!   the join makes the round's last epoch durable or ends the run, with the first refusal (`rounds`, by `RanRound`).
+//!   On words a save of the maintenance thread goes by the marks that stood as it loaded them, none before one that an
+//!   earlier save of the round loaded (`beside`, by `CausedBeside`); and each mark that is shown to others has a moment
+//!   of its log file's clock from which on every image of the file has what it counts (`since` of `LeavesLog`). A line
+//!   is left out only where its worker's log refused one earlier in the round (`rounds`, by `LeavesLinesOut`). Of the
 //!   vault, each log file grew by its worker's lines and its marks count what is durable; the savepoints stored are
 //!   those that are told (`rounds`, by `LeavesVault`). After want of memory all is as it was (`IsUnbegun`), as always
 //!   where lines run on words (`unbegun`); or a front of the workers' lines was run on the map, nothing was stored, and
@@ -35,6 +38,7 @@ mod gleans;
 mod idling;
 mod joins;
 mod keeper;
+mod keeper_side;
 mod opening;
 mod owners;
 mod report;

@@ -1,57 +1,72 @@
 // One round over a vault.
-ghost use Rattle.std.specs.Prelude.{◌≡◌, ◌≤◌, ◌<◌, ◌+◌, ℕ, List, [], false, IfErr, IfOk, IfSome, OnOk, is_some};
-ghost use Rattle.std.specs.Prelude.{Bool, IsSome, Some, length, option_map, slice_get, vec_capacity, ◌++◌, ◌∷◌, map};
+ghost use Rattle.std.specs.Prelude.{◌≡◌, ◌≤◌, ◌+◌, ℕ, List, [], false, IfErr, IfOk, IfSome, OnOk, is_some};
+ghost use Rattle.std.specs.Prelude.{Bool, IsSome, None, Some, length, option_map, slice_get, vec_capacity, ◌++◌, ◌∷◌, map};
 ghost use Rattle.std.specs.List.{AllByRecursion, list_any};
+ghost use Rattle.std.specs.Thread.{IsSend, IsSync};
 ghost use Rattle.log_writer.specs.Vault.{IsWhole};
 ghost use Rattle.script_grammar.specs.Script.{keeper_lines};
 ghost use Rattle.log_writer.specs.Points.{sequence_of};
-ghost use Rattle.tx_script.specs.Draws.{HasTree};
+ghost use Rattle.tx_script.specs.Readied.{Readied};
 ghost use Rattle.tx_script.specs.Run.{CanRun, is_limit};
 ghost use Rattle.worker_logs.specs.Logs.{LogState};
 ghost use Rattle.worker_logs.specs.Rows.{AreLogsUp};
+ghost use Rattle.worker_logs.specs.Shown.{Stood};
 ghost use Rattle.round_engine.specs.RanRound.{Rounds};
-ghost use Rattle.round_engine.specs.Ends.{device_place, limit_at, where_true};
-ghost use Rattle.round_engine.specs.Phases.{IsReadyToJoin, JoinsAs, RunsPhases, ended_as, fails_device};
+ghost use Rattle.round_engine.specs.Ends.{device_place, limit_at, save_limited, where_true};
+ghost use Rattle.round_engine.specs.Phases.{IsReadyToJoin, JoinsAs, RunsOrStops, RunsLines, RunsPhases, ended_as};
+ghost use Rattle.round_engine.specs.Phases.{fails_device};
 ghost use Rattle.round_engine.specs.Refusals.{damage_in as damage_of_end, device_in as device_of_end};
 ghost use Rattle.round_engine.specs.Refusals.{device_refused as device_of, end_told, first_failed as failed_from};
 ghost use Rattle.round_engine.specs.Refusals.{first_full as full_of, first_told as told_first, leaves_out};
 ghost use Rattle.round_engine.specs.Refusals.{is_sequence as met_sequence, lines_refused as lines_end};
 ghost use Rattle.round_engine.specs.Refusals.{memory_in as memory_of_end};
 ghost use Rattle.round_engine.specs.Sides.{SameButGrowing, growing_in};
+ghost use Rattle.round_engine.specs.SideLines.{CanGleanOver, CanRunBeside, HasGleanedOver, HasRunBeside, IsLent};
+ghost use Rattle.round_engine.specs.Together.{MayBegin, RunsTogether};
+ghost use Rattle.round_engine.specs.Histories.{KeepsHistory};
+ghost use Rattle.round_engine.specs.declared.keeper.KeeperEnd.{KeeperEnd as TheEnd};
+ghost use Rattle.round_engine.specs.declared.keeper_side.Lent.{Lent as TheLent};
+ghost use Rattle.engine_pages.specs.declared.view.View.{View};
+ghost use Rattle.tx_script.specs.Draws.{HasTree};
 ghost use Rattle.round_engine.specs.Keeping.{CanKeep};
 ghost use Rattle.round_engine.specs.Standing.{ArePassed, StandsOn};
-ghost use Rattle.round_engine.specs.Lines.{LinesCome};
-ghost use Rattle.round_engine.specs.Histories.{KeepsHistory};
+ghost use Rattle.round_engine.specs.Lines.{AreLastOf, LinesCome};
 ghost use Rattle.plain_rounds.specs.Plainly.{DrewOnce};
 ghost use Rattle.round_engine.specs.LineEngines.{SharesWords};
-ghost use Rattle.round_engine.specs.RoundCalls.{calls_at, round_calls};
+ghost use Rattle.round_engine.specs.RoundCalls.{calls_at, is_answered, round_calls};
 ghost use Rattle.round_engine.specs.Unbegun.{IsUnbegun, RoomAlone};
-ghost use Rattle.shared_rounds.specs.Below.{AreAllTold, calls_in};
+ghost use Rattle.shared_rounds.specs.Below.{AreAllTold, calls_for, calls_in};
+ghost use Rattle.shared_rounds.specs.First.{AreIdle};
 ghost use Rattle.shared_rounds.specs.Rooms.{IsRoomOf};
 ghost use Rattle.round_engine.specs.Workers.{idle_if_not};
 ghost use Rattle.round_engine.specs.declared.report.End.TheVariants as ends;
 
+use crate::engine::Engine;
+use crate::gleans::glean_over;
 use crate::idling::idle_without_lines;
 use crate::joins::{join_logs, limit};
 use crate::keeper::{KeeperEnd, run_keeper};
+use crate::keeper_side::{KeeperSide, Lent};
 use crate::owners::owners_of;
 use crate::sides::growing_number;
 use crate::{End, LimitName, Report, Runtime};
 use arrayvec::ArrayVec;
-use log_writer::Vault;
+use gleaner::{Closed, Newest};
+use log_writer::{Save, Vault};
 use outside::{Device, Disk, Gate};
-use serial_model::{Memory, WORKERS};
+use serial_model::{Decl, Memory, WORKERS};
 use shared_rounds::{GateCalls, LineGate, LogEnd, Rooms, WorkersRan};
+use snapshot_store::SnapStore;
 use std::alloc::Global;
 use std::sync::Wait;
 use std::thread::Threads;
 use tx_script::{Answer, Answers, Outcomes, Round, RoundOutcomes};
-use worker_logs::Side;
+use worker_logs::{Side, WorkerLog};
 
-/// Runs the workers' lines, each between the gate's two calls and tried so often at most, then those of the
-/// maintenance thread; then the round is joined: the epoch is advanced, the logs are made durable, a savepoint counts
-/// them, and where nothing of the closed log files counts, these grow from then on. The growing log files are lent to
-/// their workers meanwhile.
+/// Runs the workers' lines, each between the gate's two calls and tried so often at most, and those of the maintenance
+/// thread: beside them on words that threads share, and behind them on the map, as where a tree is declared. Then the
+/// round is joined: the epoch is advanced, the logs are made durable, a savepoint counts them, and where nothing of the
+/// closed log files counts, these grow from then on. The growing log files are lent to their workers meanwhile.
 ///
 /// From the line on at which its log is refused a worker runs none. Then, and where the maintenance thread was
 /// refused by a device, by damage or by want of memory, the join is left out, and the run ends.
@@ -119,7 +134,8 @@ fn idle_logs(runtime: &mut Runtime, busy: &[bool])
 }
 
 // Runs and joins a round, in this room for its lines and its answers, if there is some for the lines. All that is
-// recorded of stores and cuts has its room: behind the workers' lines nothing but a glean wants memory.
+// recorded of stores and cuts has its room: beside lines on words, or behind those on the map, nothing but a glean
+// wants memory.
 fn run_round<R: Threads + Wait + Sync, D: Disk + Send + Drop, G: LineGate + Sync>(
     rt: &R,
     alloc: Global,
@@ -134,24 +150,37 @@ fn run_round<R: Threads + Wait + Sync, D: Disk + Send + Drop, G: LineGate + Sync
     requires lines { CanRun runtime.old.stands.decls round.now }
     requires some_try { 1 ≤ tries }
     requires goes_on { runtime.old.stands.ended ≡ false }
+    requires whole { IsWhole vault.old }
     requires ready { CanKeep D.tells D.clock D.image_at runtime.old vault.old }
     requires logs { AreLogsUp D.tells runtime.old.logs (growing_in runtime.old.side vault.old) }
     requires flushed { AllByRecursion (λ log. log.journal.lines ≡ []) runtime.old.logs }
+    requires idle { AreIdle round.now runtime.old.logs }
     requires passed { ArePassed round.now runtime.old }
     requires room { IfSome rooms (IsRoomOf round.now) }
+    requires shares { SharesWords runtime.old.stands → IsSome rooms }
+    requires apart { IsSome rooms → SharesWords runtime.old.stands }
     requires none { answers.items ≡ [] }
     requires answer_room { length (keeper_lines round.now) ≤ vec_capacity answers }
     requires tie_room { length (keeper_lines round.now) + 1 ≤ vault.old.ties.room }
     requires cut_room { 8 ≤ vault.old.cuts.room }
     ensures phases { RunsPhases D.tells D.clock D.image_at D.faults tries round.now runtime.old runtime.new
         vault.old vault.new result }
-    ensures enough { IfErr result (λ memory. SharesWords runtime.old.stands → IsSome rooms → ⊥) }
+    ensures enough { IfErr result (λ memory. SharesWords runtime.old.stands → ⊥) }
     ensures calls { IfOk result (λ report. map calls_in report.calls.items
         ≡ round_calls 0 report.outcomes report.keeper) }
 {
     let mut answers = answers;
-    let ran = run_lent(rt, alloc, runtime, vault, round, rooms, tries, gate)?;
-    let keeper = run_keeper(rt, alloc, runtime, vault, round, gate, &mut answers);
+    let (ran, keeper) = run_lines(
+        rt,
+        alloc,
+        runtime,
+        vault,
+        round,
+        rooms,
+        &mut answers,
+        tries,
+        gate,
+    )?;
     let refused = LineRefusals::in_lines(runtime, &ran, keeper);
     let (durable, end) = join(runtime, vault, refused);
     let calls = calls_in_round(ran.ends.as_slice(), keeper.calls);
@@ -162,6 +191,215 @@ fn run_round<R: Threads + Wait + Sync, D: Disk + Send + Drop, G: LineGate + Sync
         end,
         calls,
     })
+}
+
+// Runs the workers' lines and those of the maintenance thread: beside each other where room was made, on words that
+// threads share, and else in turn, on the map.
+fn run_lines<R: Threads + Wait + Sync, D: Disk + Send + Drop, G: LineGate + Sync>(
+    rt: &R,
+    alloc: Global,
+    runtime: &mut Runtime,
+    vault: &mut Vault<D>,
+    round: &Round<'_>,
+    rooms: Option<Rooms<D>>,
+    answers: &mut Vec<Answer>,
+    tries: u32,
+    gate: &G,
+) -> Result<(WorkersRan, KeeperEnd), Memory>
+    requires lines { CanRun runtime.old.stands.decls round.now }
+    requires some_try { 1 ≤ tries }
+    requires goes_on { runtime.old.stands.ended ≡ false }
+    requires whole { IsWhole vault.old }
+    requires ready { CanKeep D.tells D.clock D.image_at runtime.old vault.old }
+    requires up { AreLogsUp D.tells runtime.old.logs (growing_in runtime.old.side vault.old) }
+    requires flushed { AllByRecursion (λ log. log.journal.lines ≡ []) runtime.old.logs }
+    requires idle { AreIdle round.now runtime.old.logs }
+    requires passed { ArePassed round.now runtime.old }
+    requires room { IfSome rooms (IsRoomOf round.now) }
+    requires shares { SharesWords runtime.old.stands → IsSome rooms }
+    requires apart { IsSome rooms → SharesWords runtime.old.stands }
+    requires none { answers.old.items ≡ [] }
+    requires answer_room { length (keeper_lines round.now) ≤ vec_capacity answers.old }
+    requires tie_room { length (keeper_lines round.now) ≤ vault.old.ties.room }
+    ensures runs { RunsOrStops D.tells D.clock D.image_at D.faults tries round.now runtime.old runtime.new
+        vault.old vault.new answers.new.items result }
+    ensures enough { IfErr result (λ memory. SharesWords runtime.old.stands → ⊥) }
+    ensures limited { IfOk result (λ ran. ran.1.limited ≡ save_limited (keeper_lines round.now) answers.new.items) }
+    ensures calls { IfOk result (λ ran. AreAllTold 0 ran.0.outcomes ran.0.ends.items
+        × (calls_in ran.1.calls ≡ calls_for is_answered 255 0 answers.new.items)) }
+{
+    match rooms {
+        Some(rooms) => Ok(run_together(
+            rt, alloc, runtime, vault, round, rooms, answers, tries, gate,
+        )),
+        None => run_in_turn(rt, alloc, runtime, vault, round, answers, gate),
+    }
+}
+
+// Runs the workers' lines on words that threads share, over the growing log files, which are lent out of the vault
+// meanwhile; and beside them those of the maintenance thread, which is lent the rest.
+fn run_together<R: Threads + Wait + Sync, D: Disk + Send + Drop, G: LineGate + Sync>(
+    rt: &R,
+    alloc: Global,
+    runtime: &mut Runtime,
+    vault: &mut Vault<D>,
+    round: &Round<'_>,
+    rooms: Rooms<D>,
+    answers: &mut Vec<Answer>,
+    tries: u32,
+    gate: &G,
+) -> (WorkersRan, KeeperEnd)
+    requires shares { SharesWords runtime.old.stands }
+    requires lines { CanRun runtime.old.stands.decls round.now }
+    requires some_try { 1 ≤ tries }
+    requires goes_on { runtime.old.stands.ended ≡ false }
+    requires whole { IsWhole vault.old }
+    requires ready { CanKeep D.tells D.clock D.image_at runtime.old vault.old }
+    requires up { AreLogsUp D.tells runtime.old.logs (growing_in runtime.old.side vault.old) }
+    requires flushed { AllByRecursion (λ log. log.journal.lines ≡ []) runtime.old.logs }
+    requires idle { AreIdle round.now runtime.old.logs }
+    requires room { IsRoomOf round.now rooms }
+    requires none { answers.old.items ≡ [] }
+    requires answer_room { length (keeper_lines round.now) ≤ vec_capacity answers.old }
+    requires tie_room { length (keeper_lines round.now) ≤ vault.old.ties.room }
+    ensures runs { RunsLines D.tells D.clock D.image_at D.faults tries round.now runtime.old runtime.new
+        vault.old vault.new result.0 answers.new.items result.1.refusal }
+    ensures limited { result.1.limited ≡ save_limited (keeper_lines round.now) answers.new.items }
+    ensures calls { AreAllTold 0 result.0.outcomes result.0.ends.items
+        × (calls_in result.1.calls ≡ calls_for is_answered 255 0 answers.new.items) }
+{
+    let mut growing = lend(alloc, runtime.side, vault);
+    let ran = run_apart(
+        rt,
+        alloc,
+        &mut runtime.engine,
+        &mut runtime.logs,
+        &mut runtime.save,
+        &mut runtime.store,
+        &mut runtime.counted,
+        runtime.room,
+        runtime.side,
+        runtime.closed_at,
+        vault,
+        &mut growing,
+        rooms,
+        round,
+        answers,
+        tries,
+        gate,
+    );
+    give_back(runtime.side, vault, growing);
+    ran
+}
+
+// The same over the parts of a runtime, with the growing log files apart from the vault.
+fn run_apart<R: Threads + Wait + Sync, D: Disk + Send + Drop, G: LineGate + Sync>(
+    rt: &R,
+    alloc: Global,
+    engine: &mut Engine,
+    logs: &mut Vec<WorkerLog>,
+    save: &mut Save,
+    store: &mut SnapStore,
+    counted: &mut [u64; 8],
+    room: u32,
+    side: Side,
+    closed_at: u32,
+    vault: &mut Vault<D>,
+    growing: &mut Vec<D>,
+    rooms: Rooms<D>,
+    round: &Round<'_>,
+    answers: &mut Vec<Answer>,
+    tries: u32,
+    gate: &G,
+) -> (WorkersRan, KeeperEnd)
+    requires shares { SharesWords engine.old }
+    requires lines { CanRun engine.old.decls round.now }
+    requires some_try { 1 ≤ tries }
+    requires goes_on { engine.old.ended ≡ false }
+    requires logs { length logs.old.items ≡ 8 }
+    requires growing { length growing.old.items ≡ 8 }
+    requires up { AreLogsUp D.tells logs.old.items growing.old.items }
+    requires flushed { AllByRecursion (λ log. log.journal.lines ≡ []) logs.old.items }
+    requires idle { AreIdle round.now logs.old.items }
+    requires rooms { IsRoomOf round.now rooms }
+    requires beside { (v : View) → MayBegin engine.old v → (lent : TheLent)
+        → IsLent lent save.old store.old counted.old room side closed_at → (end : TheEnd) → end.refusal ≡ None
+        → end.limited ≡ false → calls_in end.calls ≡ []
+        → CanRunBeside D.tells D.clock D.image_at round.now lent vault.old answers.old.items
+        (vec_capacity answers.old) end v }
+    ensures runs { (lent : TheLent) × (left : TheLent)
+        × IsLent lent save.old store.old counted.old room side closed_at
+        × IsLent left save.new store.new counted.new room side closed_at
+        × RunsTogether D.tells D.clock D.image_at D.faults
+        (λ v w. HasRunBeside D.tells D.clock D.image_at D.faults round.now lent left vault.old vault.new
+        answers.new.items result.1 v w) tries round.now engine.old engine.new logs.old.items logs.new.items
+        growing.old.items growing.new.items result.0 }
+    ensures arrays { HasTree engine.old.decls → ⊥ }
+    ensures history { KeepsHistory round.now result.0.outcomes engine.old engine.new }
+    ensures calls { AreAllTold 0 result.0.outcomes result.0.ends.items }
+{
+    let glean = |rt: &R, alloc: Global, vault: &mut Vault<
+        D,
+    >, side: Side, store: &mut SnapStore, decls: &[Decl], newest: Newest, closed: &Closed, room: u32|
+        requires { IsSync R.row × IsSend D.row
+            × CanGleanOver D.tells side decls.now newest closed.now room store.old vault.old }
+        ensures { HasGleanedOver D.tells D.clock D.image_at D.faults side decls.now newest closed.now room
+            store.old store.new vault.old vault.new result.answer result.beside }
+    { glean_over(rt, alloc, vault, side, store, decls, newest, closed, room) };
+    let mut keeper = KeeperSide {
+        rt,
+        alloc,
+        lent: Lent {
+            save,
+            store,
+            counted,
+            room,
+            side,
+            closed_at,
+        },
+        vault,
+        round,
+        gate,
+        answers,
+        glean,
+        end: KeeperEnd::none(),
+    };
+    let ran = engine.run_together(rt, logs, growing, rooms, round, tries, gate, &mut keeper);
+    let end = keeper.end;
+    (ran, end)
+}
+
+// Runs the workers' lines on the plain map, one after another, and then those of the maintenance thread.
+fn run_in_turn<R: Threads + Wait + Sync, D: Disk + Send + Drop, G: LineGate + Sync>(
+    rt: &R,
+    alloc: Global,
+    runtime: &mut Runtime,
+    vault: &mut Vault<D>,
+    round: &Round<'_>,
+    answers: &mut Vec<Answer>,
+    gate: &G,
+) -> Result<(WorkersRan, KeeperEnd), Memory>
+    requires plain { SharesWords runtime.old.stands → ⊥ }
+    requires lines { CanRun runtime.old.stands.decls round.now }
+    requires goes_on { runtime.old.stands.ended ≡ false }
+    requires whole { IsWhole vault.old }
+    requires ready { CanKeep D.tells D.clock D.image_at runtime.old vault.old }
+    requires up { AreLogsUp D.tells runtime.old.logs (growing_in runtime.old.side vault.old) }
+    requires flushed { AllByRecursion (λ log. log.journal.lines ≡ []) runtime.old.logs }
+    requires idle { AreIdle round.now runtime.old.logs }
+    requires passed { ArePassed round.now runtime.old }
+    requires none { answers.old.items ≡ [] }
+    requires answer_room { length (keeper_lines round.now) ≤ vec_capacity answers.old }
+    requires tie_room { length (keeper_lines round.now) ≤ vault.old.ties.room }
+    ensures runs { (tries : ℕ) → 1 ≤ tries → RunsOrStops D.tells D.clock D.image_at D.faults tries round.now
+        runtime.old runtime.new vault.old vault.new answers.new.items result }
+    ensures limited { IfOk result (λ ran. ran.1.limited ≡ save_limited (keeper_lines round.now) answers.new.items) }
+    ensures calls { IfOk result (λ ran. AreAllTold 0 ran.0.outcomes ran.0.ends.items
+        × (calls_in ran.1.calls ≡ calls_for is_answered 255 0 answers.new.items)) }
+{
+    let ran = run_lent(alloc, runtime, vault, round, gate)?;
+    let keeper = run_keeper(rt, alloc, runtime, vault, round, gate, answers);
+    Ok((ran, keeper))
 }
 
 // What the gate was told by each worker, and last by the maintenance thread.
@@ -196,48 +434,38 @@ fn make_room<D: Disk>(
     Ok(answers)
 }
 
-// Runs the workers' lines over the growing log files, which are lent out of the vault meanwhile.
-fn run_lent<R: Threads + Sync, D: Disk + Send + Drop, G: LineGate + Sync>(
-    rt: &R,
+// Runs the workers' lines on the plain map, over the growing log files, which are lent out of the vault meanwhile.
+fn run_lent<D: Disk + Drop, G: LineGate>(
     alloc: Global,
     runtime: &mut Runtime,
     vault: &mut Vault<D>,
     round: &Round<'_>,
-    rooms: Option<Rooms<D>>,
-    tries: u32,
     gate: &G,
 ) -> Result<WorkersRan, Memory>
+    requires plain { SharesWords runtime.old.stands → ⊥ }
     requires lines { CanRun runtime.old.stands.decls round.now }
-    requires some_try { 1 ≤ tries }
     requires goes_on { runtime.old.stands.ended ≡ false }
     requires whole { IsWhole vault.old }
     requires workers { length runtime.old.logs ≡ 8 }
     requires up { AreLogsUp D.tells runtime.old.logs (growing_in runtime.old.side vault.old) }
     requires flushed { AllByRecursion (λ log. log.journal.lines ≡ []) runtime.old.logs }
-    requires room { IfSome rooms (IsRoomOf round.now) }
-    ensures runs { LinesCome D.tells D.clock D.image_at D.faults tries round.now
-        runtime.old.stands runtime.new.stands runtime.old.logs runtime.new.logs
-        (growing_in runtime.old.side vault.old) (growing_in runtime.old.side vault.new) result }
-    ensures once { IfOk result (λ ran. HasTree runtime.old.stands.decls
-        → DrewOnce runtime.old.stands runtime.new.stands ran.outcomes) }
+    requires idle { AreIdle round.now runtime.old.logs }
+    ensures runs { (tries : ℕ) → 1 ≤ tries → (marks : List (List Stood)) × (readied : List (List Readied))
+        × LinesCome D.tells D.clock D.image_at D.faults tries round.now
+        runtime.old.stands runtime.new.stands marks readied runtime.old.logs runtime.new.logs
+        (growing_in runtime.old.side vault.old) (growing_in runtime.old.side vault.new) result
+        × IfOk result (λ ran. AreLastOf marks runtime.new.logs) }
+    ensures epoch { runtime.new.stands.clock.epoch ≡ runtime.old.stands.clock.epoch }
+    ensures pages { runtime.new.stands.pages ≡ runtime.old.stands.pages }
+    ensures once { IfOk result (λ ran. DrewOnce runtime.old.stands runtime.new.stands ran.outcomes) }
     ensures calls { IfOk result (λ ran. AreAllTold 0 ran.outcomes ran.ends.items) }
-    ensures history { IfOk result (λ ran. SharesWords runtime.old.stands
-        → KeepsHistory round.now ran.outcomes runtime.old.stands runtime.new.stands) }
-    ensures enough { IfErr result (λ memory. SharesWords runtime.old.stands → IsSome rooms → ⊥) }
     ensures runtime { runtime.new ≡ record runtime.old { stands = runtime.new.stands; logs = runtime.new.logs } }
     ensures vault { SameButGrowing runtime.old.side vault.old vault.new }
 {
     let mut growing = lend(alloc, runtime.side, vault);
-    let ran = runtime.engine.run_workers(
-        rt,
-        alloc,
-        &mut runtime.logs,
-        &mut growing,
-        rooms,
-        round,
-        tries,
-        gate,
-    );
+    let ran = runtime
+        .engine
+        .run_plainly(alloc, &mut runtime.logs, &mut growing, round, gate);
     give_back(runtime.side, vault, growing);
     ran
 }
@@ -245,6 +473,7 @@ fn run_lent<R: Threads + Sync, D: Disk + Send + Drop, G: LineGate + Sync>(
 // The growing log files, out of the vault.
 fn lend<D: Disk + Drop>(alloc: Global, side: Side, vault: &mut Vault<D>) -> Vec<D>
     ensures growing { result.items ≡ growing_in side vault.old }
+    ensures none { growing_in side vault.new ≡ [] }
     ensures vault { SameButGrowing side vault.old vault.new }
 {
     match side {

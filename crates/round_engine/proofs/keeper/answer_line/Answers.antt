@@ -2,6 +2,7 @@
 use Rattle.std.proofs.Common.{◌≡◌, ◌∙◌, ◌++◌, ◌∷◌, [], None, refl, sym, ap, true≢false}
 use Rattle.std.specs.Prelude.{is_some}
 use Rattle.tx_script.specs.declared.answer.Answer.TheVariants.{Unrun}
+use Rattle.worker_logs.specs.Saves.{logs_marks}
 use Rattle.shared_rounds.specs.Below.{Before, calls_both, calls_in, told_left, told_ran}
 use Rattle.round_engine.proofs.Called.{line_run}
 use Rattle.round_engine.proofs.Places.{nothing_there}
@@ -26,7 +27,8 @@ returns-clause-calls g c said told =
     (sym c.is_some.ensures ∙ c.if-is_some.false) in
     let ran = c.run_line-answer in
     told_ran (ran.result.1 ≡ None) (said ++ ran.result.0 ∷ []) ran.result.0 (calls_in c.leave.new.calls) told none refl
-    (line_run g.D.Disk.tells g.D.Disk.clock g.D.Disk.image_at g.D.Disk.faults c.args.line ran.result.0 ran.result.1
+    (line_run g.D.Disk.tells g.D.Disk.clock g.D.Disk.image_at g.D.Disk.faults
+    (logs_marks c.args.runtime.now.logs) c.args.line ran.result.0 ran.result.1
     c.args.runtime.now ran.new.runtime c.args.vault.now ran.new.vault ran.ensures.steps)
     (calls_both 255 c.args.count (calls_in c.args.end.now.calls) (calls_in c.enter.new.calls)
     (calls_in c.leave.new.calls) c.enter.ensures.noted c.leave.ensures.noted)

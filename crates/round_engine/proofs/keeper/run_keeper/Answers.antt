@@ -9,9 +9,9 @@ use Rattle.tx_script.specs.declared.answer.Answer.{Answer}
 use Rattle.round_engine.specs.Ends.{save_limited}
 use Rattle.round_engine.specs.RoundCalls.{is_answered}
 use Rattle.shared_rounds.specs.Below.{calls_for, calls_in, told_none}
-use Rattle.round_engine.specs.Keeping.{is_limited, RunsKeeper}
+use Rattle.round_engine.specs.Keeping.{is_limited, RunsBehind}
 use Rattle.round_engine.specs.declared.report.End.{End}
-use Rattle.round_engine.proofs.KeeperSteps.{can_keep, keeper_begin, keeper_step, limited_on}
+use Rattle.round_engine.proofs.KeeperSteps.{behind_begin, behind_can, behind_step, limited_on}
 use Rattle.round_engine.proofs.Loops.{asked_there, keeper_at, keeper_not, keepers_fewer}
 use Rattle.round_engine.proofs.keeper.run_keeper.Goals as goal
 use Rattle.round_engine.proofs.keeper.run_keeper.Goals.{in-Some, in_default}
@@ -20,31 +20,32 @@ use Rattle.round_engine.proofs.keeper.run_keeper.Goals.{in-Some, in_default}
 pub returns-then-capacity-eq0-clause-runs : goal.returns-then-capacity-eq0-clause-runs
 returns-then-capacity-eq0-clause-runs g c =
     let none : keeper_lines c.args.round.now ≡ [] = nil_from_length _ (omega (arith, c.requires.answer_room, c.capacity.ensures, c.if-capacity-eq0.true)) in
-    rw (none, c.requires.none) (keeper_begin c.args.runtime.now c.args.vault.now c.requires.ready)
+    rw (none, c.requires.none, c.none-end.ensures.refusal)
+    (behind_begin c.args.runtime.now c.args.vault.now c.requires.ready)
 
 pub returns-then-capacity-eq0-clause-limited : goal.returns-then-capacity-eq0-clause-limited
 returns-then-capacity-eq0-clause-limited g c =
     let none : keeper_lines c.args.round.now ≡ [] = nil_from_length _ (omega (arith, c.requires.answer_room, c.capacity.ensures, c.if-capacity-eq0.true)) in
-    rw none refl
+    rw none c.none-end.ensures.limited
 
 pub returns-then-capacity-eq0-clause-calls : goal.returns-then-capacity-eq0-clause-calls
 returns-then-capacity-eq0-clause-calls g c =
-    c.none.ensures ∙ ap (calls_for is_answered 255 0) (sym c.requires.none)
+    c.none-end.ensures.calls ∙ ap (calls_for is_answered 255 0) (sym c.requires.none)
 
 pub loop-index-init : goal.loop-index-init
 loop-index-init g c = record {
-  runs = subst (λ (a : List Answer). RunsKeeper g.D.Disk.tells g.D.Disk.clock g.D.Disk.image_at g.D.Disk.faults [] a None
-      c.args.runtime.now c.args.runtime.now c.args.vault.now c.args.vault.now) (sym c.requires.none)
-      (keeper_begin c.args.runtime.now c.args.vault.now c.requires.ready);
-  limited = refl;
+  runs = rw (c.none-end.ensures.refusal, c.requires.none)
+      (behind_begin c.args.runtime.now c.args.vault.now c.requires.ready);
+  limited = c.none-end.ensures.limited;
   capacity = refl;
   few = omega arith;
-  called = told_none is_answered 255 _ c.args.answers.now.items (calls_in c.none.result) c.requires.none c.none.ensures;
+  called = told_none is_answered 255 _ c.args.answers.now.items (calls_in c.none-end.result.calls) c.requires.none
+      c.none-end.ensures.calls;
 }
 
 pub answer_line-answer-requires-clause-ready : goal.answer_line-answer-requires-clause-ready
 answer_line-answer-requires-clause-ready g c κs within none =
-    can_keep c.requires.ready (subst (λ (e : Option End). RunsKeeper g.D.Disk.tells g.D.Disk.clock g.D.Disk.image_at
+    behind_can c.requires.ready (subst (λ (e : Option End). RunsBehind g.D.Disk.tells g.D.Disk.clock g.D.Disk.image_at
     g.D.Disk.faults (filter_map keeper_line_of (take c.loop-index.index c.args.round.now.lines)) c.loop-index.answers.items e
     c.args.runtime.now c.loop-index.runtime c.args.vault.now c.loop-index.vault) none c.loop-index.invariant.runs)
 
@@ -53,7 +54,7 @@ answer_line-answer-requires-clause-tie_room g c κs within =
     let inv = c.loop-index.invariant in
     omega (
       arith,
-      inv.runs.tie_room,
+      inv.runs.runs.tie_room,
       c.requires.tie_room,
       keepers_fewer c.args.round.now.lines c.loop-index.index c.in-Some.line c.in-Some.ensures,
     )
@@ -63,7 +64,7 @@ push_reserved-requires g c =
     let inv = c.loop-index.invariant in
     let long : vec_len c.loop-index.answers
     ≡ length (filter_map keeper_line_of (take c.loop-index.index c.args.round.now.lines)) =
-    c.loop-index.answers.ok.0 ∙ inv.runs.count in
+    c.loop-index.answers.ok.0 ∙ inv.runs.runs.count in
     omega (
       arith,
       long,
@@ -79,15 +80,15 @@ loop-index-preserved g c =
     elim c.match-keeper.branch [
       | in-Some w ↦
           let next = w.answer_line-answer in
-          let one = keeper_step c.requires.ready c.loop-index.end.refusal w.in-Some.line next.result next.new.end.refusal
+          let one = behind_step c.requires.ready c.loop-index.end.refusal w.in-Some.line next.result next.new.end.refusal
           inv.runs next.ensures.steps in
           let at = keeper_at c.args.round.now.lines c.loop-index.index w.in-Some.line w.in-Some.ensures in
           rw (w.runtime-is, w.vault-is, w.answers-is, w.end-is, w.count-is, w.push_reserved.ensures.items) (record {
-            runs = subst (λ (ls : List KeeperLine). RunsKeeper g.D.Disk.tells g.D.Disk.clock g.D.Disk.image_at g.D.Disk.faults
+            runs = subst (λ (ls : List KeeperLine). RunsBehind g.D.Disk.tells g.D.Disk.clock g.D.Disk.image_at g.D.Disk.faults
                 ls (c.loop-index.answers.items ++ next.result ∷ []) next.new.end.refusal c.args.runtime.now next.new.runtime
                 c.args.vault.now next.new.vault) (sym at) one;
             limited = next.ensures.limited ∙ ap (λ b. b || is_limited w.in-Some.line next.result) inv.limited
-                ∙ sym (limited_on lines c.loop-index.answers.items w.in-Some.line next.result inv.runs.count)
+                ∙ sym (limited_on lines c.loop-index.answers.items w.in-Some.line next.result inv.runs.runs.count)
                 ∙ ap (λ (ls : List KeeperLine). save_limited ls (c.loop-index.answers.items ++ next.result ∷ [])) (sym at);
             capacity = w.push_reserved.ensures.capacity ∙ inv.capacity;
             few = omega (arith, inv.few);
@@ -96,7 +97,7 @@ loop-index-preserved g c =
       | in_default w ↦
           let not = keeper_not c.args.round.now.lines c.loop-index.index w.in_default.ensures in
           rw (w.runtime-is, w.vault-is, w.answers-is, w.end-is, w.count-is) (record {
-            runs = subst (λ (ls : List KeeperLine). RunsKeeper g.D.Disk.tells g.D.Disk.clock g.D.Disk.image_at g.D.Disk.faults
+            runs = subst (λ (ls : List KeeperLine). RunsBehind g.D.Disk.tells g.D.Disk.clock g.D.Disk.image_at g.D.Disk.faults
                 ls c.loop-index.answers.items c.loop-index.end.refusal c.args.runtime.now c.loop-index.runtime
                 c.args.vault.now c.loop-index.vault) (sym not) inv.runs;
             limited = inv.limited
@@ -113,7 +114,7 @@ returns g c =
     let all = take_all c.loop-index.index c.args.round.now.lines
     (omega (arith, c.loop-index-test.false, c.len-index-end.ensures)) in
     record {
-      runs = subst (λ ls. RunsKeeper g.D.Disk.tells g.D.Disk.clock g.D.Disk.image_at g.D.Disk.faults
+      runs = subst (λ ls. RunsBehind g.D.Disk.tells g.D.Disk.clock g.D.Disk.image_at g.D.Disk.faults
           (filter_map keeper_line_of ls) c.loop-index.answers.items c.loop-index.end.refusal c.args.runtime.now
           c.loop-index.runtime c.args.vault.now c.loop-index.vault) all inv.runs;
       limited = inv.limited ∙ ap (λ ls. save_limited (filter_map keeper_line_of ls) c.loop-index.answers.items) all;

@@ -6,12 +6,12 @@ use Rattle.std.specs.Prelude.{vec_capacity}
 use Rattle.std.specs.List.{filter_map}
 use Rattle.script_grammar.specs.Script.{keeper_line_of}
 use Rattle.round_engine.specs.Ends.{save_limited}
-use Rattle.round_engine.specs.Keeping.{RunsKeeper}
+use Rattle.round_engine.specs.Keeping.{RunsBehind}
 use Rattle.round_engine.proofs.keeper.run_keeper.Given as goal
 
 abbrev pub invariant-loop-index : goal.invariant-loop-index
 invariant-loop-index g l = record {
-  runs : RunsKeeper g.D.Disk.tells g.D.Disk.clock g.D.Disk.image_at g.D.Disk.faults
+  runs : RunsBehind g.D.Disk.tells g.D.Disk.clock g.D.Disk.image_at g.D.Disk.faults
       (filter_map keeper_line_of (take l.index l.round.lines)) l.answers.items l.end.refusal l.fn.runtime l.runtime
       l.fn.vault l.vault;
   limited : l.end.limited ≡ save_limited (filter_map keeper_line_of (take l.index l.round.lines)) l.answers.items;

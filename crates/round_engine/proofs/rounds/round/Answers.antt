@@ -10,7 +10,7 @@ use Rattle.round_engine.specs.Sides.{growing_in}
 use Rattle.round_engine.specs.Standing.{ArePassed, RuntimeState}
 use Rattle.round_engine.proofs.NothingRun.{all_in_room, room_none, some_in_room, stands_in_room}
 use Rattle.round_engine.proofs.RoundStops.{stopped}
-use Rattle.round_engine.proofs.RoundWhole.{start_can, start_flushed, start_passes, start_ups, whole}
+use Rattle.round_engine.proofs.RoundWhole.{start_can, start_flushed, start_idle, start_passes, start_ups, whole}
 use Rattle.round_engine.proofs.WhoseLines.{idled_by}
 use Rattle.round_engine.proofs.rounds.round.Goals as goal
 
@@ -52,6 +52,10 @@ run_round-requires-clause-ready g c κs within =
     (start_can c.args.round.now c.idle_logs.new.runtime.logs stands (c.requires.stands.goes_on c.requires.goes_on)
     (idled.length ∙ c.requires.stands.workers) idle)
 
+pub run_round-requires-clause-whole : goal.run_round-requires-clause-whole
+run_round-requires-clause-whole g c κs within =
+    (stands_in_room c.in_ok-answers.ensures.alone c.requires.stands).whole
+
 pub run_round-requires-clause-logs : goal.run_round-requires-clause-logs
 run_round-requires-clause-logs g c κs within =
     let idled = c.idle_logs.ensures in
@@ -79,6 +83,24 @@ run_round-requires-clause-flushed g c κs within =
     start_flushed c.args.round.now c.idle_logs.new.runtime.logs c.requires.stands (c.requires.stands.goes_on c.requires.goes_on)
     (c.idle_logs.ensures.length ∙ c.requires.stands.workers) idle
 
+pub run_round-requires-clause-idle : goal.run_round-requires-clause-idle
+run_round-requires-clause-idle g c κs within =
+    let idle = idled_by c.args.round.now c.owners_of-owners.result c.args.runtime.now.logs c.idle_logs.new.runtime.logs
+    c.owners_of-owners.ensures.owners c.requires.stands.workers c.idle_logs.ensures.idle in
+    start_idle c.args.round.now c.args.runtime.now.logs c.idle_logs.new.runtime.logs c.requires.stands.workers
+    (c.idle_logs.ensures.length ∙ c.requires.stands.workers) idle
+
+-- room was made just where words that threads share run the lines
+pub run_round-requires-clause-shares : goal.run_round-requires-clause-shares
+run_round-requires-clause-shares g c κs within shares =
+    c.in_ok-rooms.ensures.made (subst SharesWords (sym (ap (λ (r : RuntimeState). r.stands) c.runtime.view_is))
+    (subst (λ (r : RuntimeState). SharesWords r.stands) c.idle_logs.ensures.alone shares))
+
+pub run_round-requires-clause-apart : goal.run_round-requires-clause-apart
+run_round-requires-clause-apart g c κs within some =
+    subst (λ (r : RuntimeState). SharesWords r.stands) (sym c.idle_logs.ensures.alone)
+    (subst SharesWords (ap (λ (r : RuntimeState). r.stands) c.runtime.view_is) (c.in_ok-rooms.ensures.none some))
+
 pub returns-in-Ok-clause-rounds : goal.returns-in-Ok-clause-rounds
 returns-in-Ok-clause-rounds g c =
     let idled = c.idle_logs.ensures in
@@ -105,5 +127,4 @@ returns-in-Err-clause-rounds g c =
 pub returns-in-Err-clause-unbegun : goal.returns-in-Err-clause-unbegun
 returns-in-Err-clause-unbegun g c = λ shares.
     absurd (c.in-Err.ensures.enough
-    (subst (λ (r : RuntimeState). SharesWords r.stands) (sym c.idle_logs.ensures.alone) shares)
-    (c.in_ok-rooms.ensures.made (subst SharesWords (sym (ap (λ (r : RuntimeState). r.stands) c.runtime.view_is)) shares)))
+    (subst (λ (r : RuntimeState). SharesWords r.stands) (sym c.idle_logs.ensures.alone) shares))

@@ -233,7 +233,7 @@ module _ {D : Type 0} (v : Vaults D) (whole : IsWhole v.was)
     behind = rests_behind v (nothing_of bytes ending) (nothing_kept ending same);
     history = nothing_come [] empty;
     caused = record {
-      in_rounds = record { caused = tt; durable = tt; sequences = tt; marks = tt; tried = tt; counted = tt; met = tt; plain = λ tree. tt; slotted = none_slotted (slots_asked command) [] empty };
+      in_rounds = record { caused = tt; beside = tt; durable = tt; sequences = tt; marks = tt; tried = tt; counted = tt; met = tt; plain = λ tree. tt; slotted = none_slotted (slots_asked command) [] empty };
       full = λ found told. tt;
       files = none_over;
     };

@@ -589,7 +589,7 @@ module _ {D : Type 0} (tells : D → Option Bytes) (clock : D → ℕ) (image_at
     state = before.opening.state;
     run = no_run tells clock image_at faults snap slots tries script was before.opening;
     comes = before.comes;
-    caused = record { caused = tt; durable = tt; sequences = tt; marks = tt; tried = tt; counted = tt; met = tt; plain = λ tree. tt; slotted = none_slotted slots script.decls before.opening.state };
+    caused = record { caused = tt; beside = tt; durable = tt; sequences = tt; marks = tt; tried = tt; counted = tt; met = tt; plain = λ tree. tt; slotted = none_slotted slots script.decls before.opening.state };
     full = λ found told. tt;
     history = nothing_come script.decls before.opening.state;
     files = none_over;

@@ -33,6 +33,7 @@ use Rattle.worker_logs.specs.Saves.{CountsOf}
 use Rattle.worker_logs.specs.declared.savepoints.Side.TheVariants.{Even}
 use Rattle.serial_model.specs.declared.decl.Decl.TheVariants.{Tree}
 use Rattle.tx_script.specs.Causes.{AllCaused, keeper_before}
+use Rattle.tx_script.specs.CausedBeside.{CausedBeside}
 use Rattle.tx_script.specs.Draws.{DrawsAreCounted, RunsPlainly}
 use Rattle.tx_script.specs.Run.{IsRun, IsScriptRun, LogFiles, Ran, clock_after, printed_commits, entries_of_round, joined}
 use Rattle.round_engine.specs.Begun.{begun}
@@ -386,6 +387,7 @@ module _ {D : Type 0} (tells : D → Option Bytes) (clock : D → ℕ) (image_at
         run = pushed.0;
         caused = record {
           caused = all_push AllCaused so.rans one.ran so.caused.caused one.lines.caused;
+          beside = all_push CausedBeside so.rans one.ran so.caused.beside one.lines.beside;
           durable = all_push IsDurable so.rans one.ran so.caused.durable
               (record { as_told = one.durable; lasts = λ none. one.lasts (one.reports.end ∙ none) });
           sequences = sequences-push so.opening.sequence so.rans one.ran so.caused.sequences (one.begins.sequence ∙ so.sequence);
@@ -495,7 +497,7 @@ module _ {D : Type 0} (tells : D → Option Bytes) (clock : D → ℕ) (image_at
           same = b.same;
           run = no_run opening;
           begins = begins;
-          caused = record { caused = tt; durable = tt; sequences = tt; marks = tt; tried = tt; counted = tt; met = tt; plain = λ tree. tt; slotted = (settled.decls, b.same, λ arrays. tt) };
+          caused = record { caused = tt; beside = tt; durable = tt; sequences = tt; marks = tt; tried = tt; counted = tt; met = tt; plain = λ tree. tt; slotted = (settled.decls, b.same, λ arrays. tt) };
           went_on = tt;
           clock_is = refl;
           sequence = refl;

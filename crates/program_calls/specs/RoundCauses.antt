@@ -10,6 +10,7 @@ use Rattle.serial_model.specs.declared.number.Commit.{Commit}
 use Rattle.script_grammar.specs.Script.{Round, lines_of_worker}
 use Rattle.tx_script.specs.Run.{LogFull, Ran}
 use Rattle.tx_script.specs.Causes.{AllCaused}
+use Rattle.tx_script.specs.CausedBeside.{CausedBeside}
 use Rattle.tx_script.specs.Conflicts.{AreMet}
 use Rattle.tx_script.specs.Draws.{DrawsAreCounted, HasTree, RunsPlainly}
 use Rattle.wire_form.specs.LogFile.{lines_bytes}
@@ -81,10 +82,12 @@ AllMet (ran ∷ rans) [] = ⊥
 -- causes speak of. Each number of a round was drawn for one of its commits, or for a try that was refused behind its
 -- draw. A try in conflict at a record met a line of another worker of its round, at a key that it touches and that one
 -- may change; of one in conflict at a pointer or a slot nobody is told. A line that found no slot may change some key.
--- Where a tree is declared nobody is in a line's way.
+-- Where a tree is declared nobody is in a line's way. Saves that may run beside the workers name the least of the
+-- clock's epoch less 1 and of the marks that they saw.
 pub record AreRoundsCaused (slots tries : ℕ) (decls : List Decl) (rounds : List Round) (opening : Opening)
     (rans : List Ran) : Type 0 where
   pub caused : AllByRecursion AllCaused rans
+  pub beside : AllByRecursion CausedBeside rans
   pub durable : AllByRecursion IsDurable rans
   pub sequences : SequencesFrom opening.sequence rans
   pub marks : AreMarked rans rounds

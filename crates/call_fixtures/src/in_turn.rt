@@ -6,11 +6,14 @@ use std::sync::atomic::{AtomicU64, Ordering};
 use std::test::Fail;
 use tx_script::{Round, read_script};
 
-/// A gate that lets one line run after another, worker 0's of a round first: then a script has one text. Each line is
-/// waited for some turns at most, as one that isn't run never ends.
+// The number by which the gate is told of the maintenance thread.
+const KEEPER: u8 = 255;
+
+/// A gate that lets one line run after another, worker 0's of a round first and the maintenance thread's last: then a
+/// script has one text. Each line is waited for some turns at most, as one that isn't run never ends.
 #[derive(Drop)]
 pub struct InTurn {
-    // The workers' lines, in the order in which they are to run.
+    // All lines, in the order in which they are to run.
     order: Vec<(u8, u32)>,
     // How many of them are over.
     over: AtomicU64,
@@ -43,7 +46,7 @@ impl InTurn {
     }
 }
 
-// The lines of a round, worker 0's first.
+// The lines of a round, worker 0's first and the maintenance thread's last.
 fn add_lines(order: &mut Vec<(u8, u32)>, round: &Round<'_>) -> Result<(), AllocError> {
     for worker in 0..8 {
         let mut line = 0u32;
@@ -54,14 +57,18 @@ fn add_lines(order: &mut Vec<(u8, u32)>, round: &Round<'_>) -> Result<(), AllocE
             }
         }
     }
+    let mut line = 0u32;
+    for index in 0..round.len() {
+        if round.keeper(index).is_some() {
+            order.push((KEEPER, line))?;
+            line = line.wrapping_add(1);
+        }
+    }
     Ok(())
 }
 
 impl Gate for InTurn {
     fn before(&self, worker: u8, line: u32) {
-        if worker == 255 {
-            return;
-        }
         let place = self.place_of(worker, line);
         for _ in 0..1u64 << 30 {
             if self.over.load(Ordering::SeqCst) >= place {
@@ -71,9 +78,6 @@ impl Gate for InTurn {
     }
 
     fn after(&self, worker: u8, line: u32) {
-        if worker == 255 {
-            return;
-        }
         let place = self.place_of(worker, line);
         self.over.store(place.wrapping_add(1), Ordering::SeqCst);
     }

@@ -11,7 +11,7 @@ run # array 1 4|0 w 1 0 1|join|0 r 1 0| # 0 # 0.0 ok 1:1|durable 1|0.0 ok 2:2 1|
 run # array 1 4|join||join # 0 # durable 1|durable 2|
 run # array 1 4|k epoch|k save| # 0 # k.0 epoch 2|k.1 save 1|durable 2|
 run # k epoch|k epoch|k save| # 0 # k.0 epoch 2|k.1 epoch 3|k.2 save 2|durable 3|
-run # array 1 4|k epoch|0 w 1 0 5|k save|join|0 r 1 0| # 0 # 0.0 ok 1:1|k.0 epoch 2|k.1 save 0|durable 2|0.0 ok 3:2 5|\
+run # array 1 4|0 w 1 0 5|k save|k epoch|join|0 r 1 0| # 0 # 0.0 ok 1:1|k.0 save 0|k.1 epoch 2|durable 2|0.0 ok 3:2 5|\
 durable 3|
 run # array 9 2|3 w 9 1 5|0 r 9 1||3 r 9 1; r 9 0 # 0 # 0.0 ok 1:1 0|3.0 ok 1:2|3.1 ok 1:3 5 0|durable 1|
 run # tree 2|0 w 2 5 50; w 2 1 10; s 2 0 9| # 0 # 0.0 ok 1:1 1=10,5=50|durable 1|

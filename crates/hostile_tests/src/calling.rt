@@ -3,8 +3,9 @@ ghost use Rattle.std.specs.Prelude.{IfOk};
 ghost use Rattle.outside.specs.Disk.{IfTold, Only};
 
 use super::*;
+use call_fixtures::InTurn;
 use log_writer::{Records, Vault};
-use outside::{Disk, FuseDisk, Made, MemDisk, MemSink, MemSource, OpenGate};
+use outside::{Disk, FuseDisk, Made, MemDisk, MemSink, MemSource};
 use program_calls::top;
 use recovery_core::{Recovered, recover};
 use tx_script::write_state;
@@ -182,25 +183,25 @@ fn words(alloc: Global, asked: &str) -> Result<Vec<&str>, AllocError> {
     Ok(words)
 }
 
-// The status of a call over a vault that has all its log files.
+// The status of a call over a vault that has all its log files, one line after another.
 fn ended<R: Threads + Wait + Sync + AllocGlobal, D: Disk + Send + Drop>(
     rt: &R,
     words: &[&str],
     source: &mut MemSource,
     sink: &mut MemSink,
     vault: &mut Vault<D>,
+    turns: &InTurn,
 ) -> Result<u8, Fail>
     requires { IfTold (D.tells vault.old.save) (Only D.clock D.image_at vault.old.save) }
 {
     if !vault.is_whole() {
         return Err(Fail::from("a vault without a log file"));
     }
-    Ok(top(rt, rt.alloc(), words, source, sink, vault, &OpenGate))
+    Ok(top(rt, rt.alloc(), words, source, sink, vault, turns))
 }
 
-// A source of this script, whose call of this number fails.
-fn source_of(alloc: Global, script: &str, failing: u64) -> Result<MemSource, AllocError> {
-    let script = lines(alloc, script)?;
+// A source of these bytes, whose call of this number fails.
+fn source_of(alloc: Global, script: Vec<u8>, failing: u64) -> Result<MemSource, AllocError> {
     Ok(MemSource::new(script, one_number(alloc, failing)?))
 }
 
@@ -211,12 +212,13 @@ fn told<R: Threads + Wait + Sync + AllocGlobal>(
     words: &[&str],
     source: &mut MemSource,
     failing: u64,
+    turns: &InTurn,
 ) -> Result<(u8, Vec<u8>), Fail>
     requires { IfTold (⟦<FuseDisk<MemDisk> as Disk>⟧.tells vault.old.save)
         (Only ⟦<FuseDisk<MemDisk> as Disk>⟧.clock ⟦<FuseDisk<MemDisk> as Disk>⟧.image_at vault.old.save) }
 {
     let mut sink = MemSink::new(rt.alloc(), one_number(rt.alloc(), failing)?);
-    let status = ended(rt, words, source, &mut sink, vault)?;
+    let status = ended(rt, words, source, &mut sink, vault, turns)?;
     Ok((status, sink.bytes().to_vec(rt.alloc())?))
 }
 
@@ -231,9 +233,11 @@ pub(super) fn answer<R: Threads + Wait + Sync + AllocGlobal>(
     requires { IfTold (⟦<FuseDisk<MemDisk> as Disk>⟧.tells vault.old.save)
         (Only ⟦<FuseDisk<MemDisk> as Disk>⟧.clock ⟦<FuseDisk<MemDisk> as Disk>⟧.image_at vault.old.save) }
 {
-    let mut source = source_of(rt.alloc(), asked.1, failing.0)?;
+    let script = lines(rt.alloc(), asked.1)?;
+    let turns = InTurn::of(rt.alloc(), &script)?;
+    let mut source = source_of(rt.alloc(), script, failing.0)?;
     let words = words(rt.alloc(), asked.0)?;
-    told(rt, vault, &words, &mut source, failing.1)
+    told(rt, vault, &words, &mut source, failing.1, &turns)
 }
 
 // The same over what devices hold, where nothing fails.

@@ -43,8 +43,8 @@ array 1 128
 0 w 1 0 1; w 1 32 2; w 1 64 3
 join
 0 w 1 1 4; w 1 33 5
-k epoch
 k save
+k epoch
 k glean
 join
 k glean
@@ -57,8 +57,8 @@ const GLEANED_TOLD: &str = "\
 0.0 ok 1:1
 durable 1
 0.0 ok 2:2
-k.0 epoch 3
-k.1 save 1
+k.0 save 1
+k.1 epoch 3
 k.2 snap 1 new 5
 durable 3
 k.0 snap 3 new 4

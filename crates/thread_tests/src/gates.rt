@@ -62,7 +62,7 @@ fn all_calls() -> u64 {
 // maintenance thread; and each join, also one without a line, makes an epoch durable.
 #[test]
 fn the_gate_stands_round_each_line(rt: HostRuntime) -> Result<(), Fail> {
-    let script = b"array 1 4\n1 r 1 0\nk epoch\n0 w 1 0 5\n1 r 1 1\nk save\n0 r 1 0\njoin\njoin\n";
+    let script = b"array 1 4\n1 r 1 0\nk save\n0 w 1 0 5\n1 r 1 1\nk epoch\n0 r 1 0\njoin\njoin\n";
     let gate = Recording {
         turns: InTurn::of(rt.alloc(), script.as_slice())?,
         calls: AtomicU64::new(0),
@@ -73,6 +73,6 @@ fn the_gate_stands_round_each_line(rt: HostRuntime) -> Result<(), Fail> {
         gate.calls.load(Ordering::SeqCst) == all_calls(),
     )?;
     let told =
-        "0.0 ok 1:1\n0.1 ok 1:2 5\n1.0 ok 1:3 5\n1.1 ok 1:4 0\nk.0 epoch 2\nk.1 save 0\ndurable 2\ndurable 3\n";
+        "0.0 ok 1:1\n0.1 ok 1:2 5\n1.0 ok 1:3 5\n1.1 ok 1:4 0\nk.0 save 0\nk.1 epoch 2\ndurable 2\ndurable 3\n";
     is_answer("a gate", (status, &text), (0, told.as_bytes()))
 }

@@ -1,9 +1,11 @@
-//! Workers' lines on threads: they overlap and are serial, the gate stands round each, and a round's lines are written
-//! before the next one begins.
+//! Workers' lines on threads: they overlap and are serial, the maintenance thread's run beside them, the gate stands
+//! round each, and a round's lines are written before the next one begins.
 //!
 //! All of it is for tests alone: without them the crate is empty.
 #![tactic(auto)]
 
+#[cfg(test)]
+mod beside;
 #[cfg(test)]
 mod gates;
 #[cfg(test)]

@@ -91,7 +91,7 @@ fn by_number<'a, R: AllocGlobal>(
 }
 
 // Checks what is told of a round: by number its commits are what the plain engine gives, and each worker's rise.
-fn check_round<R: AllocGlobal>(
+pub(crate) fn check_round<R: AllocGlobal>(
     rt: &R,
     plain: &mut Plain,
     round: &Round<'_>,
@@ -149,7 +149,7 @@ fn check_serial<R: AllocGlobal>(rt: &R, script: &Script, told: &str) -> Result<P
 }
 
 // What a database is to keep that saved this epoch last: all that the plain engine has.
-fn text_of(alloc: Global, plain: &Plain, epoch: u32) -> Result<Vec<u8>, Fail> {
+pub(crate) fn text_of(alloc: Global, plain: &Plain, epoch: u32) -> Result<Vec<u8>, Fail> {
     let mut sink = MemSink::new(alloc, Vec::new(alloc));
     write_state(&mut sink, epoch, &plain.state, plain.decls.as_slice())?;
     Ok(sink.bytes().to_vec(alloc)?)

@@ -1,0 +1,278 @@
+// The maintenance thread's lines beside the workers'.
+use super::*;
+use crate::threads::{check_round, text_of};
+use outside::Gate;
+use serial_model::Plain;
+use std::sync::atomic::{AtomicU64, Ordering};
+use tx_script::{Round, Script, read_script};
+
+// A call of a gate: whether the line begins, its thread, and its count.
+type Moment = (bool, u8, u32);
+
+const BEGINS: bool = true;
+
+const ENDS: bool = false;
+
+// Holds lines as they begin, each until a call has been made, for some turns at most, and counts those that it held in
+// vain.
+#[derive(Drop)]
+struct Held {
+    // Which line waits for which call.
+    waits: &'static [((u8, u32), Moment)],
+    // A bit for each of these calls that was made.
+    made: AtomicU64,
+    missed: AtomicU64,
+}
+
+impl Held {
+    fn of(waits: &'static [((u8, u32), Moment)]) -> Self {
+        Held {
+            waits,
+            made: AtomicU64::new(0),
+            missed: AtomicU64::new(0),
+        }
+    }
+
+    // Notes a call.
+    fn note(&self, moment: Moment) {
+        let mut bit = 1u64;
+        for (_, awaited) in self.waits {
+            if *awaited == moment {
+                let _before = self.made.fetch_or(bit, Ordering::SeqCst);
+            }
+            bit = bit.wrapping_mul(2);
+        }
+    }
+
+    // Waits until this call was made.
+    fn wait(&self, bit: u64) {
+        for _ in 0..1u64 << 30 {
+            if self.made.load(Ordering::SeqCst) & bit != 0 {
+                return;
+            }
+        }
+        let _before = self.missed.fetch_add(1, Ordering::SeqCst);
+    }
+}
+
+impl Gate for Held {
+    fn before(&self, worker: u8, line: u32) {
+        self.note((BEGINS, worker, line));
+        let mut bit = 1u64;
+        for (held, _) in self.waits {
+            if *held == (worker, line) {
+                self.wait(bit);
+            }
+            bit = bit.wrapping_mul(2);
+        }
+    }
+
+    fn after(&self, worker: u8, line: u32) {
+        self.note((ENDS, worker, line));
+    }
+}
+
+impl Watcher for Held {}
+
+// Runs a script whose lines are held so, and compares its text; none is held in vain.
+fn check_held<R: Threads + Wait + Sync + AllocGlobal>(
+    rt: &R,
+    waits: &'static [((u8, u32), Moment)],
+    script: &str,
+    text: &str,
+) -> Result<(), Fail> {
+    let alloc = rt.alloc();
+    let gate = Held::of(waits);
+    let script = lines(alloc, script)?;
+    let (status, told) = call(rt, "run", &script, 9, 9, &gate)?;
+    is_answer(text, (status, &told), (0, &lines(alloc, text)?))?;
+    is_so(text, gate.missed.load(Ordering::SeqCst) == 0)
+}
+
+// Line 0.0 is held until k.0 begins, and the other way round.
+#[test]
+fn the_maintenance_thread_meets_a_worker(rt: HostRuntime) -> Result<(), Fail> {
+    check_held(
+        &rt,
+        &[((0, 0), (BEGINS, 255, 0)), ((255, 0), (BEGINS, 0, 0))],
+        "array 1 1|0 r 1 0|k save|",
+        "0.0 ok 1:1 0|k.0 save 0|durable 1|",
+    )
+}
+
+// An epoch and a save go by before the first line of a worker, which had looked at the clock: it holds back the epoch
+// that it saw.
+#[test]
+fn a_save_goes_by_a_worker_that_has_not_begun(rt: HostRuntime) -> Result<(), Fail> {
+    check_held(
+        &rt,
+        &[((255, 0), (BEGINS, 0, 0)), ((0, 0), (ENDS, 255, 1))],
+        "array 1 1|0 a 1 0 1|k epoch|k save|",
+        "0.0 ok 2:1|k.0 epoch 2|k.1 save 0|durable 2|",
+    )
+}
+
+// The same of a worker that had no line in the round before: its mark, which was idle, is set before the maintenance
+// thread begins.
+#[test]
+fn a_save_goes_by_a_worker_that_was_idle(rt: HostRuntime) -> Result<(), Fail> {
+    check_held(
+        &rt,
+        &[((255, 0), (BEGINS, 0, 0)), ((0, 0), (ENDS, 255, 1))],
+        "array 1 1|1 a 1 0 1|join|0 a 1 0 1|k epoch|k save|",
+        "1.0 ok 1:1|durable 1|0.0 ok 3:2|k.0 epoch 3|k.1 save 1|durable 3|",
+    )
+}
+
+// A worker that drew in the first epoch looks at the clock before its third line, and the save behind that has what it
+// drew.
+#[test]
+fn a_save_has_what_a_worker_marked_meanwhile(rt: HostRuntime) -> Result<(), Fail> {
+    check_held(
+        &rt,
+        &[
+            ((255, 0), (ENDS, 0, 0)),
+            ((0, 1), (ENDS, 255, 0)),
+            ((255, 1), (BEGINS, 0, 2)),
+        ],
+        "array 1 1|0 a 1 0 1|0 a 1 0 1|0 a 1 0 1|k epoch|k save|",
+        "0.0 ok 1:1|0.1 ok 2:2|0.2 ok 2:3|k.0 epoch 2|k.1 save 1|durable 2|",
+    )
+}
+
+// A worker that is busy with a line of the first epoch holds it back, however far the clock goes on.
+#[test]
+fn a_worker_in_a_line_holds_its_epoch_back(rt: HostRuntime) -> Result<(), Fail> {
+    check_held(
+        &rt,
+        &[((255, 0), (BEGINS, 0, 1)), ((0, 1), (ENDS, 255, 2))],
+        "array 1 1|0 a 1 0 1|0 a 1 0 1|k epoch|k epoch|k save|",
+        "0.0 ok 1:1|0.1 ok 3:2|k.0 epoch 2|k.1 epoch 3|k.2 save 0|durable 3|",
+    )
+}
+
+// The next of some numbers.
+fn next(seed: &mut u64) -> u64 {
+    *seed = seed
+        .wrapping_mul(6_364_136_223_846_793_005)
+        .wrapping_add(1_442_695_040_888_963_407);
+    *seed >> 33
+}
+
+const KEEPER_LINES: [&str; 4] = ["k epoch", "k save", "k glean", "k save"];
+
+// A script of so many rounds of so many lines of eight workers, with lines of the maintenance thread at random places.
+fn mixed(alloc: Global, seed: u64, rounds: u32, count: u32) -> Result<String, AllocError> {
+    let mut seed = seed;
+    let mut script = String::from_str(alloc, "array 1 64\n")?;
+    for round in 0..rounds {
+        if round > 0 {
+            script.push_str("join\n")?;
+        }
+        for _ in 0..count {
+            let pick = next(&mut seed);
+            let line = if pick % 16 == 0 {
+                String::from_str(alloc, KEEPER_LINES[pick as usize / 16 % 4])?
+            } else {
+                let (one, two) = (next(&mut seed) % 64, next(&mut seed) % 64);
+                format!(in alloc; "{} a 1 {one} {}; r 1 {two}", pick % 8, pick % 9)?
+            };
+            script.push_str(line.as_str())?;
+            script.push('\n')?;
+        }
+    }
+    Ok(script)
+}
+
+// Where the clock and the saves stand between two lines of the maintenance thread.
+#[derive(Clone, Copy)]
+struct KeptSoFar {
+    epoch: u32,
+    saved: u32,
+}
+
+// Checks a line of the maintenance thread: the epoch rises by one, and a saved one is before the clock's, and never
+// falls.
+fn check_keeper(line: &str, so_far: &mut KeptSoFar) -> Result<(), Fail> {
+    let mut words = line.split_whitespace();
+    let _place = words.next();
+    let what = words.next().unwrap_or("");
+    let number = words.next().unwrap_or("0").parse::<u32>()?;
+    match what {
+        "epoch" => {
+            is_so(line, number == so_far.epoch.wrapping_add(1))?;
+            so_far.epoch = number;
+        }
+        "save" => {
+            is_so(line, so_far.saved <= number && number < so_far.epoch)?;
+            so_far.saved = number;
+        }
+        "snap" | "none" => {}
+        _ => return Err(Fail::from(line)),
+    }
+    Ok(())
+}
+
+// Checks a round that was told in these lines: its commits by number, and the maintenance thread's answers in order.
+fn check_mixed<R: AllocGlobal>(
+    rt: &R,
+    plain: &mut Plain,
+    round: &Round<'_>,
+    told: &[&str],
+    so_far: &mut KeptSoFar,
+) -> Result<(), Fail> {
+    let mut workers = Vec::new(rt.alloc());
+    for line in told {
+        if line.starts_with("k.") {
+            check_keeper(line, so_far)?;
+        } else {
+            workers.push(*line)?;
+        }
+    }
+    check_round(rt, plain, round, &workers)
+}
+
+// Runs such a script on threads, and checks each round, and what the database keeps.
+fn run_mixed<R: Threads + Wait + Sync + AllocGlobal>(rt: &R, bytes: &[u8]) -> Result<(), Fail> {
+    let alloc = rt.alloc();
+    let Ok(script) = read_script(alloc, bytes) else {
+        return Err(Fail::from("no script"));
+    };
+    let mut vault = fresh_vault(alloc)?;
+    let asked = "run --tries 1000000 --slots 64";
+    let (status, told) = answer_by(rt, &mut vault, asked, bytes, &OpenGate)?;
+    is_so(asked, status == 0)?;
+    let kept = check_all(rt, &script, str::from_utf8(&told)?)?;
+    check_answer(rt, &mut vault, "dump", b"", (0, kept.as_slice()))
+}
+
+// Checks each round, and answers what the database is to keep.
+fn check_all<R: AllocGlobal>(rt: &R, script: &Script, told: &str) -> Result<Vec<u8>, Fail> {
+    let alloc = rt.alloc();
+    let mut plain = Plain::new(alloc, script.decls())?;
+    let mut so_far = KeptSoFar { epoch: 1, saved: 0 };
+    let mut lines = told.lines();
+    for index in 0..script.rounds() {
+        let round = script.round(index);
+        let mut of_round = Vec::new(alloc);
+        for _ in 0..round.len() {
+            of_round.push(lines.next().unwrap_or(""))?;
+        }
+        check_mixed(rt, &mut plain, &round, &of_round, &mut so_far)?;
+        let durable = format!(in alloc; "durable {}", so_far.epoch)?;
+        is_so("durable", lines.next() == Some(durable.as_str()))?;
+        so_far.saved = so_far.epoch;
+        so_far.epoch = so_far.epoch.wrapping_add(1);
+    }
+    text_of(alloc, &plain, so_far.saved)
+}
+
+// Saves, epochs and snapshots at random places among a hundred thousand lines of eight workers.
+#[test]
+fn keeper_lines_run_at_any_time(rt: HostRuntime) -> Result<(), Fail> {
+    for seed in 1..6u64 {
+        let script = mixed(rt.alloc(), seed, 40, 500)?;
+        run_mixed(&rt, script.as_bytes())?;
+    }
+    Ok(())
+}

@@ -18,7 +18,7 @@ KEPT = "array 1 40\n0 w 1 2 7\n0 a 1 0 1\n"
 # What is run, over what the scripts before it left: the words and the script.
 CALLS = [
     ("a run with a snapshot", [], ["run"],
-     "array 1 40\n0 w 1 2 7\n0 a 1 0 1\njoin\nk save\nk glean\nk epoch\n0 a 1 2 1\njoin\n0 r 1 2\n"),
+     "array 1 40\n0 w 1 2 7\n0 a 1 0 1\njoin\nk save\nk glean\n0 a 1 2 1\njoin\nk epoch\njoin\n0 r 1 2\n"),
     ("a run over log entries", [KEPT], ["run"], "array 1 40\n0 a 1 2 1\njoin\n0 r 1 2\n"),
     ("a run over a tree", [], ["run"], "tree 2\n0 w 2 5 1; s 2 0 9\njoin\nk glean\n0 a 2 5 1\n"),
     ("a run in brief", [KEPT], ["run", "--brief"], "array 1 40\n0 a 1 2 1\njoin\nk glean\n"),

@@ -2,11 +2,13 @@
 //!
 //! `failing_devices` has tables of what is told as one call after another fails, `gleans` those of runs with snapshots,
 //! `brief` those of runs in brief; `stops` leaves of each device what was synced, or all that it was told, and recovers
-//! it.
+//! it, and `beside` does so of runs whose saves, epochs and snapshots stand beside running lines.
 //!
 //! All of it is for tests alone: without them the crate is empty.
 #![tactic(auto)]
 
+#[cfg(test)]
+mod beside;
 #[cfg(test)]
 mod brief;
 #[cfg(test)]

@@ -170,7 +170,7 @@ fn stopped_disks(
 }
 
 // A vault of what one holds.
-fn stopped(
+pub(super) fn stopped(
     alloc: Global,
     vault: &Vault<FuseDisk<MemDisk>>,
     first: &Vault<MemDisk>,

@@ -1,5 +1,5 @@
 -- A load of a snapshot page's word names the page below.
-use Rattle.std.proofs.Common.{◌≡◌, inl, inr, ℕ, zero, suc, ◌≤◌, true, List, length, get_or, refl, sym, ap, ◌∙◌, subst, arith}
+use Rattle.std.proofs.Common.{◌≡◌, inl, inr, ℕ, zero, suc, ◌<◌, ◌≤◌, true, List, length, get_or, refl, sym, ap, ◌∙◌, subst, arith}
 use Rattle.atomic_table.specs.Table.{Me, Allows}
 use Rattle.lists.specs.Elements.{in_cases}
 use Rattle.lists.specs.Fronts.{front_length}
@@ -25,6 +25,7 @@ use Rattle.engine_pages.proofs.Turns.{Begins, allows_at}
 use Rattle.dual_pointer.proofs.Names.{array_entry}
 use Rattle.dual_pointer.proofs.SnapWords.{child_named}
 use Rattle.pointer_swings.specs.Children.{CanDescend, HasDescended, descended}
+use Rattle.pointer_swings.proofs.Lower.{child_lower}
 
 -- the page with a number that stands for some keys is there
 named_there : (l : Layout) (words : List ℕ) (views : List View) (s : Shared) (id : ℕ) (v : View) (sp : Span) (n name : ℕ)
@@ -60,6 +61,9 @@ descends laws l slots id me sp number j active same can =
     let child = child_named l.decls s.resident s.table sp number x.name j b.sound.named there can.inner less in
     let name = name_of s.resident.places (Array sp.storage there.size) (place_for (child_span sp j) (get_or (page_words s.resident.pages number) j 0)) in
     let below : IsNamed s.resident.places (child_span sp j) k name = subst (λ n. IsNamed s.resident.places (child_span sp j) n name) (sym word) child in
+    let most : k ≤ length s.resident.pages = named_there l words views s id v (child_span sp j) k name b below in
+    let room : length s.resident.pages ≤ l.resident = b.sound.within in
+    let all : l.resident ≤ 65536 = b.sound.few.2 in
     let one : Lead = record { span = child_span sp j; page = k; name = name } in
     let w = descended sp number j name k v in
     look_stride l words views s id v active b at (λ k. k) w (λ v k w. HasDescended sp number j v k w) refl
@@ -85,4 +89,13 @@ descends laws l slots id me sp number j active same can =
     }
     (rests_all l words views s id v b w
     record { role = refl; ways = refl; took = refl; gone = refl; touched = refl; blamed = refl; locks = refl } refl)
-    record { name = name; is = refl; says = says })
+    record {
+      name = name;
+      is = refl;
+      says = says;
+      few = subst (λ (y : Layout). k ≤ y.resident) (sym same) (omega (arith, most, room));
+      small = omega (arith, most, room, all);
+      below =
+          subst (λ n. n < number) (sym word)
+          (child_lower l.decls s.resident s.table sp number x.name j b.sound.named there can.inner can.some);
+    })

@@ -5,6 +5,7 @@ pub mod Plain
 pub mod Shutting
 pub mod Reopening
 pub mod LettingGo
+pub mod Lower
 pub mod Descending
 pub mod Renewing
 pub mod Locked

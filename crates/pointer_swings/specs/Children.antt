@@ -27,11 +27,14 @@ descended sp number j name n v = record (glanced (snap_at v.layout.slots number 
   leads = record { span = child_span sp j; page = n; name = name } ∷ v.leads;
 }
 
--- its number is what the page says
+-- its number is what the page says, lower than the page's own, and one of a page that is there
 pub record HasDescended (sp : Span) (number j : ℕ) (v : View) (n : ℕ) (w : View) : Type 0 where
   pub name : ℕ
   pub is : w ≡ descended sp number j name n v
   pub says : n ≡ get_or (page_words v.pages number) j 0
+  pub few : n ≤ v.layout.resident
+  pub small : n ≤ 65536
+  pub below : n < number
 
 -- the same of the step
 abbrev pub Descends : Span → ℕ → ℕ → Step (Unit {0}) → View → ℕ → View → Type 0

@@ -1,0 +1,119 @@
+use Rattle.std.proofs.Common.{◌+◌, ◌-◌, ◌*◌, ◌/◌, ◌^◌, arith, sym, subst}
+use Rattle.engine_pages.specs.declared.view.KeptWhy.TheVariants.{Locked}
+use Rattle.engine_pages.specs.Passes.{view}
+use Rattle.engine_pages.specs.Steps.{seen_at}
+use Rattle.page_drops.specs.declared.visits.Held.{Held}
+use Rattle.page_drops.specs.Calls.{HasIn}
+use Rattle.page_drops.proofs.Holds.{keeps_shut, look_first, none_looked, seen_last}
+use Rattle.page_drops.proofs.HoldSteps.{again_other, can_renew_so, holds_renewed, holds_so, keeps_missed, keeps_other, missed_so}
+use Rattle.page_drops.proofs.HoldSteps.{pointer_there_still, still_fresh}
+use Rattle.page_drops.proofs.visits.hold.Goals.{then-page-eq0-via-then-page-eq0, then-page-eq0-via-else-page-eq0+then-from-word}
+use Rattle.page_drops.proofs.visits.hold.Goals as goal
+
+pub keep-locked-requires-clause-last : goal.keep-locked-requires-clause-last
+keep-locked-requires-clause-last c =
+    let v = view c.args.pass.now in
+    seen_last c.args.at c.follow-seen.result Locked (seen_at v.reads c.args.at) v.grip.holds v.ways v
+    (view c.follow-seen.new.pass)
+    (look_first c.args.height c.args.place c.args.span c.args.at c.args.page c.follow-seen.result v
+    (view c.follow-seen.new.pass) c.requires.visit c.follow-seen.ensures.follows)
+
+pub returns-then-seen-ge-SHUT-clause-keeps : goal.returns-then-seen-ge-SHUT-clause-keeps
+returns-then-seen-ge-SHUT-clause-keeps c =
+    let v = view c.args.pass.now in
+    let high = c.if-seen-ge-SHUT.true in
+    keeps_shut c.args.at c.follow-seen.result c.keep-locked.result (seen_at v.reads c.args.at) v
+    (view c.follow-seen.new.pass) (view c.keep-locked.new.pass)
+    (look_first c.args.height c.args.place c.args.span c.args.at c.args.page c.follow-seen.result v
+    (view c.follow-seen.new.pass) c.requires.visit c.follow-seen.ensures.follows)
+    c.keep-locked.ensures.is c.keep-locked.ensures.notes (omega (arith, high))
+
+pub returns-then-seen-lt-SLOT-clause-holds : goal.returns-then-seen-lt-SLOT-clause-holds
+returns-then-seen-lt-SLOT-clause-holds c =
+    let v = view c.args.pass.now in
+    let low = c.if-seen-lt-SLOT.true in
+    none_looked c.args.at c.follow-seen.result (seen_at v.reads c.args.at) v (view c.follow-seen.new.pass)
+    (look_first c.args.height c.args.place c.args.span c.args.at c.args.page c.follow-seen.result v
+    (view c.follow-seen.new.pass) c.requires.visit c.follow-seen.ensures.follows) (omega (arith, low))
+
+pub enter-requires-clause-unheld : goal.enter-requires-clause-unheld
+enter-requires-clause-unheld c =
+    still_fresh c.args.height c.args.place c.args.span c.args.at c.args.page c.follow-seen.result (view c.args.pass.now)
+    (view c.follow-seen.new.pass) c.requires.visit c.follow-seen.ensures.follows
+    c.if-seen-lt-SLOT.false c.if-seen-ge-SHUT.false
+
+pub follow-word-requires-clause-place : goal.follow-word-requires-clause-place
+follow-word-requires-clause-place c =
+    pointer_there_still c.args.height c.args.place c.args.span c.args.at c.args.page c.follow-seen.result
+    (view c.args.pass.now) (view c.follow-seen.new.pass) c.requires.visit c.follow-seen.ensures.follows
+    c.if-seen-lt-SLOT.false c.if-seen-ge-SHUT.false (view c.enter.new.pass) c.enter.ensures.enters
+
+pub keep-turned-requires-clause-last : goal.keep-turned-requires-clause-last
+keep-turned-requires-clause-last c =
+    let l = again_other c.args.height c.args.place c.args.span c.args.at c.args.page c.follow-seen.result
+    (view c.args.pass.now) (view c.follow-seen.new.pass) c.requires.visit c.follow-seen.ensures.follows
+    c.if-seen-lt-SLOT.false c.if-seen-ge-SHUT.false (view c.enter.new.pass) c.enter.ensures.enters c.follow-word.result
+    (view c.follow-word.new.pass) c.follow-word.ensures.follows c.if-word-seen.true in
+    (l.step, l.last)
+
+pub returns-then-word-seen-clause-keeps : goal.returns-then-word-seen-clause-keeps
+returns-then-word-seen-clause-keeps c =
+    keeps_other c.args.height c.args.place c.args.span c.args.at c.args.page c.follow-seen.result
+    (view c.args.pass.now) (view c.follow-seen.new.pass) c.requires.visit c.follow-seen.ensures.follows
+    c.if-seen-lt-SLOT.false c.if-seen-ge-SHUT.false (view c.enter.new.pass) c.enter.ensures.enters c.follow-word.result
+    (view c.follow-word.new.pass) c.follow-word.ensures.follows c.keep-turned.result (view c.keep-turned.new.pass)
+    (view c.leave.new.pass) c.if-word-seen.true c.keep-turned.ensures.is c.keep-turned.ensures.notes
+    c.leave.ensures.leaves
+
+pub returns-then-page-eq0-clause-holds : goal.returns-then-page-eq0-clause-holds
+returns-then-page-eq0-clause-holds c =
+    holds_so c.args.height c.args.place c.args.span c.args.at c.args.page c.follow-seen.result
+    (view c.args.pass.now) (view c.follow-seen.new.pass) c.requires.visit c.follow-seen.ensures.follows
+    c.if-seen-lt-SLOT.false c.if-seen-ge-SHUT.false (view c.enter.new.pass) c.enter.ensures.enters c.follow-word.result
+    (view c.follow-word.new.pass) c.follow-word.ensures.follows c.if-word-seen.false
+    (λ some. elim c.then-page-eq0.branch [
+      | then-page-eq0-via-then-page-eq0 w ↦ let none = w.if-page-eq0.true in absurd (omega (arith, none, some))
+      | then-page-eq0-via-else-page-eq0+then-from-word w ↦
+          let one = w.from.ensures in let two = w.if-from-word.true in omega (arith, one, two)
+    ])
+
+pub renew-found-requires-clause-renew : goal.renew-found-requires-clause-renew
+renew-found-requires-clause-renew c =
+    can_renew_so c.args.height c.args.place c.args.span c.args.at c.args.page c.follow-seen.result
+    (view c.args.pass.now) (view c.follow-seen.new.pass) c.requires.visit c.follow-seen.ensures.follows
+    c.if-seen-lt-SLOT.false c.if-seen-ge-SHUT.false (view c.enter.new.pass) c.enter.ensures.enters c.follow-word.result
+    (view c.follow-word.new.pass) c.follow-word.ensures.follows c.if-word-seen.false
+    (let some = c.if-page-eq0.false in omega (arith, some))
+
+pub keep-changed-requires-clause-last : goal.keep-changed-requires-clause-last
+keep-changed-requires-clause-last c =
+    let l = missed_so c.args.height c.args.place c.args.span c.args.at c.args.page c.follow-seen.result
+    (view c.args.pass.now) (view c.follow-seen.new.pass) c.requires.visit c.follow-seen.ensures.follows
+    c.if-seen-lt-SLOT.false c.if-seen-ge-SHUT.false (view c.enter.new.pass) c.enter.ensures.enters c.follow-word.result
+    (view c.follow-word.new.pass) c.follow-word.ensures.follows c.if-word-seen.false c.renew-found.result
+    (view c.renew-found.new.pass) c.renew-found.ensures.renews c.if-found-word.true in
+    (l.step, l.last)
+
+pub returns-then-found-word-clause-keeps : goal.returns-then-found-word-clause-keeps
+returns-then-found-word-clause-keeps c =
+    keeps_missed c.args.height c.args.place c.args.span c.args.at c.args.page c.follow-seen.result
+    (view c.args.pass.now) (view c.follow-seen.new.pass) c.requires.visit c.follow-seen.ensures.follows
+    c.if-seen-lt-SLOT.false c.if-seen-ge-SHUT.false (view c.enter.new.pass) c.enter.ensures.enters c.follow-word.result
+    (view c.follow-word.new.pass) c.follow-word.ensures.follows c.if-word-seen.false c.renew-found.result
+    (view c.renew-found.new.pass) c.renew-found.ensures.renews c.keep-changed.result (view c.keep-changed.new.pass)
+    (view c.leave-then-found-word.new.pass) c.if-found-word.true c.keep-changed.ensures.is
+    c.keep-changed.ensures.notes c.leave-then-found-word.ensures.leaves
+
+pub returns-clause-holds : goal.returns-clause-holds
+returns-clause-holds c =
+    subst (λ n. let held : Held = record {
+      slot = c.follow-seen.result / 2 ^ 32 - 1;
+      word = c.follow-word.result / 2 ^ 32 * 2 ^ 32 + n;
+    } in HasIn c.args.span c.args.at c.args.page held (view c.args.pass.now) (view c.renew-found.new.pass))
+    (sym c.from-2.ensures)
+    (holds_renewed c.args.height c.args.place c.args.span c.args.at c.args.page c.follow-seen.result
+    (view c.args.pass.now) (view c.follow-seen.new.pass) c.requires.visit c.follow-seen.ensures.follows
+    c.if-seen-lt-SLOT.false c.if-seen-ge-SHUT.false (view c.enter.new.pass) c.enter.ensures.enters c.follow-word.result
+    (view c.follow-word.new.pass) c.follow-word.ensures.follows c.if-word-seen.false c.renew-found.result
+    (view c.renew-found.new.pass) c.renew-found.ensures.renews c.if-found-word.false
+    (let small = c.ranges.page in omega (arith, small)))

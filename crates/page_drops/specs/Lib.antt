@@ -1,0 +1,5 @@
+pub mod Works
+pub mod Leaves
+pub mod Inner
+pub mod Visits
+pub mod Calls

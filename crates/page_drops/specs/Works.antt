@@ -1,0 +1,158 @@
+-- What work on the page of a slot leaves of a pass, and what it tells of a page that it keeps.
+use Rattle.std.specs.Prelude.{◌≡◌, ◌≢◌, ◌⊎◌, ℕ, ◌+◌, ◌*◌, ◌^◌, ◌<◌, ◌≤◌, ◌==◌, List, [], ◌∷◌, ◌++◌, get_or, Option}
+use Rattle.std.specs.Prelude.{Some, None, Contains}
+use Rattle.std.specs.List.{find}
+use Rattle.atomic_table.specs.Table.{Step}
+use Rattle.lists.specs.Fronts.{IsFront}
+use Rattle.wire_form.specs.Leaves.{array_leaf}
+use Rattle.snapshot_store.specs.Places.{page as page_words}
+use Rattle.engine_pages.specs.declared.view.Glance.{Glance}
+use Rattle.engine_pages.specs.declared.view.KeptPage.{KeptPage}
+use Rattle.engine_pages.specs.declared.view.KeptWhy.{KeptWhy}
+use Rattle.engine_pages.specs.declared.view.KeptWhy.TheVariants.{Locked, Unlike, Under, Changed, Long}
+use Rattle.engine_pages.specs.declared.view.Read.{Read}
+use Rattle.engine_pages.specs.declared.view.Touch.{Touch}
+use Rattle.engine_pages.specs.declared.view.View.{View}
+use Rattle.engine_pages.specs.Layout.{clock_at, page_at}
+use Rattle.engine_pages.specs.Steps.{glance, glanced}
+use Rattle.page_drops.specs.declared.noting.Kept.{Kept}
+
+-- The pass went on: it has what it had, but for what it saw, its locks of records, and the pages that it noted as kept.
+abbrev pub WorkedOn : View → View → Type 0
+WorkedOn v w = w ≡ record v {
+  steps = w.steps;
+  last = w.last;
+  reads = w.reads;
+  history = w.history;
+  decided = w.decided;
+  seat = record v.seat { kept = w.seat.kept; locks = w.seat.locks };
+  took = w.took;
+  touched = w.touched;
+  loaded = w.loaded;
+  kept = w.kept;
+}
+
+-- the same, with the locks that it had, and no page more that is kept
+pub record OnlyLooked (v w : View) : Type 0 where
+  pub worked : WorkedOn v w
+  pub later : v.steps ≤ w.steps
+  pub locks : w.seat.locks ≡ v.seat.locks
+  pub took : w.took ≡ v.took
+  pub kept : w.kept ≡ v.kept
+
+-- What was seen of draws and decisions has grown at its end, and what was locked more is the maintenance thread's.
+pub record SawMore (v w : View) : Type 0 where
+  pub drawn : IsFront v.history w.history
+  pub decided : IsFront v.decided w.decided
+  pub touched : (z : Touch) → Contains w.touched z → Contains v.touched z ⊎ (z.seat ≡ 0)
+
+-- so it did, and locked no record
+pub record SawAlone (v w : View) : Type 0 where
+  pub more : SawMore v w
+  pub none : w.touched ≡ v.touched
+
+-- ---- a page that is kept
+
+-- the step of the last load or compare_exchange
+abbrev pub last_step : Option Glance → ℕ
+last_step None = 0
+last_step (Some g) = g.step
+
+-- the note of a page that is kept, by the word that was seen last
+abbrev pub note_of : View → Kept → KeptPage
+note_of v k = record { step = last_step v.last; word = k.word; seen = k.seen; why = k.why }
+
+-- one page more is noted as kept
+abbrev pub noted : KeptPage → ℕ → View → View
+noted page n v = record (glanced clock_at n v) { kept = v.kept ++ page ∷ [] }
+
+-- the same of the step
+abbrev pub Notes : KeptPage → Step (Unit {0}) → View → ℕ → View → Type 0
+Notes page s v n w = w ≡ noted page n v
+
+-- the word was seen last
+abbrev pub HasSeenLast : View → Kept → Type 0
+HasSeenLast v k = (step : ℕ) × (v.last ≡ Some (glance step k.word k.seen))
+
+-- Why a leaf in a slot was kept that is compared with a snapshot page of these words: a record's word was locked, or
+-- was unlocked and is not the snapshot's, or its value isn't.
+abbrev pub IsLeafCause : ℕ → ℕ → List ℕ → KeptWhy → ℕ → ℕ → Type 0
+IsLeafCause slots t words Locked word seen =
+    (i : ℕ) × (i < array_leaf.room) × (word ≡ page_at slots t (2 * i)) × (2 ^ 60 ≤ seen)
+IsLeafCause slots t words Unlike word seen =
+    (i : ℕ) × (i < array_leaf.room)
+    × (((word ≡ page_at slots t (2 * i)) × (seen < 2 ^ 60) × (seen ≢ get_or words (2 * i) 0))
+    ⊎ ((word ≡ page_at slots t (2 * i + 1)) × (seen ≢ get_or words (2 * i + 1) 0)))
+IsLeafCause slots t words Under word seen = ⊥
+IsLeafCause slots t words (Changed expected) word seen = ⊥
+IsLeafCause slots t words Long word seen = ⊥
+
+-- The same, or the pointer above, whose word is here and was this one as the work began, was found to be another.
+abbrev pub IsCauseBelow : ℕ → ℕ → List ℕ → ℕ → ℕ → KeptWhy → ℕ → ℕ → Type 0
+IsCauseBelow slots t words at before why word seen =
+    IsLeafCause slots t words why word seen ⊎ ((word ≡ at) × (why ≡ Changed before) × (seen ≢ before))
+
+-- The pass noted, of this call, that it keeps a page, and why.
+pub record HasKept (cause : KeptWhy → ℕ → ℕ → Type 0) (k : Kept) (v w : View) : Type 0 where
+  pub page : KeptPage
+  pub is : w.kept ≡ v.kept ++ page ∷ []
+  pub told : page ≡ record { step = page.step; word = k.word; seen = k.seen; why = k.why }
+  pub since : v.steps ≤ page.step
+  pub before : page.step < w.steps
+  pub cause-is : cause k.why k.word k.seen
+
+-- so it did, and has the locks that it had
+pub record KeepsIt (cause : KeptWhy → ℕ → ℕ → Type 0) (k : Kept) (v w : View) : Type 0 where
+  pub worked : WorkedOn v w
+  pub locks : w.seat.locks ≡ v.seat.locks
+  pub took : w.took ≡ v.took
+  pub kept : HasKept cause k v w
+
+-- of a leaf that is compared with the snapshot page with this number
+abbrev pub KeepsLeaf : ℕ → ℕ → Kept → View → View → Type 0
+KeepsLeaf t page k v w = KeepsIt (IsLeafCause v.layout.slots t (page_words v.pages page)) k v w
+
+-- and of one to which a pointer leads by this word
+abbrev pub KeepsBelow : ℕ → ℕ → ℕ → ℕ → Kept → View → View → Type 0
+KeepsBelow t page at before k v w =
+    KeepsIt (IsCauseBelow v.layout.slots t (page_words v.pages page) at before) k v w
+
+-- ---- looks
+
+-- the pass loaded words, and knows nothing more by it
+pub record HasGlanced (v w : View) : Type 0 where
+  pub is : w ≡ record v { steps = w.steps; last = w.last }
+  pub later : v.steps ≤ w.steps
+
+-- it noted a page, which it saw last
+abbrev pub IsNoted : Kept → View → View → Type 0
+IsNoted k v w = (n : ℕ) × (w ≡ noted (note_of v k) n v)
+
+-- ---- what was read
+
+-- the entry of a word, where it was met
+abbrev pub read_of : List Read → ℕ → Option Read
+read_of reads word = find (λ r. r.word == word) reads
+
+-- the word stands in no page of the slot
+abbrev pub IsOutside : ℕ → ℕ → ℕ → Type 0
+IsOutside slots t word = (i : ℕ) → i < 64 → word ≡ page_at slots t i → ⊥
+
+-- what was read of words outside of the slot's page is as it was
+abbrev pub KeepsReads : ℕ → View → View → Type 0
+KeepsReads t v w = (word : ℕ) → IsOutside v.layout.slots t word → read_of w.reads word ≡ read_of v.reads word
+
+-- the same of all but one of them
+abbrev pub KeepsReadsBut : ℕ → ℕ → View → View → Type 0
+KeepsReadsBut t at v w =
+    (word : ℕ) → (word ≡ at → ⊥) → IsOutside v.layout.slots t word → read_of w.reads word ≡ read_of v.reads word
+
+-- Where a page was kept since the pointer above had changed, whose word is here, the entry of that word says what was
+-- seen before; else it is as it was.
+abbrev pub TellsAbove : KeptWhy → ℕ → ℕ → View → View → Type 0
+TellsAbove Locked at seen v w = read_of w.reads at ≡ read_of v.reads at
+TellsAbove Unlike at seen v w = read_of w.reads at ≡ read_of v.reads at
+TellsAbove Under at seen v w = read_of w.reads at ≡ read_of v.reads at
+TellsAbove (Changed expected) at seen v w =
+    (r : Read) × (read_of w.reads at ≡ Some r) × (r.seen ≡ seen) × (r.was ≡ Some expected)
+TellsAbove Long at seen v w = read_of w.reads at ≡ read_of v.reads at

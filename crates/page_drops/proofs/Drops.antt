@@ -17,7 +17,7 @@ use Rattle.engine_pages.specs.Layout.{words_of}
 use Rattle.engine_pages.specs.Pointers.{IsPointerAt}
 use Rattle.engine_pages.specs.Resident.{array_value, array_word}
 use Rattle.engine_pages.specs.Slots.{MayRetire, retired}
-use Rattle.engine_pages.specs.Steps.{kept_at, read_at}
+use Rattle.engine_pages.specs.Steps.{kept_at, read_at, seen_at}
 use Rattle.engine_pages.specs.Words.{spot}
 use Rattle.dual_pointer.specs.Copies.{IsLeadOf}
 use Rattle.page_records.specs.Locks.{took_at}
@@ -113,15 +113,15 @@ may_retire t at page found u w is =
 
 -- the slot is given up
 pub dropped_now : (t at page found : ℕ) (v a u w z : View) → WorkedOn v u → v.steps ≤ u.steps → u.kept ≡ v.kept
-    → w ≡ swung t at page found u → z ≡ retired t w → HasDropped t at page v z
-dropped_now t at page found v a u w z worked later kept swing retire =
+    → w ≡ swung t at page found u → z ≡ retired t w → seen_at u.reads at ≡ seen_at v.reads at → HasDropped t at page v z
+dropped_now t at page found v a u w z worked later kept swing retire met =
     let all : z ≡ retired t (swung t at page found (as_worked v u)) =
     retire ∙ (ap (retired t) swing ∙ ap (λ y. retired t (swung t at page found y)) worked) in
     subst (λ (y : View). HasDropped t at page v y) (sym (all ∙ ap (λ list. retired t (swung t at page found (record (as_worked v u) { kept = list }))) kept))
     record {
       is = refl;
       later = omega arith;
-      led = (entry_of u.reads at page (kept_at u.reads at), own_entry u.reads at page (kept_at u.reads at), refl);
+      led = (entry_of u.reads at page (kept_at u.reads at), own_entry u.reads at page (kept_at u.reads at), refl, met);
     }
 
 -- ---- it was not

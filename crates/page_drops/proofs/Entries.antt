@@ -1,5 +1,5 @@
 -- What the pass knows of words that it met, behind one more.
-use Rattle.std.proofs.Common.{◌≡◌, ℕ, ◌+◌, ◌*◌, ◌<◌, ◌^◌, Bool, true, false, cond, eqb, eqb-true, eq-eqb, ne_eqb}
+use Rattle.std.proofs.Common.{◌≡◌, ◌≢◌, ℕ, ◌+◌, ◌*◌, ◌<◌, ◌≤◌, ◌^◌, Bool, true, false, cond, eqb, eqb-true, eq-eqb, ne_eqb}
 use Rattle.std.proofs.Common.{not, filter, List, [], ◌∷◌, ◌++◌, Option, Some, None, refl, sym, ap, ◌∙◌, subst, arith}
 use Rattle.std.specs.Prelude.{MatchBool, nat_lt}
 use Rattle.std.specs.List.{find}
@@ -16,7 +16,9 @@ use Rattle.engine_pages.specs.Steps.{kept_at, noted as noted_read, read_at, seen
 use Rattle.page_records.specs.Locks.{Locked as HasLocked, lock_bit, locked, opened}
 use Rattle.page_records.specs.Reads.{Confirmed, Saw, SawFree, valued}
 use Rattle.page_drops.specs.declared.noting.Kept.{Kept}
-use Rattle.page_drops.specs.Works.{read_of, HasGlanced, IsLeafCause, IsNoted, IsOutside, KeepsReads, KeepsReadsBut, TellsAbove}
+use Rattle.page_drops.specs.Leaves.{KeepsSeen, KeepsSeenBut}
+use Rattle.page_drops.specs.Works.{read_of, HasGlanced, IsLeafCause, IsNoted, IsOutside, IsSeenStill, KeepsReads, KeepsReadsBut}
+use Rattle.page_drops.specs.Works.{TellsAbove}
 
 -- ---- entries
 
@@ -128,7 +130,7 @@ value_at : (slots t i at : ℕ) → at ≡ page_at slots t (2 * i) → at + 1 �
 value_at slots t i at place = omega (arith, place)
 
 -- the first load meets the word, whether or not it is locked
-saw_reads : (k : Key) (x : Spot) (at n : ℕ) (u w : View) → Saw k x at u n w → w.reads ≡ with_read u.reads at n
+pub saw_reads : (k : Key) (x : Spot) (at n : ℕ) (u w : View) → Saw k x at u n w → w.reads ≡ with_read u.reads at n
 saw_reads k x at n u w h = by_test (nat_lt n (2 ^ 60)) h
   where
     by_test : (c : Bool) → MatchBool c (SawFree k x at u n w) (w ≡ read_at at n u) → w.reads ≡ with_read u.reads at n
@@ -205,3 +207,64 @@ reads_around t at n v u w a z so is kept same rest word other out =
 
 pub reads_but : (t at : ℕ) (v w : View) → KeepsReads t v w → KeepsReadsBut t at v w
 reads_but t at v w so word other out = so word out
+
+-- ---- the word for which a page is kept
+
+seen_last : (reads : List Read) (word n : ℕ) (kept : Option ℕ) → seen_at (noted_read reads word n kept) word ≡ Some n
+seen_last reads word n kept =
+    seen_of (noted_read reads word n kept) word (entry_of reads word n kept) (own_entry reads word n kept)
+
+-- it was met last, and the note follows
+pub still_noted : (at seen : ℕ) (why : KeptWhy) (k : Kept) (v u w : View) → k ≡ record { word = at; seen = seen; why = why }
+    → u.reads ≡ with_read v.reads at seen → IsNoted k u w → IsSeenStill k w
+still_noted at seen why k v u w is met told =
+    subst (λ (y : Kept). seen_at w.reads y.word ≡ Some y.seen) (sym is)
+    (ap (λ (z : View). seen_at z.reads at) told.1
+    ∙ (ap (λ (list : List Read). seen_at list at) met ∙ seen_last v.reads at seen (kept_at v.reads at)))
+
+-- a try to lock that found another word
+pub missed_lock : (at number found : ℕ) (k : Key) (x : Spot) (u w : View) → found ≢ number
+    → HasLocked k x at number u found w → w.reads ≡ with_read u.reads at found
+missed_lock at number found k x u w other h =
+    ap (λ (z : View). z.reads)
+    (subst (λ c. MatchBool c (w ≡ locked k x at found u) (w ≡ read_at at found u)) (ne_eqb found number other) h)
+
+-- a record that is opened is another word
+pub still_opened : (t i at number : ℕ) (k : Key) (v u w : View) → at ≡ page_at v.layout.slots t (2 * i) → HasGlanced v u
+    → w ≡ opened k at number u → KeepsSeenBut t i v w
+still_opened t i at number k v u w place glanced is word apart =
+    seen_same v.reads w.reads word
+    (ap (λ (z : View). read_of z.reads word) is
+    ∙ (other_entry u.reads at number (kept_at u.reads at) word (λ same. apart (same ∙ place))
+    ∙ ap (λ (z : View). read_of z.reads word) glanced.is))
+
+pub still_self : (t : ℕ) (v : View) → KeepsSeen t 0 v v
+still_self t v word none = refl
+
+-- so are more of them
+pub still_next : (t n : ℕ) (v u w : View) → u.layout ≡ v.layout → KeepsSeen t n v u → KeepsSeenBut t n u w
+    → KeepsSeen t (n + 1) v w
+still_next t n v u w same before one word none =
+    one word (λ is. none n (omega arith) (is ∙ ap (λ (l : Layout). page_at l.slots t (2 * n)) same))
+    ∙ before word (λ i less. none i (omega (arith, less)))
+
+pub still_most : (t n m : ℕ) (v w : View) → n ≤ m → KeepsSeen t n v w → KeepsSeen t m v w
+still_most t n m v w most so word none = so word (λ i less. none i (omega (arith, less, most)))
+
+other_record : (slots t i j : ℕ) → i < j → page_at slots t (2 * i) ≡ page_at slots t (2 * j) → ⊥
+other_record slots t i j less same = omega (arith, less, same)
+
+-- behind the opening of the records before it
+pub still_behind : (t j : ℕ) (k : Kept) (u a z : View) → a.layout ≡ u.layout → k.word ≡ page_at u.layout.slots t (2 * j)
+    → IsSeenStill k a → KeepsSeen t j a z → IsSeenStill k z
+still_behind t j k u a z same word seen keeps =
+    keeps k.word (λ i less is.
+    other_record u.layout.slots t i j less (sym (is ∙ ap (λ (l : Layout). page_at l.slots t (2 * i)) same) ∙ word))
+    ∙ seen
+
+-- and of the pointer above, by its entry
+pub still_above : (at word found : ℕ) (k : Kept) (v z : View) → k ≡ record { word = at; seen = found; why = Changed word }
+    → TellsAbove k.why at k.seen v z → IsSeenStill k z
+still_above at word found k v z is =
+    subst (λ (y : Kept). TellsAbove y.why at y.seen v z → seen_at z.reads y.word ≡ Some y.seen) (sym is)
+    (λ tells. seen_of z.reads at tells.0 tells.1 ∙ ap (λ (n : ℕ). let o : Option ℕ = Some n in o) tells.2)

@@ -469,12 +469,14 @@ module _ (C : Type 0) (f : Met C → ℕ) (g : Met C → List KeptPage) (h : Met
         → slice_get nodes j ≡ Some c → IsNotedUnder (Some note) d c
     under_kept k note told later j c has =
         let node = below.each j c has in
+        let apart : (k.word ≢ page_at u.layout.slots t j) → note.word ≢ c.at =
+        λ other e. other (sym (ap (λ (p : KeptPage). p.word) told) ∙ (e ∙ node.at)) in
         elim (later j (less_here j c has)) [
           | inl same ↦ (
             (node.noted).read,
             entry_now j c has
-                ∙ (same ∙ (ap (λ n. read_of u.reads n) (sym node.at) ∙ (node.noted).is)),
-            inl ((node.noted).sight, (node.noted).before),
+                ∙ (same.0 ∙ (ap (λ n. read_of u.reads n) (sym node.at) ∙ (node.noted).is)),
+            inl ((node.noted).sight, (node.noted).before, apart same.1),
           )
           | inr rest ↦
               elim rest [
@@ -493,6 +495,7 @@ module _ (C : Type 0) (f : Met C → ℕ) (g : Met C → List KeptPage) (h : Met
                   inr (inr (
                     again.2 ∙ sym node.page,
                     again.3 ∙ ap (λ n. let o : Option ℕ = Some (n + 2 ^ 60) in o) (sym node.page),
+                    apart again.4,
                   )),
                 )
               ]
@@ -502,7 +505,12 @@ module _ (C : Type 0) (f : Met C → ℕ) (g : Met C → List KeptPage) (h : Met
     inner_left drops notes counts =
         left_so None (inner_dropped_worked t page at u b bare drops)
         (ap (λ (z : View). z.kept) drops.is ∙ sym (append-nil u.kept))
-        record { read = (drops.led).0; is = same_reads at ∙ (drops.led).1; sight = (drops.led).2; before = tt }
+        record {
+          read = (drops.led).0;
+          is = same_reads at ∙ (drops.led).1;
+          sight = (drops.led).2;
+          before = (held.word, (drops.led).3 ∙ can_drop.met, inside.led);
+        }
         (λ k is. absurd (cc)) (under_dropped notes) counts
 
     inner_kept : (k : Kept) → KeepsInnerBelow t page at held.word k u b → TellsAbove k.why at k.seen u b

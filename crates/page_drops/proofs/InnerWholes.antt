@@ -149,8 +149,9 @@ can_swing_inner x sp at t page word v u can turned row few =
 
 -- the slot is given up
 pub inner_dropped : (t at page found : ℕ) (v u w z : View) → HasTurned v u → w ≡ swung t at page found u → z ≡ retired t w
-    → v.shuts ≡ [] → u.shuts ≡ shut_row t (page_words v.pages page) 64 → HasDroppedInner t at page v z
-inner_dropped t at page found v u w z turned swing retire free row =
+    → v.shuts ≡ [] → u.shuts ≡ shut_row t (page_words v.pages page) 64 → seen_at u.reads at ≡ seen_at v.reads at
+    → HasDroppedInner t at page v z
+inner_dropped t at page found v u w z turned swing retire free row met =
     let went = turned.went in
     let later = went.later in
     let all : z ≡ retired t (swung t at page found (as_shut v u)) =
@@ -163,7 +164,7 @@ inner_dropped t at page found v u w z turned swing retire free row =
       is = refl;
       later = omega arith;
       leads = went.leads;
-      led = (entry_of u.reads at page (kept_at u.reads at), own_entry u.reads at page (kept_at u.reads at), refl);
+      led = (entry_of u.reads at page (kept_at u.reads at), own_entry u.reads at page (kept_at u.reads at), refl, met);
     }
 
 -- ---- it was not swung
@@ -206,9 +207,9 @@ missed_tells t page at word found k v u w a z went so other h told again is out 
 
 pub missed_later : (t page at word found : ℕ) (k : Kept) (v u w a z : View) → WentOn v a → AreShutNotes t page 64 v u
     → found ≢ word → HasSwung t at page word u found w → IsNoted k w a → HasReopened t page 0 64 a z
-    → IsOutside v.layout.slots t at → AreLaterNotes t page k v z
-missed_later t page at word found k v u w a z went shut other h told again out =
-    later_all t page at found k v u a z went out shut
+    → IsOutside v.layout.slots t at → k ≡ record { word = at; seen = found; why = Changed word } → AreLaterNotes t page k v z
+missed_later t page at word found k v u w a z went shut other h told again out is =
+    later_all t page at found k v u a z went out (ap (λ (y : Kept). y.word) is) shut
     (ap (λ (y : View). y.reads) told.1 ∙ ap (λ (y : View). y.reads) (not_swung t at page word found u w other h)) again
 
 -- and behind one that didn't

@@ -40,7 +40,8 @@ stays_within ts us v w within h = record {
 }
 
 pub leaf_stays : (v w : View) (m : MetLeaf) → StaysFor (slots_leaf m) v w → IsLeafTree v m → IsLeafTree w m
-leaf_stays v w m h tree = stays.leaf_stays (IsRead v w) v w (goes_for (slots_leaf m) v w h) m tree
+leaf_stays v w m h tree =
+    stays.leaf_stays (IsRead v w) v w (goes_for (slots_leaf m) v w h) m (spares_for (slots_leaf m) v w h) tree
 
 pub inner_stays : (C : Type 0) (tree : View → Met C → Type 0) (slots : Met C → List ℕ)
     → ((v w : View) (c : Met C) → StaysFor (slots c) v w → tree v c → tree w c) → (v w : View) (m : Met (Met C))

@@ -23,6 +23,7 @@ use Rattle.engine_pages.specs.Layout.{page_at, words_of}
 use Rattle.engine_pages.specs.Pages.{is_array}
 use Rattle.engine_pages.specs.Pointers.{half_of, page_half}
 use Rattle.engine_pages.specs.Slots.{left, other_copies, other_shuts}
+use Rattle.engine_pages.specs.Steps.{seen_at}
 use Rattle.engine_pages.proofs.Named.{page_longer}
 use Rattle.pointer_swings.specs.Children.{let_go}
 use Rattle.page_drops.specs.declared.calls.Dropped.{Dropped}
@@ -32,12 +33,12 @@ use Rattle.page_drops.specs.Calls.{CanVisit, GoesOver, HasCounted, HasHeld, HasI
 use Rattle.page_drops.specs.Calls.{IsNode, IsNoteOf}
 use Rattle.page_drops.specs.Leaves.{CanDrop, HasDropped}
 use Rattle.page_drops.specs.Visits.{Met, MetLeaf, HasCause, IsCauseOf, IsKeptSight, IsLeafTree, IsNotedSo, IsSightBefore}
-use Rattle.page_drops.specs.Visits.{IsKeptBefore, IsSight}
+use Rattle.page_drops.specs.Visits.{IsMetBefore, IsSight}
 use Rattle.page_drops.specs.Visits.{dropped_here, dropped_of, note_here, notes_of, slots_of}
 use Rattle.page_drops.specs.Works.{IsCauseBelow, IsLeafCause, KeepsBelow, KeepsIt, KeepsReadsBut, SawMore, TellsAbove}
-use Rattle.page_drops.specs.Works.{read_of}
+use Rattle.page_drops.specs.Works.{read_of, IsSeenStill}
 use Rattle.page_drops.proofs.Goings.{over_self}
-use Rattle.page_drops.proofs.Entries.{seen_of}
+use Rattle.page_drops.proofs.Entries.{seen_of, seen_same}
 use Rattle.page_drops.proofs.Heights.{leaf_low}
 use Rattle.page_drops.proofs.Holds.{as_held, lead_in, pointer_in}
 use Rattle.page_drops.proofs.Looks.{as_worked}
@@ -176,8 +177,9 @@ noted_kept B m t page before k note u b w slot kept paged told tells was led nam
           (subst (λ (n : ℕ). IsKeptSight note.why note.word m.at t n (r.0).seen) (sym paged)
           (subst (λ (p : KeptPage). IsKeptSight p.why p.word m.at t page (r.0).seen) (sym told) r.2)));
       before =
-          subst (λ (o : Option KeptPage). IsKeptBefore o r.0) (sym kept)
-          (subst (λ (p : KeptPage). IsSightBefore p.why r.0) (sym told) r.3);
+          subst (λ (o : Option ℕ). IsMetBefore o m.kept r.0) (sym slot)
+          (subst (λ (o : Option KeptPage). IsMetBefore (Some t) o r.0) (sym kept)
+          (subst (λ (p : KeptPage). IsSightBefore p.why r.0) (sym told) r.3));
     }
 
 -- ---- what the work on a leaf asks
@@ -248,8 +250,9 @@ module _ (x : At) (sp : Span) (at page n : ℕ) (held : Held) (old new : Dropped
   -- with a worked page, its note if it is kept, and why
   left_so : (kept : Option KeptPage) → HasWorked a c → c.kept ≡ v.kept ++ note_here kept → IsNotedSo d (leaf_met kept)
       → (GoesOver v d → HasCause IsLeafCause d (leaf_met kept))
+      → ((k : KeptPage) → kept ≡ Some k → seen_at d.reads k.word ≡ Some k.seen)
       → HasCounted old (0 + dropped_here (Some held.slot) kept) (note_here kept) new → Told
-  left_so kept worked notes noted cause counts =
+  left_so kept worked notes noted cause seen counts =
       let over = out_of sp at page held v a a c d can.bare inside (over_self a) worked leave in record {
         met = leaf_met kept;
         tree = record {
@@ -261,6 +264,7 @@ module _ (x : At) (sp : Span) (at page n : ℕ) (held : Held) (old new : Dropped
             there = let one = can.there in let two = front_length v.pages d.pages over.front in omega (arith, one, two);
             cause = cause over;
             below = refl;
+            still = λ t j k slot is once few word. seen k is;
           };
         };
         over = over;
@@ -278,12 +282,22 @@ module _ (x : At) (sp : Span) (at page n : ℕ) (held : Held) (old new : Dropped
   leaf_dropped drops counts =
       left_so None (worked_dropped held.slot at page n a b c (bare_in sp at page held v a can.bare inside) drops more go)
       (ap (λ (z : View). z.kept) go ∙ (ap (λ (z : View). z.kept) drops.is ∙ (inside.kept ∙ sym (append-nil v.kept))))
-      record { read = (drops.led).0; is = same_reads at ∙ (drops.led).1; sight = (drops.led).2; before = tt }
-      (λ over k is. absurd (cc)) counts
+      record {
+        read = (drops.led).0;
+        is = same_reads at ∙ (drops.led).1;
+        sight = (drops.led).2;
+        before = (
+          held.word,
+          (drops.led).3
+              ∙ (seen_of a.reads at (inside.read).0 (inside.read).1 ∙ ap (λ (y : ℕ). Some y) (inside.read).2),
+          inside.led,
+        );
+      }
+      (λ over k is. absurd (cc)) (λ k is. absurd (cc)) counts
 
-  pub leaf_kept : (k : Kept) → KeepsBelow held.slot page at held.word k a b → TellsAbove k.why at k.seen a b → CountsKept old k new
-      → Told
-  leaf_kept k keeps tells counts =
+  pub leaf_kept : (k : Kept) → KeepsBelow held.slot page at held.word k a b → TellsAbove k.why at k.seen a b → IsSeenStill k b
+      → CountsKept old k new → Told
+  leaf_kept k keeps tells still counts =
       let note = (keeps.kept).page in
       let told = (keeps.kept).told in
       let cause = (keeps.kept).cause-is in
@@ -300,6 +314,11 @@ module _ (x : At) (sp : Span) (at page n : ℕ) (held : Held) (old new : Dropped
       (page_words d.pages page) k note other (slots_as over)
       (page_longer v.pages a.pages page (inside.over).front can.there
       ∙ sym (page_longer v.pages d.pages page over.front can.there)) told inside.led cause is)
+      (λ other is.
+      let same : note ≡ other = cc in
+      subst (λ (p : KeptPage). seen_at d.reads p.word ≡ Some p.seen) same
+      (subst (λ (p : KeptPage). seen_at d.reads p.word ≡ Some p.seen) (sym told)
+      (seen_same b.reads d.reads k.word (same_reads k.word) ∙ still)))
       (counts note told)
     where
       slots_as : GoesOver v d → a.layout.slots ≡ d.layout.slots
@@ -309,6 +328,6 @@ module _ (x : At) (sp : Span) (at page n : ℕ) (held : Held) (old new : Dropped
   -- either of them
   pub leaf_left : (r : Result (Unit {0}) Kept) → OnOk r (HasDropped held.slot at page a b)
       → IfErr r (λ k. KeepsBelow held.slot page at held.word k a b) → IfErr r (λ k. TellsAbove k.why at k.seen a b)
-      → OnOk r (HasCounted old 1 [] new) → IfErr r (λ k. CountsKept old k new) → Told
-  leaf_left (Ok u) drops keeps tells one note = leaf_dropped drops one
-  leaf_left (Err k) drops keeps tells one note = leaf_kept k keeps tells note
+      → IfErr r (λ k. IsSeenStill k b) → OnOk r (HasCounted old 1 [] new) → IfErr r (λ k. CountsKept old k new) → Told
+  leaf_left (Ok u) drops keeps tells still one note = leaf_dropped drops one
+  leaf_left (Err k) drops keeps tells still one note = leaf_kept k keeps tells still note

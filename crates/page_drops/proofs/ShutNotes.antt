@@ -174,6 +174,10 @@ found_word : (t i : ℕ) (k : Kept) (v u a : View) → WentOn v u → FoundOther
 found_word t i k v u a went found =
     found.reads ∙ ap (λ (z : View). with_read u.reads (page_at z.layout.slots t i) k.seen) went.shut
 
+-- the page is kept for that word
+found_at : (t i : ℕ) (k : Kept) (v u a : View) → WentOn v u → FoundOther t i k u a → k.word ≡ page_at v.layout.slots t i
+found_at t i k v u a went found = found.word ∙ ap (λ (z : View). page_at z.layout.slots t i) went.shut
+
 -- Of a page whose first pointers were shut, the next one found to be another, and the first ones opened: one of the first,
 later_below : (t page i j : ℕ) (k : Kept) (v u a w : View) → WentOn v u → WentOn v a → ReadsShut t page i v u
     → FoundOther t i k u a → HasReopened t page 0 i a w → j < i
@@ -181,9 +185,12 @@ later_below : (t page i j : ℕ) (k : Kept) (v u a w : View) → WentOn v u → 
     (seen_at v.reads (page_at v.layout.slots t j)) (read_of v.reads (page_at v.layout.slots t j))
     (read_of w.reads (page_at v.layout.slots t j))
 later_below t page i j k v u a w went gone so found open-now less =
-    inr (inr (opened_again t page i j v u a w gone so.each less
+    let apart : page_at v.layout.slots t j ≡ page_at v.layout.slots t i → ⊥ =
+    at_other v.layout.slots t j i (λ e. absurd (omega (arith, e, less))) in
+    let o = opened_again t page i j v u a w gone so.each less
     (met_other u.reads a.reads (page_at v.layout.slots t i) k.seen (page_at v.layout.slots t j) (found_word t i k v u a went found)
-    (at_other v.layout.slots t j i (λ e. absurd (omega (arith, e, less))))) open-now))
+    apart) open-now in
+    inr (inr (o.0, o.1, o.2, o.3, λ same. apart (sym same ∙ found_at t i k v u a went found)))
 
 -- that one,
 later_here : (t page i : ℕ) (k : Kept) (v u a w : View) → WentOn v u → WentOn v a → ReadsShut t page i v u
@@ -199,7 +206,7 @@ later_here t page i k v u a w went gone so found open-now =
       entry_of u.reads at k.seen (kept_at u.reads at),
       open_other t page i at v a w gone open-now none
           ∙ met_last u.reads a.reads at k.seen (found_word t i k v u a went found),
-      found.word ∙ ap (λ (z : View). page_at z.layout.slots t i) went.shut,
+      found_at t i k v u a went found,
       refl,
       seen_same v.reads u.reads at (so.others at none),
     ))
@@ -214,10 +221,14 @@ later_above t page i j k v u a w went gone so found open-now above =
     let at : ℕ = page_at v.layout.slots t j in
     let none : (n : ℕ) → n < i → at ≡ page_at v.layout.slots t n → ⊥ =
     λ n less same. at_other v.layout.slots t j n (λ e. absurd (omega (arith, e, less, above))) same in
-    inl (open_other t page i at v a w gone open-now none
-    ∙ (met_other u.reads a.reads (page_at v.layout.slots t i) k.seen at (found_word t i k v u a went found)
-    (at_other v.layout.slots t j i (λ e. absurd (omega (arith, e, above))))
-    ∙ so.others at none))
+    let apart : at ≡ page_at v.layout.slots t i → ⊥ =
+    at_other v.layout.slots t j i (λ e. absurd (omega (arith, e, above))) in
+    inl (
+      open_other t page i at v a w gone open-now none
+          ∙ (met_other u.reads a.reads (page_at v.layout.slots t i) k.seen at (found_word t i k v u a went found) apart
+          ∙ so.others at none),
+      λ same. apart (sym same ∙ found_at t i k v u a went found),
+    )
 
 pub later_notes : (t page i : ℕ) (k : Kept) (v u a w : View) → WentOn v u → WentOn v a → ReadsShut t page i v u
     → FoundOther t i k u a → HasReopened t page 0 i a w → AreLaterNotes t page k v w
@@ -244,10 +255,12 @@ found_keeps t page i k v u a w few went gone so found open-now =
 
 -- another: all were opened
 pub later_all : (t page at found : ℕ) (k : Kept) (v u a w : View) → WentOn v a → IsOutside v.layout.slots t at
-    → AreShutNotes t page 64 v u → a.reads ≡ with_read u.reads at found → HasReopened t page 0 64 a w → AreLaterNotes t page k v w
-later_all t page at found k v u a w went out shut is open-now j few =
-    inr (inr (opened_again t page 64 j v u a w went shut few
-    (met_other u.reads a.reads at found (page_at v.layout.slots t j) is (λ same. out j few (sym same))) open-now))
+    → k.word ≡ at → AreShutNotes t page 64 v u → a.reads ≡ with_read u.reads at found → HasReopened t page 0 64 a w
+    → AreLaterNotes t page k v w
+later_all t page at found k v u a w went out word shut is open-now j few =
+    let o = opened_again t page 64 j v u a w went shut few
+    (met_other u.reads a.reads at found (page_at v.layout.slots t j) is (λ same. out j few (sym same))) open-now in
+    inr (inr (o.0, o.1, o.2, o.3, λ same. out j few (sym word ∙ same)))
 
 -- not: they stay shut
 pub shut_behind : (t page at n : ℕ) (v u w : View) → IsOutside v.layout.slots t at → AreShutNotes t page 64 v u

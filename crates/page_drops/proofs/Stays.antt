@@ -22,6 +22,7 @@ use Rattle.page_drops.specs.Visits.{OneHeight, TwoHeights, ThreeHeights, LeftAlo
 use Rattle.page_drops.specs.Visits.{IsNotedSo, IsNotedUnder, IsRootNode, IsRootTree, slot_here, slots_leaf, slots_middle}
 use Rattle.page_drops.specs.Visits.{slots_of, slots_root, slots_top, times}
 use Rattle.page_drops.specs.Works.{read_of, IsLeafCause}
+use Rattle.page_drops.proofs.Entries.{seen_same}
 
 -- ---- how often a slot is in a list
 
@@ -104,11 +105,16 @@ module _ (P : ℕ → Type 0) (v w : View) (g : Goes P v w) where
       subst (λ (ws : List ℕ). IsCauseOf inside w.layout.slots ws m.slot k m.at) (sym (words_stay m.page there))
       (subst (λ (l : Layout). IsCauseOf inside l.slots (page_words v.pages m.page) m.slot k m.at) (sym g.layout) (h k is))
 
-  pub leaf_stays : (m : MetLeaf) → IsLeafTree v m → IsLeafTree w m
-  leaf_stays m h = record {
+  pub leaf_stays : (m : MetLeaf) → Spares P v w (slots_leaf m) → IsLeafTree v m → IsLeafTree w m
+  leaf_stays m spare h = record {
     there = there_stays m.page h.there;
     cause = cause_stays IsLeafCause m h.there h.cause;
     below = h.below;
+    still = λ t j k slot kept once less word.
+        let s = spare t (own_slot (λ x. []) m t slot) once in
+        let here : k.word ≡ page_at v.layout.slots t j = word ∙ ap (λ (l : Layout). page_at l.slots t j) g.layout in
+        seen_same v.reads w.reads k.word (g.reads k.word (subst P (sym here) (s.1 j less)))
+        ∙ h.still t j k slot kept s.0 less here;
   }
 
   pub children_stay : {C : Type 0} → (m : Met (Met C)) → m.page ≤ length v.pages → AreChildren C v m → AreChildren C w m
@@ -143,7 +149,7 @@ module _ (P : ℕ → Type 0) (v w : View) (g : Goes P v w) where
   pub middle_stays : (m : MetMiddle) → Spares P v w (slots_middle m) → IsMiddleTree v m → IsMiddleTree w m
   middle_stays m spare h =
       inner_stays ⊤ IsLeafTree m (λ t slot once. spare t (own_slot slots_leaf m t slot) once)
-      (λ j c at tree. leaf_stays c tree) h
+      (λ j c at tree. leaf_stays c (λ t has once. spare t (below_slot slots_leaf m j c t at has) once) tree) h
 
   pub top_stays : (m : MetTop) → Spares P v w (slots_top m) → IsTopTree v m → IsTopTree w m
   top_stays m spare h =
@@ -163,7 +169,7 @@ module _ (P : ℕ → Type 0) (v w : View) (g : Goes P v w) where
     node_stays roots r m h.0,
     h.1,
     noted_stays m (subst P (sym (h.0).at) may) h.2,
-    leaf_stays m h.3,
+    leaf_stays m spare h.3,
   )
   root_stays roots r (TwoHeights m) may spare h = (
     node_stays roots r m h.0,

@@ -17,6 +17,7 @@ use Rattle.engine_pages.specs.declared.view.Read.{Read}
 use Rattle.engine_pages.specs.declared.view.View.{View}
 use Rattle.engine_pages.specs.Pointers.{half_of, page_half}
 use Rattle.engine_pages.specs.Slots.{left, other_ways}
+use Rattle.engine_pages.specs.Steps.{seen_at}
 use Rattle.page_drops.specs.declared.calls.Dropped.{Dropped}
 use Rattle.page_drops.specs.declared.noting.Kept.{Kept}
 use Rattle.page_drops.specs.declared.visits.Held.{Held}
@@ -27,6 +28,7 @@ use Rattle.page_drops.specs.Visits.{Met, HasTurnedAway, IsCauseOf, IsInnerTree, 
 use Rattle.page_drops.specs.Visits.{IsSightBefore, dropped_of, notes_of, slots_of}
 use Rattle.page_drops.specs.Works.{IsLeafCause, TellsAbove, read_of}
 use Rattle.page_drops.proofs.Counts.{counted_none}
+use Rattle.page_drops.proofs.Entries.{seen_of}
 use Rattle.page_drops.proofs.Holds.{in_left, in_over, in_then, over_in, without_first, ways_first}
 
 -- ---- pointers that weren't gone into
@@ -64,7 +66,8 @@ IsBareCause at (Some t) k = HasTurnedAway t k at
 -- so is what stands there of it
 abbrev pub BareTree : (B : Type 0) → (View → Met B → Type 0) → ℕ → Span → ℕ → View → Type 0
 BareTree B stands at sp page w =
-    (slot : Option ℕ) (note : KeptPage) → IsBareCause at slot note → stands w (bare_node B at sp page slot (Some note))
+    (slot : Option ℕ) (note : KeptPage) → IsBareCause at slot note → seen_at w.reads note.word ≡ Some note.seen
+    → stands w (bare_node B at sp page slot (Some note))
 
 -- and the counts with it
 abbrev pub CountsKept : Dropped → Kept → Dropped → Type 0
@@ -81,6 +84,13 @@ module _ (B : Type 0) (f : B → ℕ) (g : B → List KeptPage) (h : B → List 
 
   abbrev read : Read
   read = (keeps.read).0
+
+  -- it was last seen so
+  above_still : note.word ≡ at → note.seen ≡ k.seen → seen_at w.reads note.word ≡ Some note.seen
+  above_still word same =
+      ap (λ (n : ℕ). seen_at w.reads n) word
+      ∙ (seen_of w.reads at read (keeps.read).1
+      ∙ ap (λ (n : ℕ). let o : Option ℕ = Some n in o) ((keeps.read).2 ∙ sym same))
 
   -- where it was shut
   above_shut : k.why ≡ Locked → (k.word ≡ at) × (2 ^ 60 ≤ k.seen) → w.gone ≡ v.gone → Told
@@ -102,7 +112,7 @@ module _ (B : Type 0) (f : B → ℕ) (g : B → List KeptPage) (h : B → List 
             sight = (why, word, same ∙ sym seen, omega (arith, seen, high));
             before = subst (λ (y : KeptWhy). IsSightBefore y read) (sym why) tt;
           };
-          tree = tree None note (why, word, omega (arith, same, high));
+          tree = tree None note (why, word, omega (arith, same, high)) (above_still word same);
         };
         over = keeps.over;
         kept = (keeps.kept).is;
@@ -134,7 +144,8 @@ module _ (B : Type 0) (f : B → ℕ) (g : B → List KeptPage) (h : B → List 
             before = subst (λ (y : KeptWhy). IsSightBefore y read) (sym why) prior;
           };
           tree = tree (Some t) note
-              record { expected = e; why = why; word = word; led = half; other = λ one. cause.1 (sym same ∙ one) };
+              record { expected = e; why = why; word = word; led = half; other = λ one. cause.1 (sym same ∙ one) }
+              (above_still word same);
         };
         over = keeps.over;
         kept = (keeps.kept).is;
@@ -161,7 +172,12 @@ module _ (B : Type 0) (f : B → ℕ) (g : B → List KeptPage) (h : B → List 
 -- ---- trees without a page
 
 pub leaf_none : (at page : ℕ) (sp : Span) (w : View) → page ≤ length w.pages → IsLeafTree w (bare_node ⊤ at sp page None None)
-leaf_none at page sp w there = record { there = there; cause = λ k is. absurd (cc); below = refl }
+leaf_none at page sp w there = record {
+  there = there;
+  cause = λ k is. absurd (cc);
+  below = refl;
+  still = λ t j k slot kept once less word. absurd (cc);
+}
 
 -- a cause is one of any page
 bare_cause : (inside : ℕ → ℕ → List ℕ → KeptWhy → ℕ → ℕ → Type 0) (slots at : ℕ) (words : List ℕ) (slot : Option ℕ)
@@ -172,10 +188,12 @@ bare_cause inside slots at words (Some t) note k cause is =
     let same : note ≡ k = cc in inr (subst (λ (p : KeptPage). HasTurnedAway t p at) same cause)
 
 pub leaf_bare : (at page : ℕ) (sp : Span) (w : View) → page ≤ length w.pages → BareTree ⊤ IsLeafTree at sp page w
-leaf_bare at page sp w there slot note cause = record {
+leaf_bare at page sp w there slot note cause seen = record {
   there = there;
   cause = λ k is. bare_cause IsLeafCause w.layout.slots at (page_words w.pages page) slot note k cause is;
   below = refl;
+  still = λ t j k own kept once less word.
+      let same : note ≡ k = cc in subst (λ (p : KeptPage). seen_at w.reads p.word ≡ Some p.seen) same seen;
 }
 
 no_item : (C : Type 0) (j : ℕ) (c : Met C) → (let none : List (Met C) = [] in slice_get none j) ≡ Some c → ⊥
@@ -194,7 +212,7 @@ inner_none C tree at page sp w there = record {
 
 pub inner_bare : (C : Type 0) (tree : View → Met C → Type 0) (at page : ℕ) (sp : Span) (w : View) → page ≤ length w.pages
     → BareTree (Met C) (IsInnerTree C tree) at sp page w
-inner_bare C tree at page sp w there slot note cause = record {
+inner_bare C tree at page sp w there slot note cause seen = record {
   there = there;
   cause = λ k is. bare_cause IsInnerCause w.layout.slots at (page_words w.pages page) slot note k cause is;
   children = record {

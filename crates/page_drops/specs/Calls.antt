@@ -40,6 +40,7 @@ use Rattle.page_drops.specs.Works.{read_of, HasKept, IsOutside, SawMore}
 
 -- ---- between two pages
 
+-- the slots of the pages on a way
 abbrev pub slots_on : List Way → List ℕ
 slots_on [] = []
 slots_on (way ∷ path) = way.slot ∷ slots_on path
@@ -231,9 +232,11 @@ pub record IsNode (B : Type 0) (stands : View → Met B → Type 0) (sp : Span) 
 abbrev pub IsLeafNode : Span → ℕ → ℕ → View → MetLeaf → Type 0
 IsLeafNode sp page at w m = IsNode ⊤ IsLeafTree sp page at w m
 
+-- and of a pointer to a page over leaves
 abbrev pub IsMiddleNode : Span → ℕ → ℕ → View → MetMiddle → Type 0
 IsMiddleNode sp page at w m = IsNode MetLeaf IsMiddleTree sp page at w m
 
+-- and of one to a page over such pages
 abbrev pub IsTopNode : Span → ℕ → ℕ → View → MetTop → Type 0
 IsTopNode sp page at w m = IsNode MetMiddle IsTopTree sp page at w m
 
@@ -302,10 +305,12 @@ abbrev pub dropped_all : List MetRoot → ℕ
 dropped_all [] = 0
 dropped_all (m ∷ more) = dropped_root m + dropped_all more
 
+-- the notes of what was kept, root by root
 abbrev pub notes_all : List MetRoot → List KeptPage
 notes_all [] = []
 notes_all (m ∷ more) = notes_root m ++ notes_all more
 
+-- the slots that were left, root by root
 abbrev pub slots_all : List MetRoot → List ℕ
 slots_all [] = []
 slots_all (m ∷ more) = slots_root m ++ slots_all more

@@ -107,6 +107,7 @@ abbrev pub IsInnerCauseBelow : ℕ → ℕ → List ℕ → ℕ → ℕ → Kept
 IsInnerCauseBelow slots t words at before why word seen =
     IsInnerCause slots t words why word seen ⊎ ((word ≡ at) × (why ≡ Changed before) × (seen ≢ before))
 
+-- it noted that it keeps the page for one of these, and shut nothing more
 pub record KeepsInnerBelow (t page at before : ℕ) (k : Kept) (v w : View) : Type 0 where
   pub went : WentOn v w
   pub shuts : w.shuts ≡ v.shuts
@@ -123,12 +124,13 @@ pub record HasTurned (v w : View) : Type 0 where
 abbrev pub IsShutNote : Option ℕ → ℕ → Option Read → Type 0
 IsShutNote was child now = (r : Read) × (now ≡ Some r) × (r.seen ≡ child + 2 ^ 60) × (r.was ≡ was)
 
--- The entry of the word here, of a page that was kept for a word that was seen so: as it was; or that word is this, and
--- what was seen before it is told; or it was shut with the child's page, and opened again.
+-- The entry of the word here, of a page that was kept for a word that was seen so. Where that word is this one, its
+-- entry has it so still, and tells what was seen before; of another it is as it was, or it was shut with the child's
+-- page, and opened again.
 abbrev pub IsLaterNote : ℕ → ℕ → ℕ → ℕ → Option ℕ → Option Read → Option Read → Type 0
-IsLaterNote word seen at child was before now = (now ≡ before)
+IsLaterNote word seen at child was before now = ((now ≡ before) × (word ≢ at))
     ⊎ (((r : Read) × (now ≡ Some r) × (word ≡ at) × (r.seen ≡ seen) × (r.was ≡ was))
-    ⊎ ((r : Read) × (now ≡ Some r) × (r.seen ≡ child) × (r.was ≡ Some (child + 2 ^ 60))))
+    ⊎ ((r : Read) × (now ≡ Some r) × (r.seen ≡ child) × (r.was ≡ Some (child + 2 ^ 60)) × (word ≢ at)))
 
 -- so are those of the first pointers of the page in a slot, with the children that a snapshot page has
 abbrev pub AreShutNotes : ℕ → ℕ → ℕ → View → View → Type 0
@@ -136,6 +138,7 @@ AreShutNotes t page n v w = (j : ℕ) → j < n
     → IsShutNote (seen_at v.reads (page_at v.layout.slots t j)) (get_or (page_words v.pages page) j 0)
     (read_of w.reads (page_at v.layout.slots t j))
 
+-- so are those of all pointers of the page in a slot that is kept
 abbrev pub AreLaterNotes : ℕ → ℕ → Kept → View → View → Type 0
 AreLaterNotes t page k v w = (j : ℕ) → j < 64
     → IsLaterNote k.word k.seen (page_at v.layout.slots t j) (get_or (page_words v.pages page) j 0)
@@ -180,7 +183,8 @@ pub record CanDropInner (x : At) (sp : Span) (at t page word : ℕ) (v : View) :
   pub locks : v.seat.locks ≡ []
   pub shuts : v.shuts ≡ []
 
--- The pointer was left with the number of the snapshot page alone, and the slot is given up; nothing is shut.
+-- The pointer was left with the number of the snapshot page alone, and the view says what was seen of it before; the
+-- slot is given up, and nothing is shut.
 pub record HasDroppedInner (t at page : ℕ) (v w : View) : Type 0 where
   pub is : w ≡ record v {
     steps = w.steps;
@@ -197,4 +201,4 @@ pub record HasDroppedInner (t at page : ℕ) (v w : View) : Type 0 where
   }
   pub later : v.steps ≤ w.steps
   pub leads : (z : Lead) → Contains v.leads z → Contains w.leads z
-  pub led : (r : Read) × (read_of w.reads at ≡ Some r) × (r.seen ≡ page)
+  pub led : (r : Read) × (read_of w.reads at ≡ Some r) × (r.seen ≡ page) × (r.was ≡ seen_at v.reads at)

@@ -111,6 +111,16 @@ pub record HasOpened (t : ℕ) (sp : Span) (words : List ℕ) (j : ℕ) (v w : V
   pub moved : HasMoved v w
   pub row : (n : ℕ) → HasRow t sp words j (suc n) v → HasRow t sp words (suc j) n w
 
+-- what was last seen of other words than that of the record with this index is as it was
+abbrev pub KeepsSeenBut : ℕ → ℕ → View → View → Type 0
+KeepsSeenBut t j v w =
+    (word : ℕ) → (word ≡ page_at v.layout.slots t (2 * j) → ⊥) → seen_at w.reads word ≡ seen_at v.reads word
+
+-- the same of other words than those of the first records, so many
+abbrev pub KeepsSeen : ℕ → ℕ → View → View → Type 0
+KeepsSeen t n v w = (word : ℕ) → ((i : ℕ) → i < n → word ≡ page_at v.layout.slots t (2 * i) → ⊥)
+    → seen_at w.reads word ≡ seen_at v.reads word
+
 -- of the leaf's records, from this index on, it locked none meanwhile
 abbrev pub LocksNone : Span → ℕ → View → View → Type 0
 LocksNone sp j v w = (i : ℕ) → j ≤ i → takes 0 (key_in sp i) w ≡ takes 0 (key_in sp i) v
@@ -145,8 +155,8 @@ pub record CanDrop (x : At) (sp : Span) (at t page word : ℕ) (v : View) : Type
   pub locks : v.seat.locks ≡ []
   pub took : v.took ≡ []
 
--- The pointer, whose word is here, was left with the number of the snapshot page alone; the slot is given up, and
--- nothing is locked; no page more is noted as kept.
+-- The pointer, whose word is here, was left with the number of the snapshot page alone, and the view says what was seen
+-- of it before; the slot is given up, and nothing is locked; no page more is noted as kept.
 pub record HasDropped (t at page : ℕ) (v w : View) : Type 0 where
   pub is : w ≡ record v {
     steps = w.steps;
@@ -164,4 +174,4 @@ pub record HasDropped (t at page : ℕ) (v w : View) : Type 0 where
     shuts = other_shuts t v.shuts;
   }
   pub later : v.steps ≤ w.steps
-  pub led : (r : Read) × (read_of w.reads at ≡ Some r) × (r.seen ≡ page)
+  pub led : (r : Read) × (read_of w.reads at ≡ Some r) × (r.seen ≡ page) × (r.was ≡ seen_at v.reads at)

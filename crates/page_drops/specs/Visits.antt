@@ -13,6 +13,7 @@ use Rattle.engine_pages.specs.declared.view.View.{View}
 use Rattle.engine_pages.specs.Layout.{page_at, root_at}
 use Rattle.engine_pages.specs.Pages.{child_span, is_array, root_span}
 use Rattle.engine_pages.specs.Pointers.{half_of, page_half}
+use Rattle.engine_pages.specs.Steps.{seen_at}
 use Rattle.page_drops.specs.Inner.{IsInnerCause}
 use Rattle.page_drops.specs.Works.{read_of, IsLeafCause}
 
@@ -33,9 +34,11 @@ pub record Met (Below : Type 0) : Type 0 where
 abbrev pub MetLeaf : Type 0
 MetLeaf = Met ⊤
 
+-- what was met at a pointer to a page over leaves
 abbrev pub MetMiddle : Type 0
 MetMiddle = Met MetLeaf
 
+-- what was met at a pointer to a page over such pages
 abbrev pub MetTop : Type 0
 MetTop = Met MetMiddle
 
@@ -67,9 +70,11 @@ sum_met f (x ∷ xs) = f x + sum_met f xs
 abbrev pub dropped_of : {B : Type 0} → (B → ℕ) → Met B → ℕ
 dropped_of f m = sum_met f m.below + dropped_here m.slot m.kept
 
+-- the notes of the pages that were kept, those below before their own
 abbrev pub notes_of : {B : Type 0} → (B → List KeptPage) → Met B → List KeptPage
 notes_of f m = flat_map f m.below ++ note_here m.kept
 
+-- the slots that were left, those below before its own
 abbrev pub slots_of : {B : Type 0} → (B → List ℕ) → Met B → List ℕ
 slots_of f m = flat_map f m.below ++ slot_here m.slot
 
@@ -109,10 +114,12 @@ IsSightBefore Under r = ⊤
 IsSightBefore (Changed expected) r = r.was ≡ Some expected
 IsSightBefore Long r = ⊤
 
--- where the page was kept for that
-abbrev pub IsKeptBefore : Option KeptPage → Read → Type 0
-IsKeptBefore None r = ⊤
-IsKeptBefore (Some k) r = IsSightBefore k.why r
+-- where the page was kept for that; and of the pointer of a page that was dropped, that it led to the slot
+abbrev pub IsMetBefore : Option ℕ → Option KeptPage → Read → Type 0
+IsMetBefore None None r = ⊤
+IsMetBefore None (Some k) r = IsSightBefore k.why r
+IsMetBefore (Some t) None r = (n : ℕ) × (r.was ≡ Some n) × (half_of n ≡ Some t)
+IsMetBefore (Some t) (Some k) r = IsSightBefore k.why r
 
 -- the keys are those of a page so many heights above the leaves
 abbrev pub IsHigh : Span → ℕ → Type 0
@@ -123,19 +130,21 @@ pub record IsNotedSo {B : Type 0} (w : View) (m : Met B) : Type 0 where
   pub read : Read
   pub is : read_of w.reads m.at ≡ Some read
   pub sight : IsSight m.slot m.kept m.at m.page read.seen
-  pub before : IsKeptBefore m.kept read
+  pub before : IsMetBefore m.slot m.kept read
 
 -- it was seen so before
 abbrev pub WasSeenSo : {B : Type 0} → Met B → Read → Type 0
 WasSeenSo m r = (n : ℕ) × (r.was ≡ Some n) × IsSight m.slot m.kept m.at m.page n
 
--- What the view has of the word of a pointer in a page that was kept for this word: the same; or that word is the
--- pointer's, and it was seen so before; or it was found to lead to no slot and where the newest snapshot's page leads,
--- was shut, and opened again.
+-- What the view has of the word of a pointer in a page that was kept for this word. Where that word is the pointer's,
+-- the view has it so still, so it wasn't shut by the call, which opens again what it shuts; and it was seen as the
+-- pointer's before. Of another pointer it is the same; or it was found to lead to no slot and where the newest
+-- snapshot's page leads, was shut, and opened again.
 abbrev pub IsSightUnder : {B : Type 0} → KeptPage → Met B → Read → Type 0
-IsSightUnder k m r = (IsSight m.slot m.kept m.at m.page r.seen × IsKeptBefore m.kept r)
+IsSightUnder k m r = (IsSight m.slot m.kept m.at m.page r.seen × IsMetBefore m.slot m.kept r
+    × (k.word ≢ m.at))
     ⊎ (((k.word ≡ m.at) × (k.seen ≡ r.seen) × WasSeenSo m r)
-    ⊎ ((r.seen ≡ m.page) × (r.was ≡ Some (m.page + 2 ^ 60))))
+    ⊎ ((r.seen ≡ m.page) × (r.was ≡ Some (m.page + 2 ^ 60)) × (k.word ≢ m.at)))
 
 -- And of one in a page that was dropped: it was seen so, and found to lead to no slot and where the newest snapshot's
 -- page leads, and was shut.
@@ -177,17 +186,23 @@ pub record AreChildren (C : Type 0) (w : View) (m : Met (Met C)) : Type 0 where
 abbrev pub dropped_leaf : MetLeaf → ℕ
 dropped_leaf m = dropped_of (λ x. 0) m
 
+-- its note, if it was kept
 abbrev pub notes_leaf : MetLeaf → List KeptPage
 notes_leaf m = notes_of (λ x. []) m
 
+-- the slot that it led to, if it did
 abbrev pub slots_leaf : MetLeaf → List ℕ
 slots_leaf m = slots_of (λ x. []) m
 
--- the snapshot's page is there, and if the page was kept, for cause
+-- The snapshot's page is there, and if the page was kept, for cause. Where its slot was left once in the call, the word
+-- in it for which it was kept was last seen or left as it was then: so it wasn't locked by the call, which opens again
+-- what it locks of a page that it keeps.
 pub record IsLeafTree (w : View) (m : MetLeaf) : Type 0 where
   pub there : m.page ≤ length w.pages
   pub cause : HasCause IsLeafCause w m
   pub below : m.below ≡ []
+  pub still : (t j : ℕ) (k : KeptPage) → m.slot ≡ Some t → m.kept ≡ Some k → times t w.gone ≡ 1 → j < 64
+      → k.word ≡ page_at w.layout.slots t j → seen_at w.reads k.word ≡ Some k.seen
 
 -- The same of an interior page, and of what is below it. Where its slot was left once in the call, each pointer is
 -- noted.
@@ -203,12 +218,15 @@ pub record IsInnerTree (C : Type 0) (tree : View → Met C → Type 0) (w : View
 abbrev pub dropped_middle : MetMiddle → ℕ
 dropped_middle m = dropped_of dropped_leaf m
 
+-- the notes of it and of its leaves
 abbrev pub notes_middle : MetMiddle → List KeptPage
 notes_middle m = notes_of notes_leaf m
 
+-- the slots of it and of its leaves
 abbrev pub slots_middle : MetMiddle → List ℕ
 slots_middle m = slots_of slots_leaf m
 
+-- a page over leaves with what was met below it
 abbrev pub IsMiddleTree : View → MetMiddle → Type 0
 IsMiddleTree w m = IsInnerTree ⊤ IsLeafTree w m
 
@@ -216,12 +234,15 @@ IsMiddleTree w m = IsInnerTree ⊤ IsLeafTree w m
 abbrev pub dropped_top : MetTop → ℕ
 dropped_top m = dropped_of dropped_middle m
 
+-- the notes of it and of all below it
 abbrev pub notes_top : MetTop → List KeptPage
 notes_top m = notes_of notes_middle m
 
+-- the slots of it and of all below it
 abbrev pub slots_top : MetTop → List ℕ
 slots_top m = slots_of slots_middle m
 
+-- a page over such pages with what was met below it
 abbrev pub IsTopTree : View → MetTop → Type 0
 IsTopTree w m = IsInnerTree MetLeaf IsMiddleTree w m
 
@@ -232,18 +253,21 @@ pub data MetRoot : Type 0 where
   ThreeHeights : MetTop → MetRoot
   LeftAlone : MetRoot
 
+-- how many pages of a storage were dropped
 abbrev pub dropped_root : MetRoot → ℕ
 dropped_root (OneHeight m) = dropped_leaf m
 dropped_root (TwoHeights m) = dropped_middle m
 dropped_root (ThreeHeights m) = dropped_top m
 dropped_root LeftAlone = 0
 
+-- the notes of its pages that were kept
 abbrev pub notes_root : MetRoot → List KeptPage
 notes_root (OneHeight m) = notes_leaf m
 notes_root (TwoHeights m) = notes_middle m
 notes_root (ThreeHeights m) = notes_top m
 notes_root LeftAlone = []
 
+-- the slots that were left of it
 abbrev pub slots_root : MetRoot → List ℕ
 slots_root (OneHeight m) = slots_leaf m
 slots_root (TwoHeights m) = slots_middle m
@@ -256,6 +280,7 @@ pub record IsRootNode {B : Type 0} (w : View) (roots : List ℕ) (r : ℕ) (m : 
   pub span : m.span ≡ root_span w.layout.decls r
   pub page : m.page ≡ get_or roots r 0
 
+-- what was met at the root with this index, by the height of its storage; a tree is left alone
 abbrev pub IsRootTree : View → List ℕ → ℕ → MetRoot → Type 0
 IsRootTree w roots r (OneHeight m) = IsRootNode w roots r m × IsHigh m.span 0 × IsNotedSo w m × IsLeafTree w m
 IsRootTree w roots r (TwoHeights m) = IsRootNode w roots r m × IsHigh m.span 1 × IsNotedSo w m × IsMiddleTree w m

@@ -14,7 +14,7 @@ use Rattle.engine_pages.specs.declared.view.Read.{Read}
 use Rattle.engine_pages.specs.declared.view.Touch.{Touch}
 use Rattle.engine_pages.specs.declared.view.View.{View}
 use Rattle.engine_pages.specs.Layout.{clock_at, page_at}
-use Rattle.engine_pages.specs.Steps.{glance, glanced}
+use Rattle.engine_pages.specs.Steps.{glance, glanced, seen_at}
 use Rattle.page_drops.specs.declared.noting.Kept.{Kept}
 
 -- The pass went on: it has what it had, but for what it saw, its locks of records, and the pages that it noted as kept.
@@ -116,6 +116,10 @@ KeepsLeaf t page k v w = KeepsIt (IsLeafCause v.layout.slots t (page_words v.pag
 abbrev pub KeepsBelow : ℕ → ℕ → ℕ → ℕ → Kept → View → View → Type 0
 KeepsBelow t page at before k v w =
     KeepsIt (IsCauseBelow v.layout.slots t (page_words v.pages page) at before) k v w
+
+-- the word for which the page was kept was last seen or left as it was then
+abbrev pub IsSeenStill : Kept → View → Type 0
+IsSeenStill k w = seen_at w.reads k.word ≡ Some k.seen
 
 -- ---- looks
 

@@ -2,7 +2,7 @@
 ghost use Rattle.std.specs.Prelude.{IfErr, OnOk};
 ghost use Rattle.engine_pages.specs.Passes.{view, IsPassOf};
 ghost use Rattle.page_drops.specs.Leaves.{CanDrop, HasDropped, MetOthers};
-ghost use Rattle.page_drops.specs.Works.{KeepsBelow, KeepsReadsBut, SawMore, TellsAbove};
+ghost use Rattle.page_drops.specs.Works.{IsSeenStill, KeepsBelow, KeepsReadsBut, SawMore, TellsAbove};
 
 use crate::leaves::{RECORDS, compare_leaf, lock_leaf, open_leaf};
 use crate::noting::Kept;
@@ -31,6 +31,7 @@ pub(crate) fn drop_leaf(
     ensures reads { KeepsReadsBut leaf.slot at (view pass.old) (view pass.new) }
     ensures more { SawMore (view pass.old) (view pass.new) }
     ensures met { IfErr result (λ k. MetOthers leaf.span leaf.slot k (view pass.old) (view pass.new)) }
+    ensures still { IfErr result (λ k. IsSeenStill k (view pass.new)) }
 {
     compare_leaf(engine, pass, leaf)?;
     lock_leaf(engine, pass, leaf)?;

@@ -3,8 +3,8 @@ ghost use Rattle.std.specs.Prelude.{◌≡◌, ◌+◌, ◌^◌, ◌<◌, ◌≤
 ghost use Rattle.engine_pages.specs.Passes.{view, IsPassOf};
 ghost use Rattle.engine_pages.specs.Resident.{array_word};
 ghost use Rattle.snapshot_store.specs.Places.{page as page_words};
-ghost use Rattle.page_drops.specs.Leaves.{AtLeaf, AreLow, HasComparedAll, HasMoved, HasRow, MetOthers};
-ghost use Rattle.page_drops.specs.Works.{KeepsLeaf, KeepsReads, SawAlone, SawMore};
+ghost use Rattle.page_drops.specs.Leaves.{AtLeaf, AreLow, HasComparedAll, HasMoved, HasRow, KeepsSeen, MetOthers};
+ghost use Rattle.page_drops.specs.Works.{IsSeenStill, KeepsLeaf, KeepsReads, SawAlone, SawMore};
 
 use crate::noting::Kept;
 use crate::records::{Leaf, compare, lock_record, open_record};
@@ -23,6 +23,7 @@ pub(crate) fn compare_leaf(engine: &Engine, pass: &mut Pass, leaf: Leaf) -> Resu
     ensures keeps { IfErr result (λ k. KeepsLeaf leaf.slot leaf.page k (view pass.old) (view pass.new)) }
     ensures reads { KeepsReads leaf.slot (view pass.old) (view pass.new) }
     ensures more { SawAlone (view pass.old) (view pass.new) }
+    ensures still { IfErr result (λ k. IsSeenStill k (view pass.new)) }
 {
     for index in 0..RECORDS {
         compare(engine, pass, leaf, index)?;
@@ -44,6 +45,7 @@ pub(crate) fn lock_leaf(engine: &Engine, pass: &mut Pass, leaf: Leaf) -> Result<
     ensures reads { KeepsReads leaf.slot (view pass.old) (view pass.new) }
     ensures more { SawMore (view pass.old) (view pass.new) }
     ensures met { IfErr result (λ k. MetOthers leaf.span leaf.slot k (view pass.old) (view pass.new)) }
+    ensures still { IfErr result (λ k. IsSeenStill k (view pass.new)) }
 {
     for index in 0..RECORDS {
         if let Err(kept) = lock_record(engine, pass, leaf, index) {
@@ -65,6 +67,7 @@ pub(crate) fn open_leaf(engine: &Engine, pass: &mut Pass, leaf: Leaf, count: u32
     ensures row { HasRow leaf.slot leaf.span (page_words (view pass.old).pages leaf.page) count 0 (view pass.new) }
     ensures reads { KeepsReads leaf.slot (view pass.old) (view pass.new) }
     ensures more { SawAlone (view pass.old) (view pass.new) }
+    ensures still { KeepsSeen leaf.slot count (view pass.old) (view pass.new) }
 {
     for index in 0..count {
         open_record(engine, pass, leaf, index);

@@ -6,8 +6,9 @@ ghost use Rattle.engine_pages.specs.Passes.{view, IsPassOf};
 ghost use Rattle.pointer_swings.specs.Swings.{key_in};
 ghost use Rattle.snapshot_store.specs.Places.{page as page_words};
 ghost use Rattle.page_drops.specs.Leaves.{AtLeaf, AreLow, HasCompared, HasFirst, HasMoved, HasOpened, HasRow};
-ghost use Rattle.page_drops.specs.Leaves.{LocksOne, MetOne};
-ghost use Rattle.page_drops.specs.Works.{HasGlanced, HasSeenLast, IsNoted, KeepsLeaf, KeepsReads, SawAlone, SawMore};
+ghost use Rattle.page_drops.specs.Leaves.{KeepsSeenBut, LocksOne, MetOne};
+ghost use Rattle.page_drops.specs.Works.{HasGlanced, HasSeenLast, IsNoted, IsSeenStill, KeepsLeaf, KeepsReads};
+ghost use Rattle.page_drops.specs.Works.{SawAlone, SawMore};
 
 use crate::noting::{Kept, note_kept};
 use engine_pages::{Engine, KeptWhy, Pass, load_resident};
@@ -85,6 +86,7 @@ pub(crate) fn compare(engine: &Engine, pass: &mut Pass, leaf: Leaf, index: u32) 
     ensures compares { OnOk result (HasCompared leaf.slot leaf.span
         (page_words (view pass.old).pages leaf.page) index (view pass.old) (view pass.new)) }
     ensures keeps { IfErr result (λ k. KeepsLeaf leaf.slot leaf.page k (view pass.old) (view pass.new)) }
+    ensures still { IfErr result (λ k. IsSeenStill k (view pass.new)) }
     ensures reads { KeepsReads leaf.slot (view pass.old) (view pass.new) }
     ensures more { SawAlone (view pass.old) (view pass.new) }
 {
@@ -143,6 +145,7 @@ pub(crate) fn lock_record(
     ensures more { SawMore (view pass.old) (view pass.new) }
     ensures own { OnOk result (LocksOne (key_in leaf.span index) (view pass.old) (view pass.new)) }
     ensures met { IfErr result (λ k. MetOne leaf.slot index k (view pass.old) (view pass.new)) }
+    ensures still { IfErr result (λ k. IsSeenStill k (view pass.new)) }
 {
     let number = word_of(engine, pass, leaf.page, 2 * index);
     let key = key_of(leaf, index);
@@ -174,6 +177,7 @@ pub(crate) fn open_record(engine: &Engine, pass: &mut Pass, leaf: Leaf, index: u
         (view pass.old) (view pass.new) }
     ensures reads { KeepsReads leaf.slot (view pass.old) (view pass.new) }
     ensures more { SawAlone (view pass.old) (view pass.new) }
+    ensures still { KeepsSeenBut leaf.slot index (view pass.old) (view pass.new) }
 {
     let number = word_of(engine, pass, leaf.page, 2 * index);
     let key = key_of(leaf, index);

@@ -10,7 +10,7 @@ use Rattle.page_drops.proofs.Drops.{can_swing, dropped_now, held_row, keeps_arou
 use Rattle.page_drops.proofs.Drops.{layout_kept, not_swung, saw_other, swung_now, swung_reads, words_worked}
 use Rattle.page_drops.proofs.Looks.{last_seen, layout_worked, leaf_worked, worked_then}
 use Rattle.page_drops.proofs.Notes.{keeper_active}
-use Rattle.page_drops.proofs.Entries.{reads_around, reads_but, reads_then, tells_changed, tells_leaf}
+use Rattle.page_drops.proofs.Entries.{reads_around, reads_but, reads_then, seen_same, still_above, tells_changed, tells_leaf}
 use Rattle.page_drops.proofs.Others.{met_alone, met_pointer, met_then}
 use Rattle.page_drops.proofs.Sights.{saw_noted, saw_read, saw_swung, saw_then}
 use Rattle.page_drops.proofs.Wholes.{keeps_below, keeps_then, kept_row, low_worked, row_words}
@@ -184,10 +184,13 @@ returns-clause-drops c =
     let moves = c.in_ok-lock_leaf.ensures.moves in
     let first = compares.looked.later in
     let second = moves.later in
+    let both = reads_then c.args.leaf.slot v a u (layout_worked v a compares.looked.worked) c.compare_leaf.ensures.reads
+    c.lock_leaf.ensures.reads in
     dropped_now c.args.leaf.slot c.args.at c.args.leaf.page c.swing-found.result v a u w (view c.retire.new.pass)
     (worked_then v a u compares.looked.worked moves.worked) (omega arith) (moves.kept ∙ compares.looked.kept)
     (swung_now c.args.leaf.slot c.args.at c.args.leaf.page c.args.word c.swing-found.result u w c.if-found-word.false
     c.swing-found.ensures.swings) c.retire.ensures.retires
+    (seen_same v.reads u.reads c.args.at (both c.args.at c.requires.drop.apart))
 
 pub returns-in_err-compare_leaf-clause-tells : goal.returns-in_err-compare_leaf-clause-tells
 returns-in_err-compare_leaf-clause-tells c =
@@ -331,3 +334,20 @@ pub returns-then-found-word-clause-met : goal.returns-then-found-word-clause-met
 returns-then-found-word-clause-met c =
     met_pointer c.args.leaf.slot c.args.at c.swing-found.result c.args.word c.args.leaf.span c.keep-kept.result
     (view c.args.pass.now) (view c.open_leaf.new.pass) c.keep-kept.ensures.is
+
+pub returns-in_err-compare_leaf-clause-still : goal.returns-in_err-compare_leaf-clause-still
+returns-in_err-compare_leaf-clause-still c =
+    let p = err_from_is_err_and c.from_residual.result c.from_residual.ensures.1 in
+    let told : c.from_residual.result ≡ Err c.in_err-compare_leaf.field-0.0 = let a = p.1 in let b = p.2 in cc in
+    rw told c.in_err-compare_leaf.ensures.still
+
+pub returns-in_err-lock_leaf-clause-still : goal.returns-in_err-lock_leaf-clause-still
+returns-in_err-lock_leaf-clause-still c =
+    let p = err_from_is_err_and c.from_residual-in_err-lock_leaf.result c.from_residual-in_err-lock_leaf.ensures.1 in
+    let told : c.from_residual-in_err-lock_leaf.result ≡ Err c.in_err-lock_leaf.field-0.0 = let a = p.1 in let b = p.2 in cc in
+    rw told c.in_err-lock_leaf.ensures.still
+
+pub returns-then-found-word-clause-still : goal.returns-then-found-word-clause-still
+returns-then-found-word-clause-still c =
+    still_above c.args.at c.args.word c.swing-found.result c.keep-kept.result (view c.args.pass.now)
+    (view c.open_leaf.new.pass) c.keep-kept.ensures.is (returns-then-found-word-clause-tells c)

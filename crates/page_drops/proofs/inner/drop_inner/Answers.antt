@@ -6,7 +6,7 @@ use Rattle.engine_pages.specs.declared.view.View.{View}
 use Rattle.engine_pages.specs.Passes.{view}
 use Rattle.page_drops.proofs.Drops.{may_retire, swung_now}
 use Rattle.page_drops.proofs.InnerFacts.{inside_went}
-use Rattle.page_drops.proofs.Entries.{reads_but}
+use Rattle.page_drops.proofs.Entries.{reads_but, seen_same}
 use Rattle.page_drops.proofs.InnerWholes.{can_swing_inner, inner_below, inner_dropped, inner_found, keeps_found, keeps_turned}
 use Rattle.page_drops.proofs.InnerWholes.{kept_tells, missed_later, missed_reads, missed_tells, row_then, swung_notes, swung_reads}
 use Rattle.page_drops.proofs.Inners.{inner_went, last_found, went_then}
@@ -128,6 +128,7 @@ returns-clause-drops c =
     (view c.retire.new.pass) c.in_ok-shut_page.ensures.turns
     (swung_now c.args.page.slot c.args.at c.args.page.page c.args.word c.swing-found.result u w c.if-found-word.false
     c.swing-found.ensures.swings) c.retire.ensures.retires c.requires.drop.shuts c.in_ok-shut_page.ensures.row
+    (seen_same (view c.args.pass.now).reads u.reads c.args.at (c.shut_page.ensures.reads c.args.at c.requires.drop.apart))
 
 pub returns-in_err-shut_page-clause-tells : goal.returns-in_err-shut_page-clause-tells
 returns-in_err-shut_page-clause-tells c =
@@ -174,6 +175,7 @@ returns-then-found-word-clause-later c =
     missed_later c.args.page.slot c.args.page.page c.args.at c.args.word c.swing-found.result c.keep-kept.result v u
     (view c.swing-found.new.pass) a (view c.open_page.new.pass) went c.in_ok-shut_page.ensures.notes c.if-found-word.true
     c.swing-found.ensures.swings c.keep-kept.ensures.notes c.open_page.ensures.reads c.requires.drop.apart
+    c.keep-kept.ensures.is
 
 pub returns-then-found-word-clause-reads : goal.returns-then-found-word-clause-reads
 returns-then-found-word-clause-reads c =

@@ -61,3 +61,9 @@ returns-in_err-compare-clause-more c =
 
 pub returns-clause-more : goal.returns-clause-more
 returns-clause-more c = c.loop-index.invariant.more
+
+pub returns-in_err-compare-clause-still : goal.returns-in_err-compare-clause-still
+returns-in_err-compare-clause-still c =
+    let p = err_from_is_err_and c.from_residual.result c.from_residual.ensures.1 in
+    let told : c.from_residual.result ≡ Err c.in_err-compare.field-0.0 = let a = p.1 in let b = p.2 in cc in
+    rw told c.in_err-compare.ensures.still

@@ -3,9 +3,9 @@ use Rattle.engine_pages.specs.Passes.{view}
 use Rattle.snapshot_store.specs.Places.{page as page_words}
 use Rattle.pointer_swings.specs.Swings.{key_in}
 use Rattle.page_drops.specs.Leaves.{HasMoved, HasRow, LocksOne, MetOne}
-use Rattle.page_drops.specs.Works.{IsLeafCause, KeepsLeaf}
+use Rattle.page_drops.specs.Works.{IsLeafCause, IsSeenStill, KeepsLeaf}
 use Rattle.page_drops.proofs.Looks.{layout_worked, leaf_worked, worked_then}
-use Rattle.page_drops.proofs.Entries.{reads_self, reads_then}
+use Rattle.page_drops.proofs.Entries.{reads_self, reads_then, still_behind}
 use Rattle.page_drops.proofs.Others.{met_others, next_free, none_locked}
 use Rattle.page_drops.proofs.Sights.{saw_self, saw_then}
 use Rattle.page_drops.proofs.Wholes.{all_locked, err_told, keeps_opened, kept_row, low_worked, moved_self, moved_then, next_locked}
@@ -139,3 +139,16 @@ returns-in-Err-clause-met c =
     c.lock_record.ensures.met c.in-Err.is in
     met_others c.args.leaf.slot c.loop-index.index c.args.leaf.span c.in-Err.kept v u w (view c.open_leaf.new.pass)
     (layout_worked v u c.loop-index.invariant.moved.worked) c.loop-index.invariant.free met c.open_leaf.ensures.more
+
+pub returns-in-Err-clause-still : goal.returns-in-Err-clause-still
+returns-in-Err-clause-still c =
+    let u = view c.loop-index.pass in
+    let w = view c.lock_record.new.pass in
+    let kept = err_told c.lock_record.result (λ k. KeepsLeaf c.args.leaf.slot c.args.leaf.page k u w) c.in-Err.kept
+    c.lock_record.ensures.keeps c.in-Err.is in
+    let met = err_told c.lock_record.result (λ k. MetOne c.args.leaf.slot c.loop-index.index k u w) c.in-Err.kept
+    c.lock_record.ensures.met c.in-Err.is in
+    still_behind c.args.leaf.slot c.loop-index.index c.in-Err.kept u w (view c.open_leaf.new.pass)
+    (layout_worked u w kept.worked) met.0
+    (err_told c.lock_record.result (λ k. IsSeenStill k w) c.in-Err.kept c.lock_record.ensures.still c.in-Err.is)
+    c.open_leaf.ensures.still

@@ -2,7 +2,7 @@ use Rattle.std.proofs.Common.{arith}
 use Rattle.engine_pages.specs.Passes.{view}
 use Rattle.snapshot_store.specs.Places.{page as page_words}
 use Rattle.page_drops.proofs.Looks.{layout_worked, leaf_worked}
-use Rattle.page_drops.proofs.Entries.{reads_self, reads_then}
+use Rattle.page_drops.proofs.Entries.{reads_self, reads_then, still_most, still_next, still_self}
 use Rattle.page_drops.proofs.Sights.{alone_self, alone_then}
 use Rattle.page_drops.proofs.Wholes.{all_opened, moved_self, moved_then, next_first, next_opened, none_open}
 use Rattle.page_drops.proofs.leaves.open_leaf.Goals as goal
@@ -15,6 +15,7 @@ loop-index-init c = record {
       (view c.args.pass.now) c.requires.row;
   reads = reads_self c.args.leaf.slot (view c.args.pass.now);
   more = alone_self (view c.args.pass.now);
+  still = still_self c.args.leaf.slot (view c.args.pass.now);
 }
 
 pub open_record-requires-clause-at : goal.open_record-requires-clause-at
@@ -42,6 +43,10 @@ loop-index-preserved c = record {
       (layout_worked (view c.args.pass.now) (view c.loop-index.pass) c.loop-index.invariant.moved.worked) c.loop-index.invariant.reads c.open_record.ensures.reads;
   more = alone_then (view c.args.pass.now) (view c.loop-index.pass) (view c.open_record.new.pass) c.loop-index.invariant.more
       c.open_record.ensures.more;
+  still = still_next c.args.leaf.slot c.loop-index.index (view c.args.pass.now) (view c.loop-index.pass)
+      (view c.open_record.new.pass)
+      (layout_worked (view c.args.pass.now) (view c.loop-index.pass) c.loop-index.invariant.moved.worked)
+      c.loop-index.invariant.still c.open_record.ensures.still;
 }
 
 pub returns-clause-moves : goal.returns-clause-moves
@@ -58,3 +63,8 @@ returns-clause-reads c = c.loop-index.invariant.reads
 
 pub returns-clause-more : goal.returns-clause-more
 returns-clause-more c = c.loop-index.invariant.more
+
+pub returns-clause-still : goal.returns-clause-still
+returns-clause-still c =
+    still_most c.args.leaf.slot c.loop-index.index c.args.count (view c.args.pass.now) (view c.loop-index.pass)
+    (let most = c.loop-index.auto.index-end in omega (arith, most)) c.loop-index.invariant.still

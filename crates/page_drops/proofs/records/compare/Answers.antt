@@ -1,6 +1,7 @@
-use Rattle.std.proofs.Common.{◌≡◌, ◌+◌, ◌*◌, ◌<◌, ◌∙◌, refl, subst, arith}
+use Rattle.std.proofs.Common.{◌≡◌, ◌+◌, ◌*◌, ◌<◌, ◌∙◌, ap, refl, subst, arith}
 use Rattle.engine_pages.specs.declared.layout.Layout.{Layout}
 use Rattle.engine_pages.specs.declared.view.KeptWhy.TheVariants.{Locked, Unlike}
+use Rattle.engine_pages.specs.declared.view.View.{View}
 use Rattle.engine_pages.specs.Passes.{view}
 use Rattle.engine_pages.specs.Words.{spot}
 use Rattle.snapshot_store.specs.Places.{page as page_words}
@@ -8,7 +9,7 @@ use Rattle.page_records.specs.Reads.{Confirmed, Saw}
 use Rattle.page_drops.proofs.CompareFacts.{found_here, is_locked, is_unlike, is_valued, keeps_leaf, ready, word_here, word_then}
 use Rattle.page_drops.proofs.Compares.{compared, confirmed_it, saw_it, valued_it}
 use Rattle.page_drops.proofs.Looks.{glanced_looked, glanced_then, last_seen, leaf_worked}
-use Rattle.page_drops.proofs.Entries.{reads_confirmed, reads_noted, reads_seen, reads_valued}
+use Rattle.page_drops.proofs.Entries.{reads_confirmed, reads_noted, reads_seen, reads_valued, saw_reads, still_noted}
 use Rattle.page_drops.proofs.Sights.{alone_confirmed, alone_glanced, alone_noted, alone_seen, alone_valued}
 use Rattle.page_drops.proofs.records.compare.Goals as goal
 
@@ -517,3 +518,39 @@ returns-clause-more c =
     c.load_value-found.result v (view c.see-word.new.pass) (view c.load_value-found.new.pass) seen c.load_value-found.ensures.loads in
     alone_confirmed c.key_of-key.result (spot c.args.leaf.slot c.args.index) c.word_at-at.result c.confirm-again.result v
     (view c.load_value-found.new.pass) (view c.confirm-again.new.pass) loaded c.confirm-again.ensures.confirms
+
+pub returns-then-word-ge-LOCK-clause-still : goal.returns-then-word-ge-LOCK-clause-still
+returns-then-word-ge-LOCK-clause-still c =
+    let u = view c.word_of-value.new.pass in
+    let w = view c.see-word.new.pass in
+    still_noted c.word_at-at.result c.see-word.result Locked c.keep-locked.result u w (view c.keep-locked.new.pass)
+    c.keep-locked.ensures.is
+    (saw_reads c.key_of-key.result (spot c.args.leaf.slot c.args.index) c.word_at-at.result c.see-word.result u w
+    c.see-word.ensures.sees) c.keep-locked.ensures.notes
+
+pub returns-then-word-number-clause-still : goal.returns-then-word-number-clause-still
+returns-then-word-number-clause-still c =
+    let u = view c.word_of-value.new.pass in
+    let w = view c.see-word.new.pass in
+    still_noted c.word_at-at.result c.see-word.result Unlike c.keep-other.result u w (view c.keep-other.new.pass)
+    c.keep-other.ensures.is
+    (saw_reads c.key_of-key.result (spot c.args.leaf.slot c.args.index) c.word_at-at.result c.see-word.result u w
+    c.see-word.ensures.sees) c.keep-other.ensures.notes
+
+pub returns-then-found-value-clause-still : goal.returns-then-found-value-clause-still
+returns-then-found-value-clause-still c =
+    still_noted (c.word_at-at.result + 1) c.load_value-found.result Unlike c.keep-valued.result (view c.see-word.new.pass)
+    (view c.load_value-found.new.pass) (view c.keep-valued.new.pass) c.keep-valued.ensures.is
+    (ap (λ (z : View). z.reads) c.load_value-found.ensures.loads) c.keep-valued.ensures.notes
+
+pub returns-then-again-ge-LOCK-clause-still : goal.returns-then-again-ge-LOCK-clause-still
+returns-then-again-ge-LOCK-clause-still c =
+    still_noted c.word_at-at.result c.confirm-again.result Locked c.keep-taken.result (view c.load_value-found.new.pass)
+    (view c.confirm-again.new.pass) (view c.keep-taken.new.pass) c.keep-taken.ensures.is
+    (ap (λ (z : View). z.reads) c.confirm-again.ensures.confirms.is) c.keep-taken.ensures.notes
+
+pub returns-then-again-number-clause-still : goal.returns-then-again-number-clause-still
+returns-then-again-number-clause-still c =
+    still_noted c.word_at-at.result c.confirm-again.result Unlike c.keep-newer.result (view c.load_value-found.new.pass)
+    (view c.confirm-again.new.pass) (view c.keep-newer.new.pass) c.keep-newer.ensures.is
+    (ap (λ (z : View). z.reads) c.confirm-again.ensures.confirms.is) c.keep-newer.ensures.notes

@@ -9,7 +9,7 @@ use Rattle.pointer_swings.specs.Swings.{key_in}
 use Rattle.page_drops.proofs.CompareFacts.{found_here, is_locked, is_unlike, keeps_leaf, ready, word_here}
 use Rattle.page_drops.proofs.Locks.{locked_now, not_locked}
 use Rattle.page_drops.proofs.Looks.{glanced_looked, last_seen, leaf_worked}
-use Rattle.page_drops.proofs.Entries.{reads_locked, reads_noted}
+use Rattle.page_drops.proofs.Entries.{missed_lock, reads_locked, reads_noted, still_noted}
 use Rattle.page_drops.proofs.Others.{locks_one, met_one}
 use Rattle.page_drops.proofs.Sights.{saw_glanced, saw_locked, saw_noted}
 use Rattle.page_drops.proofs.records.lock_record.Goals as goal
@@ -236,3 +236,26 @@ returns-clause-own c =
     locks_one c.key_of-key.result (key_in c.args.leaf.span c.args.index) (spot c.args.leaf.slot c.args.index) c.word_at-at.result
     c.word_of-number.result c.lock-found.result v u (view c.lock-found.new.pass) c.key_of-key.ensures keeper
     c.if-found-number.false c.word_of-number.ensures.glances c.lock-found.ensures.locks
+
+pub returns-then-found-ge-LOCK-clause-still : goal.returns-then-found-ge-LOCK-clause-still
+returns-then-found-ge-LOCK-clause-still c =
+    let u = view c.word_of-number.new.pass in
+    let w = view c.lock-found.new.pass in
+    let low = c.requires.low c.args.index c.requires.index in
+    let is = c.word_of-number.ensures.word in
+    let high = c.if-found-ge-LOCK.true in
+    still_noted c.word_at-at.result c.lock-found.result Locked c.keep-locked.result u w (view c.keep-locked.new.pass)
+    c.keep-locked.ensures.is
+    (missed_lock c.word_at-at.result c.word_of-number.result c.lock-found.result c.key_of-key.result
+    (spot c.args.leaf.slot c.args.index) u w (λ e. absurd (omega (arith, e, low, is, high))) c.lock-found.ensures.locks)
+    c.keep-locked.ensures.notes
+
+pub returns-then-found-number-clause-still : goal.returns-then-found-number-clause-still
+returns-then-found-number-clause-still c =
+    let u = view c.word_of-number.new.pass in
+    let w = view c.lock-found.new.pass in
+    still_noted c.word_at-at.result c.lock-found.result Unlike c.keep-other.result u w (view c.keep-other.new.pass)
+    c.keep-other.ensures.is
+    (missed_lock c.word_at-at.result c.word_of-number.result c.lock-found.result c.key_of-key.result
+    (spot c.args.leaf.slot c.args.index) u w c.if-found-number.true c.lock-found.ensures.locks)
+    c.keep-other.ensures.notes

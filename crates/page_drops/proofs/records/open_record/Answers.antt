@@ -6,7 +6,7 @@ use Rattle.snapshot_store.specs.Places.{page as page_words}
 use Rattle.page_drops.proofs.CompareFacts.{found_here, ready, word_here}
 use Rattle.page_drops.proofs.Locks.{can_open, opened_now}
 use Rattle.page_drops.proofs.Looks.{glanced_looked, leaf_worked}
-use Rattle.page_drops.proofs.Entries.{reads_opened}
+use Rattle.page_drops.proofs.Entries.{reads_opened, still_opened}
 use Rattle.page_drops.proofs.Sights.{alone_glanced, alone_opened}
 use Rattle.page_drops.proofs.records.open_record.Goals as goal
 
@@ -63,3 +63,12 @@ returns-clause-more c =
     let u = view c.word_of-number.new.pass in
     alone_opened c.key_of-key.result c.word_at-at.result c.word_of-number.result v u (view c.open_again.new.pass)
     (alone_glanced v u c.word_of-number.ensures.glances) c.open_again.ensures.opens
+
+pub returns-clause-still : goal.returns-clause-still
+returns-clause-still c =
+    let v = view c.args.pass.now in
+    let u = view c.word_of-number.new.pass in
+    let place = word_here c.args.engine.now c.args.pass.now c.args.leaf.slot (2 * c.args.index) c.word_at-at.result c.requires.of
+    c.word_at-at.ensures in
+    still_opened c.args.leaf.slot c.args.index c.word_at-at.result c.word_of-number.result c.key_of-key.result v u
+    (view c.open_again.new.pass) place c.word_of-number.ensures.glances c.open_again.ensures.opens

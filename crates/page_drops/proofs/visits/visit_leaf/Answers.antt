@@ -43,4 +43,5 @@ returns-in-Ok-Some-clause-visits c =
     (view c.hold.new.pass) (cc) c.in-Ok-Some.ensures.holds) c.drop_leaf-result.ensures.more
     c.drop_leaf-result.ensures.reads c.let_go.ensures.lets_go c.leave.ensures.leaves c.drop_leaf-result.result
     c.drop_leaf-result.ensures.drops c.drop_leaf-result.ensures.keeps c.drop_leaf-result.ensures.tells
+    c.drop_leaf-result.ensures.still
     c.and.ensures.drops c.and.ensures.keeps

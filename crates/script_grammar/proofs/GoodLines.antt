@@ -14,8 +14,8 @@ use Rattle.serial_model.specs.declared.op.Op.{Op}
 use Rattle.script_grammar.specs.declared.fault.FaultKind.{FaultKind}
 use Rattle.script_grammar.specs.declared.fault.FaultKind.TheVariants.{Word, Number, Declared, Kind, Range}
 use Rattle.script_grammar.specs.declared.lines.KeeperLine.{KeeperLine}
-use Rattle.script_grammar.specs.declared.lines.KeeperLine.TheVariants.{Epoch, Save, Glean}
-use Rattle.script_grammar.specs.Script.{Bytes, Line, Worker, Keeper, IsAsked, op_text, keeper_text}
+use Rattle.script_grammar.specs.declared.lines.KeeperLine.TheVariants.{Epoch, Save, Glean, Drop}
+use Rattle.script_grammar.specs.Script.{Bytes, Line, Worker, Keeper, op_text, keeper_text}
 use Rattle.script_grammar.specs.Words.{passes, words, number_in, is_no_number, is_word, is_join, is_keeper_line, is_worker_line, worker_word, op_parts}
 use Rattle.script_grammar.specs.Reading.{Parts, is_fresh, may_declare, may_run, with_join, ops_in, line_at, decl_at, step}
 use Rattle.script_grammar.specs.Faults.{LinePlace, place_after, begins_with, is_decl_shape, op_is, some_op_is, is_too_long, has_no_shape, lacks_number, is_too_many, is_misdeclared, is_of_other_kind, is_out_of_range, kind_of}
@@ -271,18 +271,21 @@ taken_decl p line short good =
     (record p { decls = p.decls ++ good.is ∷ [] }, ap (step p) t.0 ∙ decl_step_at p good.is t.1 (subst IsShort t.0 short) good.room)
 
 -- a line of the maintenance thread
-taken_asked : (p : Parts) (line : Bytes) (asked : KeeperLine) → IsAsked asked → IsShort line → nat_le 65536 (length p.lines) ≡ false → line ≡ keeper_text asked → IsTaken p line
-taken_asked p line asked is short few e =
+taken_asked : (p : Parts) (line : Bytes) (asked : KeeperLine) → IsShort line → nat_le 65536 (length p.lines) ≡ false → line ≡ keeper_text asked → IsTaken p line
+taken_asked p line asked short few e =
     let room : nat_lt (length p.lines) 65536 ≡ true = lt-ltb (length p.lines) 65536 (leb-false 65536 (length p.lines) few) in
-    (record p { lines = p.lines ++ Keeper asked ∷ [] }, ap (step p) e ∙ line_step_at p (Keeper asked) is (subst IsShort e short) room)
+    (record p { lines = p.lines ++ Keeper asked ∷ [] }, ap (step p) e ∙ line_step_at p (Keeper asked) tt (subst IsShort e short) room)
 
 taken_keeper : (p : Parts) (line : Bytes) → IsShort line → is_keeper_line line ≡ true → nat_le 65536 (length p.lines) ≡ false → IsTaken p line
 taken_keeper p line short keeper few =
-    elim (or_cases (is_word (codes "k epoch") line) (is_word (codes "k save") line || is_word (codes "k glean") line) keeper) [
-      | inl epoch ↦ taken_asked p line Epoch tt short few (same_text line (codes "k epoch") (sym epoch))
-      | inr later ↦ elim (or_cases (is_word (codes "k save") line) (is_word (codes "k glean") line) later) [
-        | inl save ↦ taken_asked p line Save tt short few (same_text line (codes "k save") (sym save))
-        | inr glean ↦ taken_asked p line Glean tt short few (same_text line (codes "k glean") (sym glean))
+    elim (or_cases (is_word (codes "k epoch") line) (is_word (codes "k save") line || (is_word (codes "k glean") line || is_word (codes "k drop") line)) keeper) [
+      | inl epoch ↦ taken_asked p line Epoch short few (same_text line (codes "k epoch") (sym epoch))
+      | inr later ↦ elim (or_cases (is_word (codes "k save") line) (is_word (codes "k glean") line || is_word (codes "k drop") line) later) [
+        | inl save ↦ taken_asked p line Save short few (same_text line (codes "k save") (sym save))
+        | inr last ↦ elim (or_cases (is_word (codes "k glean") line) (is_word (codes "k drop") line) last) [
+          | inl glean ↦ taken_asked p line Glean short few (same_text line (codes "k glean") (sym glean))
+          | inr drop ↦ taken_asked p line Drop short few (same_text line (codes "k drop") (sym drop))
+        ]
       ]
     ]
 

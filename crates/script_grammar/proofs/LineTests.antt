@@ -14,7 +14,7 @@ use Rattle.serial_model.specs.declared.op.Op.{Op}
 use Rattle.script_grammar.specs.declared.fault.FaultKind.TheVariants.{Word, Number, Declared, Kind, Range}
 use Rattle.script_grammar.specs.declared.lines.KeeperLine.{KeeperLine}
 use Rattle.script_grammar.specs.declared.lines.KeeperLine.TheVariants.{Epoch, Save, Glean, Drop}
-use Rattle.script_grammar.specs.Script.{Bytes, Line, Worker, Keeper, IsAsked, Round, op_text, keeper_text, line_text, decl_text}
+use Rattle.script_grammar.specs.Script.{Bytes, Line, Worker, Keeper, Round, op_text, keeper_text, line_text, decl_text}
 use Rattle.script_grammar.specs.Words.{passes, words, number_in, is_no_number, is_join, is_keeper_line, is_worker_line, op_parts}
 use Rattle.script_grammar.specs.Reading.{Parts, is_fresh, may_declare, may_run, may_follow, with_join}
 use Rattle.script_grammar.specs.Faults.{LinePlace, place_after, place_past, declared_by, is_decl_shape, op_is, some_op_is, is_too_long, has_no_shape, lacks_number, is_too_many, is_misdeclared, is_of_other_kind, is_out_of_range, kind_of}
@@ -101,12 +101,12 @@ past_line p line l one =
     (ap (λ (n : ℕ). stands p.decls true n) (sym (length-append p.lines (l ∷ []))) ∙ ap (λ (b : Bool). stands p.decls (not b) (length (p.lines ++ l ∷ []))) (sym begun))
 
 -- behind a line of the maintenance thread that may come here stands the next one
-passes_keeper : (p : Parts) (asked : KeeperLine) → IsAsked asked → nat_lt (length p.lines) 65536 ≡ true → Passes p (keeper_text asked) (record p { lines = p.lines ++ Keeper asked ∷ [] })
+passes_keeper : (p : Parts) (asked : KeeperLine) → nat_lt (length p.lines) 65536 ≡ true → Passes p (keeper_text asked) (record p { lines = p.lines ++ Keeper asked ∷ [] })
 unfolding kind_of is_too_long has_no_shape lacks_number is_too_many is_misdeclared is_of_other_kind is_out_of_range is_decl_shape
-passes_keeper p Epoch is room = record { kind = rw (lt-leb 65536 (length p.lines) (ltb-true _ _ room)) refl; past = past_line p (codes "k epoch") (Keeper Epoch) refl }
-passes_keeper p Save is room = record { kind = rw (lt-leb 65536 (length p.lines) (ltb-true _ _ room)) refl; past = past_line p (codes "k save") (Keeper Save) refl }
-passes_keeper p Glean is room = record { kind = rw (lt-leb 65536 (length p.lines) (ltb-true _ _ room)) refl; past = past_line p (codes "k glean") (Keeper Glean) refl }
-passes_keeper p Drop is room = absurd is
+passes_keeper p Epoch room = record { kind = rw (lt-leb 65536 (length p.lines) (ltb-true _ _ room)) refl; past = past_line p (codes "k epoch") (Keeper Epoch) refl }
+passes_keeper p Save room = record { kind = rw (lt-leb 65536 (length p.lines) (ltb-true _ _ room)) refl; past = past_line p (codes "k save") (Keeper Save) refl }
+passes_keeper p Glean room = record { kind = rw (lt-leb 65536 (length p.lines) (ltb-true _ _ room)) refl; past = past_line p (codes "k glean") (Keeper Glean) refl }
+passes_keeper p Drop room = record { kind = rw (lt-leb 65536 (length p.lines) (ltb-true _ _ room)) refl; past = past_line p (codes "k drop") (Keeper Drop) refl }
 
 -- behind a line that may come here stands the next one
 pub passes_line : (p : Parts) (l : Line) → IsSpelledLine l → IsShort (line_text l) → may_follow p l ≡ true → Passes p (line_text l) (record p { lines = p.lines ++ l ∷ [] })
@@ -117,7 +117,7 @@ passes_line p (Worker worker ops) is short test =
       kind = no_kind (place_after p) line (faultless_line p line worker ops is.0 is.1 short test begins);
       past = past_line p line (Worker worker ops) (rw begins.worker_line refl);
     }
-passes_line p (Keeper line) is short test = passes_keeper p line is test
+passes_line p (Keeper line) is short test = passes_keeper p line test
 
 -- ---- declarations
 

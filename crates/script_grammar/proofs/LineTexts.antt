@@ -1,6 +1,6 @@
 -- A line that is read is spelled so, and what is spelled so is read.
 use Rattle.std.proofs.Common.{◌≡◌, inl, inr, ℕ, ◌+◌, ◌<◌, ◌≤◌, ◌^◌, Bool, true, false, cond, ltb, leb, eqb, List, [], ◌∷◌, ◌++◌, length, map, get_or, Option, Some, None, refl, sym, ap, subst, ◌∙◌, append_assoc, arith}
-use Rattle.std.specs.Prelude.{◌&&◌, codes, nat_lt, nat_le}
+use Rattle.std.specs.Prelude.{◌&&◌, codes, nat_lt, nat_le, ⊤}
 use Rattle.std.specs.Char.{is_ascii_digit}
 use Rattle.std.specs.Cmp.Lexicographic.{same_text}
 use Rattle.std.specs.Fmt.{decimal}
@@ -19,7 +19,7 @@ use Rattle.serial_model.specs.declared.decl.Decl.TheVariants.{Array, Tree}
 use Rattle.serial_model.specs.declared.op.Op.{Op}
 use Rattle.script_grammar.specs.declared.lines.KeeperLine.{KeeperLine}
 use Rattle.script_grammar.specs.declared.lines.KeeperLine.TheVariants.{Epoch, Save, Glean, Drop}
-use Rattle.script_grammar.specs.Script.{Bytes, Line, Worker, Keeper, IsAsked, op_text, ops_text, keeper_text, line_text, decl_text}
+use Rattle.script_grammar.specs.Script.{Bytes, Line, Worker, Keeper, op_text, ops_text, keeper_text, line_text, decl_text}
 use Rattle.script_grammar.specs.Words.{◌>>=◌, words, parts, is_word, is_space, is_worker_line, worker_word, op_parts}
 use Rattle.script_grammar.specs.Reading.{ops_in, few_of, few_ops_in, worker_in, transaction_at, begins_keeper, keeper_in, line_at, array_in, tree_in, decl_in, decl_at}
 use Rattle.script_grammar.proofs.Found.{bind_some, test_some, chosen, some_same}
@@ -39,7 +39,7 @@ pub record AreSpelled (ops : List Op) : Type 0 where
 -- a line of a worker from 0 to 7 whose operations have a spelling, or one of the maintenance thread
 abbrev pub IsSpelledLine : Line → Type 0
 IsSpelledLine (Worker worker ops) = (worker < 8) × AreSpelled ops
-IsSpelledLine (Keeper line) = IsAsked line
+IsSpelledLine (Keeper line) = ⊤
 
 -- a worker that is read is spelled so
 worker_takes : (word : Bytes) (w : ℕ) → worker_in word ≡ Some w → (word ≡ decimal w) × (w < 8)
@@ -153,37 +153,39 @@ line_found line worker ops begins number_is below found few =
 -- ---- lines of the maintenance thread
 
 -- the words decide what is asked for
-keeper_by_words : (line : Bytes) (asked : KeeperLine) (epoch save glean : Bool) → is_word (codes "k epoch") line ≡ epoch
-    → is_word (codes "k save") line ≡ save → is_word (codes "k glean") line ≡ glean
-    → cond epoch (Some Epoch) (cond save (Some Save) (cond glean (Some Glean) None)) ≡ Some asked
-    → (line ≡ keeper_text asked) × IsAsked asked
-keeper_by_words line asked true save glean e f g found =
-    subst (λ (a : KeeperLine). (line ≡ keeper_text a) × IsAsked a) (some_same Epoch asked found) (same_text line (codes "k epoch") (sym e), tt)
-keeper_by_words line asked false true glean e f g found =
-    subst (λ (a : KeeperLine). (line ≡ keeper_text a) × IsAsked a) (some_same Save asked found) (same_text line (codes "k save") (sym f), tt)
-keeper_by_words line asked false false true e f g found =
-    subst (λ (a : KeeperLine). (line ≡ keeper_text a) × IsAsked a) (some_same Glean asked found) (same_text line (codes "k glean") (sym g), tt)
-keeper_by_words line asked false false false e f g found = absurd cc
+keeper_by_words : (line : Bytes) (asked : KeeperLine) (epoch save glean drop : Bool) → is_word (codes "k epoch") line ≡ epoch
+    → is_word (codes "k save") line ≡ save → is_word (codes "k glean") line ≡ glean → is_word (codes "k drop") line ≡ drop
+    → cond epoch (Some Epoch) (cond save (Some Save) (cond glean (Some Glean) (cond drop (Some Drop) None))) ≡ Some asked
+    → line ≡ keeper_text asked
+keeper_by_words line asked true save glean drop e f g h found =
+    subst (λ (a : KeeperLine). line ≡ keeper_text a) (some_same Epoch asked found) (same_text line (codes "k epoch") (sym e))
+keeper_by_words line asked false true glean drop e f g h found =
+    subst (λ (a : KeeperLine). line ≡ keeper_text a) (some_same Save asked found) (same_text line (codes "k save") (sym f))
+keeper_by_words line asked false false true drop e f g h found =
+    subst (λ (a : KeeperLine). line ≡ keeper_text a) (some_same Glean asked found) (same_text line (codes "k glean") (sym g))
+keeper_by_words line asked false false false true e f g h found =
+    subst (λ (a : KeeperLine). line ≡ keeper_text a) (some_same Drop asked found) (same_text line (codes "k drop") (sym h))
+keeper_by_words line asked false false false false e f g h found = absurd cc
 
 -- a line of the maintenance thread that is read is spelled so
-keeper_takes : (line : Bytes) (asked : KeeperLine) → keeper_in line ≡ Some asked → (line ≡ keeper_text asked) × IsAsked asked
+keeper_takes : (line : Bytes) (asked : KeeperLine) → keeper_in line ≡ Some asked → line ≡ keeper_text asked
 keeper_takes line asked e = keeper_by_words line asked (is_word (codes "k epoch") line) (is_word (codes "k save") line)
-    (is_word (codes "k glean") line) refl refl refl e
+    (is_word (codes "k glean") line) (is_word (codes "k drop") line) refl refl refl refl e
 
 -- and what is spelled so is read
-keeper_again : (asked : KeeperLine) → IsAsked asked → line_at (keeper_text asked) ≡ Some (Keeper asked)
+keeper_again : (asked : KeeperLine) → line_at (keeper_text asked) ≡ Some (Keeper asked)
 unfolding line_at
-keeper_again Epoch is = refl
-keeper_again Save is = refl
-keeper_again Glean is = refl
-keeper_again Drop is = absurd is
+keeper_again Epoch = refl
+keeper_again Save = refl
+keeper_again Glean = refl
+keeper_again Drop = refl
 
 -- ---- both kinds of lines
 
 takes_by_letter : (keeper : Bool) (bs : Bytes) (l : Line) → cond keeper (keeper_in bs >>= (λ asked. Some (Keeper asked))) (transaction_at bs) ≡ Some l → (bs ≡ line_text l) × IsSpelledLine l
 takes_by_letter true bs l e =
     let a = bind_some (keeper_in bs) (λ asked. Some (Keeper asked)) l e in
-    subst (λ (x : Line). (bs ≡ line_text x) × IsSpelledLine x) (some_same (Keeper a.0) l a.2) (keeper_takes bs a.0 a.1)
+    subst (λ (x : Line). (bs ≡ line_text x) × IsSpelledLine x) (some_same (Keeper a.0) l a.2) (keeper_takes bs a.0 a.1, tt)
 takes_by_letter false bs l e = transaction_takes bs l e
 
 -- a line that is read is spelled so
@@ -196,7 +198,7 @@ pub line_again : (l : Line) → IsSpelledLine l → line_at (line_text l) ≡ So
 line_again (Worker worker ops) is =
     let begins = line_begins_so worker ops is.0 is.1 in
     line_found (line_text (Worker worker ops)) worker ops begins.worker_line begins.number_is is.0 (ap ops_in begins.ops_are ∙ ops_again ops is.1.each) is.1.few
-line_again (Keeper line) is = keeper_again line is
+line_again (Keeper line) is = keeper_again line
 
 -- ---- declarations
 

@@ -77,7 +77,7 @@ line_begins (Worker worker ops) is =
 line_begins (Keeper Epoch) is = (omega arith, refl, refl)
 line_begins (Keeper Save) is = (omega arith, refl, refl)
 line_begins (Keeper Glean) is = (omega arith, refl, refl)
-line_begins (Keeper Drop) is = absurd is
+line_begins (Keeper Drop) is = (omega arith, refl, refl)
 
 -- a worker's line that may come here is one line more
 pub line_step_at : (p : Parts) (l : Line) → IsSpelledLine l → IsShort (line_text l) → may_follow p l ≡ true → step p (line_text l) ≡ Some (record p { lines = p.lines ++ l ∷ [] })

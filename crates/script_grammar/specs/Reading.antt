@@ -13,7 +13,7 @@ use Rattle.serial_model.specs.declared.decl.Decl.TheVariants.{Array, Tree}
 use Rattle.script_grammar.specs.declared.fault.ScriptFault.{ScriptFault}
 use Rattle.script_grammar.specs.declared.fault.ScriptRefused.{ScriptRefused}
 use Rattle.script_grammar.specs.declared.lines.KeeperLine.{KeeperLine}
-use Rattle.script_grammar.specs.declared.lines.KeeperLine.TheVariants.{Epoch, Save, Glean}
+use Rattle.script_grammar.specs.declared.lines.KeeperLine.TheVariants.{Epoch, Save, Glean, Drop}
 use Rattle.script_grammar.specs.Script.{Bytes, Line, Worker, Keeper, Round, Script, last_round}
 use Rattle.script_grammar.specs.Words.{◌>>=◌, words, is_word, worker_word, op_parts, is_join}
 
@@ -92,7 +92,8 @@ abbrev pub keeper_in : Bytes → Option KeeperLine
 keeper_in line =
     if is_word (codes "k epoch") line then Some Epoch
     else (if is_word (codes "k save") line then Some Save
-    else (if is_word (codes "k glean") line then Some Glean else None))
+    else (if is_word (codes "k glean") line then Some Glean
+    else (if is_word (codes "k drop") line then Some Drop else None)))
 
 -- a line of the maintenance thread, or else of a worker
 unfoldable pub line_at : Bytes → Option Line

@@ -138,17 +138,10 @@ pub record IsTransaction (decls : List Decl) (number : ℕ) (list : List Op) : T
   pub few_ops : length list ≤ 16
   pub ops : AllByRecursion (IsOp decls) list
 
--- what the maintenance thread can be asked for so far: the next epoch, a savepoint, and a snapshot from the logs
-abbrev pub IsAsked : KeeperLine → Type 0
-IsAsked Epoch = ⊤
-IsAsked Save = ⊤
-IsAsked Glean = ⊤
-IsAsked Drop = ⊥
-
--- a line by the rules
+-- a line by the rules: the maintenance thread can be asked for each of its lines
 abbrev pub IsLine : List Decl → Line → Type 0
 IsLine decls (Worker worker ops) = IsTransaction decls worker ops
-IsLine decls (Keeper line) = IsAsked line
+IsLine decls (Keeper line) = ⊤
 
 -- at most 65,536 lines
 pub record IsRound (decls : List Decl) (round : Round) : Type 0 where

@@ -86,7 +86,8 @@ op_parts line = parts (after_first is_space line)
 -- the line is one of the maintenance thread
 abbrev pub is_keeper_line : Bytes → Bool
 is_keeper_line line =
-    is_word (codes "k epoch") line || (is_word (codes "k save") line || is_word (codes "k glean") line)
+    is_word (codes "k epoch") line || (is_word (codes "k save") line
+    || (is_word (codes "k glean") line || is_word (codes "k drop") line))
 
 -- the line ends a round
 abbrev pub is_join : Bytes → Bool

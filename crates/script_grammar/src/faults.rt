@@ -47,7 +47,10 @@ fn is_worker_line(line: &[u8]) -> bool
 fn is_keeper_line(line: &[u8]) -> bool
     ensures { result ≡ is_keeper_line line.now }
 {
-    line == b"k epoch".as_slice() || line == b"k save".as_slice() || line == b"k glean".as_slice()
+    line == b"k epoch".as_slice()
+        || line == b"k save".as_slice()
+        || line == b"k glean".as_slice()
+        || line == b"k drop".as_slice()
 }
 
 /// So many words, and this is the first of them.

@@ -51,6 +51,9 @@ pub(crate) fn keeper_in(line: &[u8]) -> Option<KeeperLine>
     if line == b"k glean".as_slice() {
         return Some(KeeperLine::Glean);
     }
+    if line == b"k drop".as_slice() {
+        return Some(KeeperLine::Drop);
+    }
     None
 }
 

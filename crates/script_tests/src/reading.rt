@@ -25,7 +25,7 @@ const WORD: &[u8] = b"\
 1 Tree 2|\
 1 trees 2|\
 1 k|\
-1 k drop|\
+1 k drops|\
 1 k gleans|\
 1 k save |\
 1 k  epoch|\
@@ -323,7 +323,7 @@ fn accepts(rt: HostRuntime) -> Result<(), Fail> {
         b"array 1 1\n7 r 1 0; r 1 0; r 1 0; r 1 0; r 1 0; r 1 0; r 1 0; r 1 0; r 1 0; r 1 0; r 1 0; r 1 0; r 1 0; r 1 0; r 1 0; r 1 0";
     let storages =
         b"array 0 1\narray 1 1\narray 2 1\narray 3 1\narray 4 1\narray 5 1\narray 6 1\narray 7 1\narray 8 1\narray 9 1\narray 10 1\narray 11 1\narray 12 1\narray 13 1\narray 14 1\narray 15 1\n";
-    let texts: [(&[u8], (usize, usize, usize)); 17] = [
+    let texts: [(&[u8], (usize, usize, usize)); 18] = [
         (b"", (0, 1, 0)),
         (b"\n\n", (0, 1, 0)),
         (b"array 1 4", (1, 1, 0)),
@@ -342,6 +342,7 @@ fn accepts(rt: HostRuntime) -> Result<(), Fail> {
         ),
         (storages, (16, 1, 0)),
         (b"k epoch\nk save", (0, 1, 2)),
+        (b"k drop\nk glean\nk drop", (0, 1, 3)),
         (b"array 1 4\nk save\n0 r 1 0\njoin\nk epoch\n", (1, 2, 3)),
         (b"join", (0, 1, 0)),
         (b"join\njoin\n\n", (0, 2, 0)),

@@ -1,9 +1,9 @@
 -- The clock, as it was loaded, and marks.
 use Rattle.std.proofs.Common.{arith, ◌≡◌, ℕ, ◌+◌, ◌/◌, ◌^◌, ◌≤◌, ◌<◌, List, [], ◌∷◌, ◌++◌, Option, Some, None, false}
-use Rattle.std.proofs.Common.{refl, sym}
+use Rattle.std.proofs.Common.{inl, inr, refl, sym}
 use Rattle.std.proofs.Common.{ap, ◌∙◌, subst}
 use Rattle.serial_model.specs.declared.number.Number.{Number}
-use Rattle.serial_model.specs.Numbers.{last_epoch}
+use Rattle.serial_model.specs.Numbers.{IsBelow, last_epoch}
 use Rattle.wire_form.specs.Words.{number_word}
 use Rattle.commit_core.specs.declared.seat.Mark.{Mark}
 use Rattle.commit_core.specs.CoreState.{mark_of, is_trying}
@@ -19,6 +19,11 @@ use Rattle.tx_runner.specs.Epochs.{HasAdvanced, HasSeenEpoch, IsLastEpoch, IsMar
 word_epoch : (n : Number) (word : ℕ) → IsSmall n → number_word n ≡ word → word / 2 ^ 40 ≡ n.epoch
 word_epoch n word small is = let draw = small.draw in omega (arith, draw, is)
 
+-- a number below another one is of no later epoch
+epoch_below : (a b : Number) → IsBelow a b → a.epoch ≤ b.epoch
+epoch_below a b (inl earlier) = omega (arith, earlier)
+epoch_below a b (inr same) = omega (arith, same.0)
+
 -- the clock was loaded, in this epoch
 pub seen_epoch : (v w : View) (clock epoch : ℕ) → HasTimed v clock w → epoch ≡ clock / 2 ^ 40 → HasSeenEpoch epoch v w
 seen_epoch v w clock epoch a is =
@@ -28,6 +33,8 @@ seen_epoch v w clock epoch a is =
       few = omega (arith, is, word, a.small.epoch);
       keepers = λ keeper. is ∙ a.keepers keeper;
       marked = omega (arith, a.marked, is);
+      drawn = λ attempt has.
+          let most = epoch_below attempt.number a.number (a.below attempt has) in omega (arith, most, word, is);
       steps = ap (λ (x : View). x.steps) a.is;
       looked = (clock, ap (λ (x : View). x.last) a.is, sym is);
       seen = record { history = a.history; decided = a.decided };
@@ -52,6 +59,9 @@ seen_epoch v w clock epoch a is =
       blanks = ap (λ (x : View). x.blanks) a.is;
       pages = ap (λ (x : View). x.pages) a.is;
       fills = ap (λ (x : View). x.fills) a.is;
+      shuts = ap (λ (x : View). x.shuts) a.is;
+      leads = ap (λ (x : View). x.leads) a.is;
+      drops = ap (λ (x : View). x.drops) a.is;
     }
 
 -- the keeper's clock is in the epoch that it knows

@@ -6,6 +6,7 @@ use Rattle.serial_model.specs.Numbers.{last_epoch}
 use Rattle.wire_form.specs.declared.clock.Mark.{Mark}
 use Rattle.wire_form.specs.Words.{IsMark, mark_word}
 use Rattle.commit_core.specs.CoreState.{mark_of, last_marked}
+use Rattle.commit_core.specs.declared.attempt.Attempt.{Attempt}
 use Rattle.commit_core.specs.declared.seat.Mark as core
 use Rattle.engine_pages.specs.declared.view.Glance.{Glance}
 use Rattle.engine_pages.specs.declared.view.Met.{Met}
@@ -23,14 +24,15 @@ use Rattle.engine_pages.specs.Times.{past_at, HasTimed}
 -- ---- the clock
 
 -- The pass saw the clock in this epoch, which is none below the one that it saw before, and for the keeper that one; it
--- is above the last that the pass's seat marked. That was the last word that it loaded, with one step. Of its own
--- nothing has changed.
+-- is above the last that the pass's seat marked, and no number was drawn of a later one. That was the last word that it
+-- loaded, with one step. Of its own nothing has changed.
 pub record HasSeenEpoch (epoch : ℕ) (v w : View) : Type 0 where
   pub now : w.epoch ≡ epoch
   pub rises : v.epoch ≤ epoch
   pub few : epoch ≤ last_epoch
   pub keepers : v.role ≡ Keeper → epoch ≡ v.epoch
   pub marked : last_marked v.seat.marks < epoch
+  pub drawn : (a : Attempt) → Contains w.history a → a.number.epoch ≤ epoch
   pub steps : w.steps ≡ v.steps + 1
   pub looked : (n : ℕ) × (w.last ≡ Some (glance v.steps clock_at n)) × (n / 2 ^ 40 ≡ epoch)
   pub seen : HasSeen v w
@@ -55,6 +57,9 @@ pub record HasSeenEpoch (epoch : ℕ) (v w : View) : Type 0 where
   pub blanks : w.blanks ≡ v.blanks
   pub pages : w.pages ≡ v.pages
   pub fills : w.fills ≡ v.fills
+  pub shuts : w.shuts ≡ v.shuts
+  pub leads : w.leads ≡ v.leads
+  pub drops : w.drops ≡ v.drops
 
 -- the keeper saw the clock in its epoch, which was not the last, and has moved it on to this one
 pub record HasAdvanced (epoch : ℕ) (v w : View) : Type 0 where

@@ -3,7 +3,7 @@ use Rattle.std.proofs.Common.{◌≡◌, ◌≤◌, ◌++◌, ◌∷◌, ℕ, ze
 use Rattle.std.specs.Prelude.{slice_get, true}
 use Rattle.std.specs.List.{AllByRecursion}
 use Rattle.tx_script.specs.Causes.{is_unrun}
-use Rattle.tx_script.specs.Readied.{AreReadied, BeganAt, Readied, ReadiedUpTo}
+use Rattle.tx_script.specs.Readied.{AreReadied, BeganAt, Readied, ReadiedUpTo, epoch_behind}
 use Rattle.tx_script.specs.Seen.{AreEpochs, AreMarksInOrder}
 use Rattle.tx_script.specs.declared.outcome.Outcome.{Outcome}
 
@@ -31,8 +31,12 @@ readied_later low place marks [] [] high later last then up on are =
     (omega (arith, up, are.0), omega (arith, on, are.1))
 readied_later low place marks [] (o ∷ os) high later last then up on are = absurd are
 readied_later low place marks (r ∷ rs) [] high later last then up on are = absurd are
-readied_later low place marks (r ∷ rs) (o ∷ os) high later last then up on are =
-    (are.0, are.1, are.2, readied_later r.epoch r.place marks rs os high later last then up on are.3)
+readied_later low place marks (r ∷ rs) (o ∷ os) high later last then up on are = (
+  are.0,
+  are.1,
+  are.2,
+  readied_later (epoch_behind r.epoch o) r.place marks rs os high later last then up on are.3,
+)
 
 -- with more marks behind
 pub readied_more : (low place : ℕ) (marks more : List (Option ℕ)) (rs : List Readied) (os : List Outcome)
@@ -41,20 +45,24 @@ pub readied_more : (low place : ℕ) (marks more : List (Option ℕ)) (rs : List
 readied_more low place marks more [] [] high last are = are
 readied_more low place marks more [] (o ∷ os) high last are = absurd are
 readied_more low place marks more (r ∷ rs) [] high last are = absurd are
-readied_more low place marks more (r ∷ rs) (o ∷ os) high last are =
-    (are.0, are.1, began_more marks more r o are.2, readied_more r.epoch r.place marks more rs os high last are.3)
+readied_more low place marks more (r ∷ rs) (o ∷ os) high last are = (
+  are.0,
+  are.1,
+  began_more marks more r o are.2,
+  readied_more (epoch_behind r.epoch o) r.place marks more rs os high last are.3,
+)
 
 -- one line more
 pub readied_push : (low place : ℕ) (marks : List (Option ℕ)) (rs : List Readied) (os : List Outcome)
     (high last : ℕ) (r : Readied) (o : Outcome) → ReadiedUpTo low place marks rs os high last
     → high ≤ r.epoch → last ≤ r.place → BeganAt marks r o
-    → ReadiedUpTo low place marks (rs ++ r ∷ []) (os ++ o ∷ []) r.epoch r.place
+    → ReadiedUpTo low place marks (rs ++ r ∷ []) (os ++ o ∷ []) (epoch_behind r.epoch o) r.place
 readied_push low place marks [] [] high last r o are up on b =
     (omega (arith, up, are.0), omega (arith, on, are.1), b, (omega arith, omega arith))
 readied_push low place marks [] (x ∷ os) high last r o are up on b = absurd are
 readied_push low place marks (q ∷ rs) [] high last r o are up on b = absurd are
 readied_push low place marks (q ∷ rs) (x ∷ os) high last r o are up on b =
-    (are.0, are.1, are.2, readied_push q.epoch q.place marks rs os high last r o are.3 up on b)
+    (are.0, are.1, are.2, readied_push (epoch_behind q.epoch x) q.place marks rs os high last r o are.3 up on b)
 
 -- behind them none was run
 pub readied_whole : (low place : ℕ) (marks : List (Option ℕ)) (rs : List Readied) (os left : List Outcome)
@@ -64,7 +72,7 @@ readied_whole low place marks [] [] left high last are unrun = unrun
 readied_whole low place marks [] (o ∷ os) left high last are unrun = absurd are
 readied_whole low place marks (r ∷ rs) [] left high last are unrun = absurd are
 readied_whole low place marks (r ∷ rs) (o ∷ os) left high last are unrun =
-    (are.0, are.1, are.2, readied_whole r.epoch r.place marks rs os left high last are.3 unrun)
+    (are.0, are.1, are.2, readied_whole (epoch_behind r.epoch o) r.place marks rs os left high last are.3 unrun)
 
 -- ---- marks in order
 

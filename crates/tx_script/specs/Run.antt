@@ -13,7 +13,7 @@ use Rattle.serial_model.specs.declared.op.Op.{Op}
 use Rattle.serial_model.specs.declared.decl.Decl.{Decl}
 use Rattle.serial_model.specs.declared.number.Number.{Number}
 use Rattle.script_grammar.specs.Script.{Line, Worker, Keeper, Round, Script, keeper_lines, worker_lines}
-use Rattle.script_grammar.specs.Script.{IsAsked, IsLine, IsOp, IsRound, IsScript}
+use Rattle.script_grammar.specs.Script.{IsLine, IsOp, IsRound, IsScript}
 use Rattle.script_grammar.specs.declared.lines.KeeperLine.{KeeperLine}
 use Rattle.outside.specs.declared.device.Device.{Device}
 use Rattle.tx_script.specs.declared.answer.Answer.{Answer}
@@ -39,6 +39,11 @@ pub data TryRefusal : Type 0 where
   NoSlot : List ℕ → TryRefusal
   NoRoom : TryRefusal
   NoNumber : TryRefusal
+
+-- How many pages a drop took out of memory, and how many it kept.
+pub record Dropped : Type 0 where
+  pub dropped : ℕ
+  pub kept : ℕ
 
 -- The log files at the begin of a round: of each worker that of odd number grows, or that of even number; the other
 -- one is closed, and counts so many bytes, with all its worker's commits since the swap before up to an epoch.
@@ -88,6 +93,8 @@ pub record RanBeside : Type 0 where
   pub refused : List (List (List TryRefusal))
   -- what its gleans found that the next snapshot comes to: so many pages, or none where one would stand too deep
   pub gleans : List (Option ℕ)
+  -- what its drops of pages added to the counts that the maintenance thread keeps, in their order
+  pub drops : List Dropped
   -- the devices that failed, and one that was found damaged, with the byte from which on it is
   pub devices : List Device
   pub damaged : Option (Device × ℕ)
@@ -241,7 +248,7 @@ pub record CanRunOps (decls : List Decl) (w : ℕ) (os : List Op) : Type 0 where
 -- a line that can be run
 abbrev pub CanRunLine : List Decl → Line → Type 0
 CanRunLine decls (Worker worker ops) = CanRunOps decls worker ops
-CanRunLine decls (Keeper line) = IsAsked line
+CanRunLine decls (Keeper line) = ⊤
 
 -- a round that a runtime with these storages can run
 pub record CanRun (decls : List Decl) (round : Round) : Type 0 where

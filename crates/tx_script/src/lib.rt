@@ -6,7 +6,8 @@
 //! words of their replies each. An `OutcomeRoom` takes outcomes of so many lines without wanting memory.
 //! Laws: a round of a script can be run (`can_run`); a line is refused a number only where the draws are used up
 //! (`limited_at_draws`); a round whose numbers are counted (`DrawsAreCounted`) drew no more than its lines have tries
-//! (`counted_within`); a worker that has a round to itself is in conflict at no record (`alone_met`).
+//! (`counted_within`); a worker that has a round to itself, without a drop of pages, is in conflict at no record
+//! (`alone_met`).
 //! Terms: *round*, the lines up to a join; *outcome*, what came of a worker's line; *answer*, what came of a line of
 //! the maintenance thread (a keeper line).
 //! Runs: `specs/Run.antt`. What must have happened for each outcome: `specs/Tries.antt`, and for each answer:

@@ -123,6 +123,7 @@ module _ {D : Type 0} {tells : D → Option (List ℕ)} {clock : D → ℕ} {ima
     end = omega (arith, flushed.durable, ap length flushed.empty);
     limit = flushed.limit;
     mark = inr (ap (λ (m : Mark). m.epoch) mark);
+    counts = inr (ap (λ (m : Mark). m.length) mark);
     later = flushes.refused.later;
     quiet = λ other. flushes.refused.quiet;
     device = λ is. absurd cc;
@@ -148,6 +149,7 @@ module _ {D : Type 0} {tells : D → Option (List ℕ)} {clock : D → ℕ} {ima
     end = omega (arith, flushed.durable, ap length flushed.empty);
     limit = flushed.limit;
     mark = inl mark;
+    counts = inl mark;
     later = flushes.refused.later;
     quiet = λ other. flushes.refused.quiet;
     device = λ is. absurd cc;
@@ -171,6 +173,7 @@ module _ {D : Type 0} {tells : D → Option (List ℕ)} {clock : D → ℕ} {ima
     end = omega (arith, flushes.kept.durable, ap length flushes.kept.lines);
     limit = flushes.kept.limit;
     mark = inl mark;
+    counts = inl mark;
     later = flushes.refused.later;
     quiet = λ other. ap faults
         (flushes.refused.untouched (λ is. other (let same : fault ≡ Device = cc in ap Some same))).1;
@@ -196,6 +199,7 @@ module _ {D : Type 0} {tells : D → Option (List ℕ)} {clock : D → ℕ} {ima
     end = refl;
     limit = refl;
     mark = inl refl;
+    counts = inl refl;
     later = omega arith;
     quiet = λ other. refl;
     device = λ is. absurd cc;
@@ -204,12 +208,12 @@ module _ {D : Type 0} {tells : D → Option (List ℕ)} {clock : D → ℕ} {ima
     stays_up = λ other. refl;
   })
 
-  -- a call that was done, and then another one
+  -- a call that was done, and then another one, which made no more durable
   pub moves_then : {a b c : LogState} {before mid now : D} {epoch : ℕ} {fault : Option LogFault}
       → MovesLog tells clock image_at faults epoch a b before mid None
-      → MovesLog tells clock image_at faults epoch b c mid now fault
+      → MovesLog tells clock image_at faults epoch b c mid now fault → c.journal.durable ≡ b.journal.durable
       → MovesLog tells clock image_at faults epoch a c before now fault
-  moves_then {a = a} {b = b} {c = c} {before = before} {mid = mid} {now = now} {epoch = epoch} first next =
+  moves_then {a = a} {b = b} {c = c} {before = before} {mid = mid} {now = now} {epoch = epoch} first next size =
       let quiet : faults mid ≡ faults before = first.quiet (λ is. cc) in
       let up : b.journal.down ≡ a.journal.down = first.stays_up (λ is. cc) in
       record {
@@ -231,6 +235,13 @@ module _ {D : Type 0} {tells : D → Option (List ℕ)} {clock : D → ℕ} {ima
           | inl same ↦ elim first.mark [
             | inl kept ↦ inl (same ∙ kept)
             | inr set ↦ inr (ap (λ (m : Mark). m.epoch) same ∙ set)
+          ]
+        ];
+        counts = elim next.counts [
+          | inr all ↦ inr all
+          | inl same ↦ elim first.counts [
+            | inl kept ↦ inl (same ∙ kept)
+            | inr all ↦ inr (ap (λ (m : Mark). m.length) same ∙ all ∙ sym size)
           ]
         ];
         later = omega (arith, first.later, next.later);

@@ -11,9 +11,9 @@ abbrev pub refusal : {T : Type 0} → Result T LogFault → Option LogFault
 refusal (Ok done) = None
 refusal (Err fault) = Some fault
 
--- A call of a log that adds no commit, and sets no mark but of this epoch. Whatever it answers, its log file only grew,
--- and nothing is lost of what waited. `Device` only where the log file's count of faults rose, and then the log is
--- down; `Down` exactly where it was down. Else the count stands still.
+-- A call of a log that adds no commit, and sets no mark but of this epoch, which counts all that is durable then.
+-- Whatever it answers, its log file only grew, and nothing is lost of what waited. `Device` only where the log file's
+-- count of faults rose, and then the log is down; `Down` exactly where it was down. Else the count stands still.
 pub record MovesLog {D : Type 0} (tells : D → Option (List ℕ)) (clock : D → ℕ) (image_at : D → ℕ → List ℕ → Type 0)
     (faults : D → ℕ) (epoch : ℕ) (old new : LogState) (before now : D) (fault : Option LogFault) : Type 0 where
   pub reaches : Reaches tells now new.journal
@@ -21,6 +21,7 @@ pub record MovesLog {D : Type 0} (tells : D → Option (List ℕ)) (clock : D �
   pub end : end_of new.journal ≡ end_of old.journal
   pub limit : new.journal.limit ≡ old.journal.limit
   pub mark : (new.mark ≡ old.mark) ⊎ (new.mark.epoch ≡ Some epoch)
+  pub counts : (new.mark ≡ old.mark) ⊎ (new.mark.length ≡ new.journal.durable)
   pub later : faults before ≤ faults now
   pub quiet : fault ≢ Some Device → faults now ≡ faults before
   pub device : fault ≡ Some Device → Rose (faults before) (faults now)

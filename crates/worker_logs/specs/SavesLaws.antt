@@ -16,7 +16,6 @@ use Rattle.log_writer.specs.declared.records.Tie.{Tie}
 use Rattle.log_writer.specs.declared.vault.Vault.{Vault}
 use Rattle.serial_model.specs.declared.number.Commit.{Commit}
 use Rattle.wire_form.specs.declared.clock.Mark.{Mark}
-use Rattle.wire_form.specs.declared.savepoint.Savepoint.{Savepoint}
 use Rattle.log_writer.specs.Points.{SaveState, next_point, point_of, sequence_of}
 use Rattle.log_writer.specs.Save.{Names, NamesOldOrNew}
 use Rattle.log_writer.specs.declared.save.SaveFault.{SaveFault}
@@ -99,6 +98,7 @@ in_turn_odd (x ∷ xs) (y ∷ ys) (suc worker) n is same =
     subst (λ k. get_or (in_turn (x ∷ xs) (y ∷ ys)) k 0 ≡ n) (sym next)
     (in_turn_odd xs ys worker n is (omega (arith, same)))
 
+-- of a growing log file counts what its worker's mark does
 pub growing_length : (side : Side) (growing closed : List ℕ) (worker n : ℕ) → slice_get growing worker ≡ Some n
     → length growing ≡ length closed → get_or (lengths_by side growing closed) (growing_number side worker) 0 ≡ n
 growing_length Even growing closed worker n is same = in_turn_even growing closed worker n is same

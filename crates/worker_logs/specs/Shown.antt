@@ -1,7 +1,7 @@
 -- Marks of a log that others are shown, and since when every image of its log file has what they count.
-use Rattle.std.specs.Prelude.{◌≡◌, ◌≤◌, ◌++◌, ℕ, List, [], Contains, Option, take}
+use Rattle.std.specs.Prelude.{◌≡◌, ◌<◌, ◌≤◌, ◌++◌, ℕ, List, [], Contains, Option, take}
 use Rattle.std.specs.List.{AllByRecursion}
-use Rattle.outside.specs.Fronts.{KeepsSince}
+use Rattle.outside.specs.Fronts.{AgreesOn, KeepsSince}
 use Rattle.serial_model.specs.declared.number.Commit.{Commit}
 use Rattle.wire_form.specs.declared.clock.Mark.{Mark}
 use Rattle.worker_logs.specs.Logs.{IsPassed, LogRan, LogState}
@@ -14,12 +14,14 @@ pub record Stood : Type 0 where
 
 module _ {D : Type 0} (clock : D → ℕ) (image_at : D → ℕ → List ℕ → Type 0) where
   -- The mark is one of those that the log had, and since its moment, which is none before the first, every image of the
-  -- log file begins with what it counts of the durable bytes.
+  -- log file begins with what it counts of the durable bytes. Where its moment isn't the first one, no more was durable
+  -- then: whatever all images of that moment begin with, what the mark counts begins with.
   pub record IsShownSince (durable : List ℕ) (first : ℕ) (bank : D) (marks : List Mark) (m : Stood) : Type 0 where
     pub among : Contains marks m.mark
     pub begun : first ≤ m.since
     pub come : m.since ≤ clock bank
     pub keeps : KeepsSince clock image_at bank m.since (take m.mark.length durable)
+    pub pinned : first < m.since → AgreesOn (image_at bank m.since) (take m.mark.length durable)
 
 module _ {D : Type 0} (tells : D → Option (List ℕ)) (clock : D → ℕ) (image_at : D → ℕ → List ℕ → Type 0) where
   -- How a log went on, with so many commits more and some marks, of which these were shown since this moment.

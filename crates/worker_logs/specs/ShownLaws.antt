@@ -1,15 +1,15 @@
 -- Marks that are shown, through the calls of a log: each stays what it was.
-use Rattle.std.proofs.Common.{◌≡◌, ◌∙◌, ◌≤◌, ◌+◌, ◌-◌, ◌++◌, ◌∷◌, inl, inr, sym, ap, subst, refl, ℕ, List, []}
+use Rattle.std.proofs.Common.{◌≡◌, ◌∙◌, ◌<◌, ◌≤◌, ◌-◌, ◌++◌, ◌∷◌, inl, inr, sym, ap, subst, refl, ℕ, List, []}
 use Rattle.std.proofs.Common.{Option, Some, None, append_assoc, arith, length, take}
 use Rattle.std.specs.Prelude.{Contains, option_to_list}
 use Rattle.std.specs.List.{AllByRecursion}
 use Rattle.std.proofs.lemmas.Bool.{cases_lt}
-use Rattle.std.proofs.lemmas.List.{append-nil, take-take}
+use Rattle.std.proofs.lemmas.List.{append-nil, take-take, take_all}
 use Rattle.std.proofs.lemmas.List.Elements.{Contains-append_left}
 use Rattle.lists.specs.Each.{all_append, all_push, all_weaker}
 use Rattle.lists.specs.Elements.{in_cases, in_none, in_push_new}
 use Rattle.lists.specs.Fronts.{IsFront, front_take, front_then}
-use Rattle.outside.specs.Fronts.{AllBegin, KeepsSince, begins_less}
+use Rattle.outside.specs.Fronts.{AgreesOn, AllBegin, KeepsSince, begins_less}
 use Rattle.outside.specs.Growth.{Grows, grows_none, grows_then}
 use Rattle.serial_model.specs.declared.number.Commit.{Commit}
 use Rattle.wire_form.specs.declared.clock.Mark.{Mark}
@@ -67,6 +67,8 @@ module _ {D : Type 0} {clock : D → ℕ} {image_at : D → ℕ → List ℕ →
     keeps = subst (KeepsSince clock image_at new m.since)
         (sym (take_front m.mark.length durable more grown.more within))
         (keeps_grows grown stood.keeps (front_take m.mark.length durable));
+    pinned = λ late front all. subst (IsFront front) (sym (take_front m.mark.length durable more grown.more within))
+        (stood.pinned late front (λ c image. all c (grown.kept m.since c stood.come image)));
   }
 
 module _ {D : Type 0} {tells : D → Option (List ℕ)} {clock : D → ℕ} {image_at : D → ℕ → List ℕ → Type 0} where
@@ -192,14 +194,19 @@ module _ {D : Type 0} {tells : D → Option (List ℕ)} {clock : D → ℕ} {ima
         each = s.each;
       }
 
-  -- The log's mark is shown. All that is durable stays, so its moment is now.
+  -- The log's mark is shown. All that is durable stays, so its moment is now; it counts all of it, unless no call was
+  -- made of the log file.
   pub shows_one : {low high : ℕ} {logged : List Commit} {shown : List Stood} {old new : LogState} {before now : D}
+      → (clock before < clock now → new.mark.length ≡ new.journal.durable)
       → LogShows tells clock image_at low high logged shown old new before now
       → LogShows tells clock image_at low high logged
       (shown ++ record { mark = new.mark; since = clock now } ∷ []) old new before now
-  shows_one {shown = shown} {new = new} {before = before} {now = now} shows commits was durable marks first ran passed =
+  shows_one {shown = shown} {new = new} {before = before} {now = now} counts shows commits was durable marks first ran
+      passed =
       let s = shows commits was durable marks first ran passed in
       let took = s.took in
+      let start = ran.grows.later in
+      let size = took.ran.journal_of.durable.size in
       let one : Stood = record { mark = new.mark; since = clock now } in
       record {
         took = took;
@@ -213,6 +220,12 @@ module _ {D : Type 0} {tells : D → Option (List ℕ)} {clock : D → ℕ} {ima
               keeps = keeps_now clock image_at now (take new.mark.length took.durable)
                   (begins_less (image_at now (clock now)) (take new.mark.length took.durable) took.durable
                   took.ran.journal_of.durable.begins (front_take new.mark.length took.durable));
+              pinned = λ late.
+                  let all = counts late in
+                  let whole : take new.mark.length took.durable ≡ took.durable =
+                  take_all new.mark.length took.durable (omega (arith, all, size)) in
+                  subst (AgreesOn (image_at now (clock now))) (sym whole)
+                  (took.ran.grows.agrees (clock now) (omega (arith, start, late)) (omega arith));
             });
       }
 

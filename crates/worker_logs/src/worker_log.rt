@@ -91,6 +91,7 @@ impl WorkerLog {
         ensures free { OnOk result (400 ≤ free self.new.journal) }
         ensures below { OnOk result (end_of self.new.journal + 400 ≤ self.new.journal.limit) }
         ensures keeps_up { OnOk result (IsUpTo clock self.new.mark) }
+        ensures stays { IsUpTo clock self.old.mark → self.new.mark ≡ self.old.mark }
         ensures full { (length : ℕ) → result ≡ Err (LogFault.Limit length)
             → (length ≡ end_of self.old.journal) × (self.old.journal.limit < length + 400) }
         ensures quick { IsUpTo clock self.old.mark → 400 ≤ free self.old.journal

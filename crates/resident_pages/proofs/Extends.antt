@@ -45,7 +45,7 @@ use Rattle.engine_pages.proofs.SlotFacts.{head_same, moved_same}
 use Rattle.engine_pages.proofs.SlotSteps.{own_pages, trees_same}
 use Rattle.engine_pages.proofs.Turns.{Begins, Stride, allows_at, marks_stay, tried_goes, written}
 use Rattle.engine_pages.proofs.Words.{page_shown, tree_shown}
-use Rattle.resident_pages.specs.Extends.{CanExtend, HasExtended, extended, lead_of}
+use Rattle.resident_pages.specs.Extends.{CanExtend, HasExtended, KnowsAll, extended, lead_of}
 use Rattle.resident_pages.proofs.NamesShown.{page_named, tree_named}
 use Rattle.resident_pages.proofs.NewPages.{page_new, published_now, new_page, pages_are, all_right, all_down, new_lead}
 use Rattle.resident_pages.proofs.Snaps.{snap_unfilled, walk_stable, table_extended, extended_sound}
@@ -64,13 +64,26 @@ within_same d f k holds (In y) h = h
 all_known : (l : Layout) (words : List ℕ) (views : List View) (s : Shared) (id : ℕ) (v : View)
     → Begins l words views s id v → (new : List (List ℕ)) (names : List (Decl × PagePlace)) → CanExtend new names v
     → v.pages ≡ s.resident.pages
-all_known l words views s id v b new names can =
-    let x = can.filled 0 can.some in
-    let above = (b.pages.fills x.0 x.1).1.above in
-    let page = x.2 in
-    let front = b.pages.resident in
-    let long = front_length v.pages s.resident.pages front in
-    front_same v.pages s.resident.pages s.resident.pages front (front_refl s.resident.pages) (omega (arith, above, page, long))
+all_known l words views s id v b new names can = by can.all
+  where
+    front : IsFront v.pages s.resident.pages
+    front = b.pages.resident
+
+    long : length v.pages ≤ length s.resident.pages
+    long = front_length v.pages s.resident.pages front
+
+    by : KnowsAll v → v.pages ≡ s.resident.pages
+    by (inl full) =
+        let here : length v.pages ≡ l.resident =
+        subst (λ (y : Layout). length v.pages ≡ y.resident) b.own.layout full in
+        let within = b.sound.within in
+        front_same v.pages s.resident.pages s.resident.pages front (front_refl s.resident.pages)
+        (omega (arith, here, within, long))
+    by (inr x) =
+        let above = (b.pages.fills x.0 x.1).1.above in
+        let page = x.2 in
+        front_same v.pages s.resident.pages s.resident.pages front (front_refl s.resident.pages)
+        (omega (arith, above, page, long))
 
 module _ (laws : Laws) (l : Layout) (words : List ℕ) (views : List View) (s : Shared) (id : ℕ) (v : View)
     (b : Begins l words views s id v) (active : IsActive v.role) (keeper : v.role ≡ Keeper) (new : List (List ℕ))
@@ -118,11 +131,15 @@ module _ (laws : Laws) (l : Layout) (words : List ℕ) (views : List View) (s : 
       let knows = ap (λ (xs : List (List ℕ)). length xs) same in omega (arith, all, knows, sum)
 
   room : length (r.pages ++ new) ≤ l.resident
-  room =
-      let some = can.some in
-      let x = can.filled (length new - 1) (omega (arith, some)) in
-      let within = (b.pages.fills x.0 x.1).1.within in
-      let page = x.2 in omega (arith, within, page, many, sum, some)
+  room = elim (cases_lt 0 (length new)) [
+    | inl some ↦
+        let x = can.filled (length new - 1) (omega (arith, some)) in
+        let within = (b.pages.fills x.0 x.1).1.within in
+        let page = x.2 in omega (arith, within, page, many, sum, some)
+    | inr none ↦
+        let all = length-append r.pages new in
+        let within = b.sound.within in omega (arith, all, within, none)
+  ]
 
   more : HasMore r r'
   more = record { pages = front_append r.pages new; places = front_append r.places names }

@@ -1,9 +1,9 @@
 -- The pages of a snapshot are published once they are filled, and those that its roots lead to have names.
-use Rattle.std.proofs.Common.{◌≡◌, ◌⊎◌, ℕ, zero, suc, ◌+◌, ◌<◌, inl, inr, List, [], ◌∷◌, ◌++◌, length, refl, sym, ap, ◌∙◌}
+use Rattle.std.proofs.Common.{◌≡◌, ◌⊎◌, ℕ, zero, suc, ◌+◌, ◌<◌, ◌≤◌, inl, inr, List, [], ◌∷◌, ◌++◌, length, refl, sym, ap, ◌∙◌}
 use Rattle.std.proofs.Common.{subst, arith, length-append, ltb, Some}
 use Rattle.std.specs.Prelude.{filter, map, take}
 use Rattle.std.specs.List.{AllByRecursion, Contains, slice_get}
-use Rattle.std.proofs.lemmas.Bool.{lt-ltb}
+use Rattle.std.proofs.lemmas.Bool.{cases_lt, lt-ltb}
 use Rattle.std.proofs.lemmas.List.{take_at}
 use Rattle.lists.specs.Elements.{at_in, in_cases, in_filter, in_filtered, in_head, in_none, in_tail}
 use Rattle.serial_model.specs.declared.decl.Decl.{Decl}
@@ -20,11 +20,18 @@ use Rattle.engine_pages.specs.declared.view.Lead.{Lead}
 use Rattle.engine_pages.specs.declared.view.View.{View}
 use Rattle.engine_pages.specs.Resident.{IsStanding}
 use Rattle.page_opening.proofs.Named.{each_named}
-use Rattle.resident_pages.specs.Extends.{CanExtend, CanName, HasExtended, IsNamedBefore, extended, lead_of}
+use Rattle.resident_pages.specs.Extends.{CanExtend, CanName, HasExtended, IsNamedBefore, KnowsAll, extended, lead_of}
 use Rattle.resident_pages.specs.Fills.{AreClaimed}
 use Rattle.resident_pages.specs.Publishes.{AreFilled, CanNameAll, HasPublished, IsSnapshot}
 
 -- ---- the step
+
+-- What is claimed tells that all published pages are known.
+pub claimed_next : (v : View) → AreClaimed v → length v.pages ≤ v.layout.resident → KnowsAll v
+claimed_next v claims most = elim (cases_lt (length v.pages) v.layout.resident) [
+  | inl less ↦ let x = claims.has (suc (length v.pages)) (omega arith) (omega (arith, less)) in inr (x.0, x.1, x.2)
+  | inr full ↦ inl (omega (arith, most, full))
+]
 
 -- the view before, with the steps, the last load and the pages to fill of the one behind it
 abbrev as_filled : View → View → View
@@ -60,9 +67,9 @@ module _ (new : List (List ℕ)) (names : List (Decl × PagePlace)) (v u : View)
         (subst (λ (ps : List (List ℕ)). Contains (places_below (format_of e.0) (ps ++ new) e.1) q) known there));
   }
 
-  pub can_extend : 0 < length new → CanNameAll new names v → CanExtend new names u
-  can_extend some can = record {
-    some = some;
+  pub can_extend : KnowsAll u → CanNameAll new names v → CanExtend new names u
+  can_extend all can = record {
+    all = all;
     filled = λ j less.
         let r = are.filled j less in
         let long : length u.pages ≡ length v.pages = ap (λ (ps : List (List ℕ)). length ps) known in

@@ -1,4 +1,4 @@
--- What the step that raises the count of published pages asks and tells.
+-- What the step that raises the count of published pages, or names places of those that are, asks and tells.
 use Rattle.std.specs.Prelude.{◌≡◌, ◌⊎◌, ℕ, suc, ◌+◌, ◌<◌, List, [], ◌++◌, map, filter, take, length, get_or, nat_lt}
 use Rattle.std.specs.Prelude.{slice_get, Some, Contains}
 use Rattle.atomic_table.specs.Table.{Step}
@@ -32,9 +32,15 @@ pub record CanName (v : View) (pages : List (List ℕ)) (before : List (Decl × 
   pub stands : IsStanding v.layout.decls pages e
   pub below : (q : PagePlace) → Contains (places_below (format_of e.0) pages e.1) q → IsNamedBefore v before e.0 q
 
--- These pages may be published behind those that the pass knows, and these places get names, in this order.
+-- The pass knows all pages that are published: the next one is its own to fill, or there is room for no more.
+abbrev pub KnowsAll : View → Type 0
+KnowsAll v = (length v.pages ≡ v.layout.resident)
+    ⊎ ((x : Filled) × Contains v.fills x × (x.page ≡ suc (length v.pages)))
+
+-- These pages, if there are any, may be published behind those that the pass knows, and these places get names, in this
+-- order.
 pub record CanExtend (new : List (List ℕ)) (names : List (Decl × PagePlace)) (v : View) : Type 0 where
-  pub some : 0 < length new
+  pub all : KnowsAll v
   pub filled : (j : ℕ) → j < length new → IsFilledWith v (suc (length v.pages + j)) (get_or new j [])
   pub named : (i : ℕ) (e : Decl × PagePlace) → slice_get names i ≡ Some e → CanName v (v.pages ++ new) (take i names) e
 

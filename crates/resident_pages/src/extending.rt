@@ -10,7 +10,7 @@ use crate::laws::laws;
 use engine_pages::{Engine, Pass};
 
 /// Publishes the filled pages behind those that the pass knows, up to this number, and gives names to places, both as
-/// the call picks them.
+/// the call picks them. There may be no page more.
 pub fn extend<J: Publishing>(engine: &Engine, pass: &mut Pass, count: u32)
     requires of { IsPassOf engine.now pass.old }
     requires keeper { (view pass.old).role ≡ Keeper }

@@ -40,12 +40,13 @@ pub fn claim_rest(engine: &Engine, pass: &mut Pass, known: u32, resident: u32) -
 }
 
 /// Fills the pages behind those that the pass knows, up to the last one of the store, and publishes them, with the
-/// names that the call picks. They are the pass's own to fill, and those behind them stay so.
+/// names that the call picks. They are the pass's own to fill, and those behind them stay so. Where it knows all pages
+/// of the store, places of these get names.
 pub fn publish_pages<J: Publishing>(engine: &Engine, pass: &mut Pass, known: u32, store: &SnapStore)
     requires of { IsPassOf engine.now pass.old }
     requires keeper { (view pass.old).role ≡ Keeper }
     requires known { known ≡ length (view pass.old).pages }
-    requires some { known < length store.now.pages }
+    requires within { known ≤ length store.now.pages }
     requires room { length store.now.pages ≤ (view pass.old).layout.resident }
     requires claimed { AreClaimed (view pass.old) }
     requires pages { (view pass.old).pages ++ J.pages ≡ words_of store.now.pages }
@@ -63,7 +64,7 @@ fn fill_pages(engine: &Engine, pass: &mut Pass, known: u32, store: &SnapStore)
     requires of { IsPassOf engine.now pass.old }
     requires keeper { (view pass.old).role ≡ Keeper }
     requires known { known ≡ length (view pass.old).pages }
-    requires some { known < length store.now.pages }
+    requires within { known ≤ length store.now.pages }
     requires room { length store.now.pages ≤ (view pass.old).layout.resident }
     requires claimed { AreClaimed (view pass.old) }
     ensures of { IsPassOf engine.now pass.new }

@@ -6,7 +6,7 @@ use Rattle.engine_pages.specs.Passes.{view}
 use Rattle.snapshot_store.specs.Content.{words_of}
 use Rattle.resident_pages.specs.Publishes.{AreFilled}
 use Rattle.resident_pages.proofs.PagesFilled.{words_many}
-use Rattle.resident_pages.proofs.PagesPublished.{can_extend, claimed_behind, published}
+use Rattle.resident_pages.proofs.PagesPublished.{can_extend, claimed_behind, claimed_next, published}
 use Rattle.resident_pages.proofs.publishing.publish_pages.Goals as goal
 
 -- what stands behind those that the pass knows
@@ -34,11 +34,15 @@ extend-requires-clause-can g c =
     can_extend g.J.Publishing.pages g.J.Publishing.places v u
     (are_filled v.pages g.J.Publishing.pages (words_of c.args.store.now.pages) c.args.known v u c.requires.known
     c.requires.pages c.fill_pages.ensures.fills)
-    (let all = length-append v.pages g.J.Publishing.pages in
-    let many = ap (λ (ps : List (List ℕ)). length ps) c.requires.pages in
-    let count = words_many c.args.store.now.pages in
-    let known = c.requires.known in
-    let some = c.requires.some in omega (arith, all, many, count, known, some))
+    (claimed_next u c.fill_pages.ensures.claimed
+    (let known = c.requires.known in
+    let within = c.requires.within in
+    let room = c.requires.room in
+    let only = (are_filled v.pages g.J.Publishing.pages (words_of c.args.store.now.pages) c.args.known v u
+    c.requires.known c.requires.pages c.fill_pages.ensures.fills).only in
+    let long : length u.pages ≡ length v.pages = ap (λ (z : View). length z.pages) only in
+    let same : u.layout.resident ≡ v.layout.resident = ap (λ (z : View). z.layout.resident) only in
+    omega (arith, known, within, room, long, same)))
     c.requires.names
 
 pub extend-requires-clause-count : goal.extend-requires-clause-count

@@ -8,6 +8,7 @@ use Rattle.serial_model.specs.declared.op.Op.{Op}
 use Rattle.log_writer.specs.declared.journal.LogFault.{LogFault}
 use Rattle.log_writer.specs.declared.journal.LogFault.TheVariants.{Limit as AtLimit}
 use Rattle.engine_pages.specs.declared.view.View.{View}
+use Rattle.tx_script.specs.Readied.{epoch_behind}
 use Rattle.tx_script.specs.declared.outcome.Outcome.{Outcome}
 use Rattle.tx_script.specs.declared.outcome.Outcome.TheVariants.{Unrun}
 use Rattle.worker_logs.specs.Logs.{LogState}
@@ -91,7 +92,8 @@ module _ {D : Type 0} {tells : D → Option (List ℕ)} {clock : D → ℕ} {ima
       → Readies tells clock image_at faults None w x mid ready between now
       → IsMarkedBelow ready.mark x
       → (one : RunsOne tries ops outcomes after x y ready left)
-      → RunsOn tells clock image_at faults tries x.epoch (lines ++ ops ∷ []) after full v y old left before now
+      → RunsOn tells clock image_at faults tries (epoch_behind x.epoch one.logs.outcome) (lines ++ ops ∷ []) after full
+      v y old left before now
   lines_ran {tries = tries} {lines = lines} {outcomes = outcomes} {full = full} {v = v} {w = w} {x = x} {y = y}
       {ready = ready} {left = left} ops unfilled on readied marked one =
       let so = on.runs in
@@ -238,10 +240,10 @@ module _ {D : Type 0} {tells : D → Option (List ℕ)} {clock : D → ℕ} {ima
   lines_step {tries = tries} {high = high} {lines = lines} {outcomes = outcomes} {after = after} {first = first}
       {end = end} {v = v} {w = w} {x = x} {old = old} {mid = mid} {left = left} {before = before} {between = between}
       {now = now} ops so failed (inl (same, up, unfilled, ran)) = (
-        ran.mid.epoch,
-        subst (λ (e : LogEnd). RunsOn tells clock image_at faults tries ran.mid.epoch (lines ++ ops ∷ []) after
-            e.full v x
-            old left before now) (sym same) (lines_ran ops unfilled so ran.readies ran.marked ran.one),
+        epoch_behind ran.mid.epoch ran.one.logs.outcome,
+        subst (λ (e : LogEnd). RunsOn tells clock image_at faults tries
+            (epoch_behind ran.mid.epoch ran.one.logs.outcome) (lines ++ ops ∷ []) after e.full v x old left before now)
+            (sym same) (lines_ran ops unfilled so ran.readies ran.marked ran.one),
         ap (λ (e : LogEnd). e.failed) same ∙ failed
             ∙ ap is_some (sym (down_took ran.ready left ran.one.logs.logged ran.one.logs.takes
             ∙ ran.readies.moves.stays_up (λ is. cc))),

@@ -1,10 +1,13 @@
 -- Calls of a log, one after another, and what is known to be shown of its mark.
 use Rattle.std.proofs.Common.{◌≡◌, ◌<◌, ◌≤◌, ◌^◌, ◌-◌, ◌++◌, ◌∷◌, inl, inr, refl, sym, ◌∙◌, ap, subst, ℕ, List, []}
-use Rattle.std.proofs.Common.{Option, Some, None, arith}
-use Rattle.std.specs.Prelude.{◌≢◌, ◌⊎◌, Bool, false, true, is_some, IfSome, OnOk, Result, Ok, Err}
+use Rattle.std.proofs.Common.{Option, Some, None, arith, drop, length}
+use Rattle.std.specs.Prelude.{◌≢◌, ◌⊎◌, Bool, Contains, false, true, is_some, IfSome, OnOk, Result, Ok, Err}
+use Rattle.std.proofs.lemmas.List.Elements.{Contains-append_left}
+use Rattle.lists.specs.Fronts.{IsFront, front_rest}
 use Rattle.serial_model.specs.Numbers.{last_epoch}
 use Rattle.wire_form.specs.declared.clock.Mark.{Mark}
 use Rattle.commit_core.specs.CoreState.{last_marked}
+use Rattle.commit_core.specs.declared.attempt.Attempt.{Attempt}
 use Rattle.commit_core.specs.declared.seat.Mark as core
 use Rattle.commit_core.specs.declared.seat.Seat.{Seat}
 use Rattle.engine_pages.specs.declared.view.View.{View}
@@ -87,7 +90,7 @@ ready_marked clock (Ok done) old new w x tied below seen (inl (same, stays)) up 
       epoch = named ∙ ap (λ n. Some (n - 1)) (sym seen);
       tied = subst (IsTied new) (sym stays) (subst (λ m. IsTied m w.seat.marks) (sym same) tied);
     }
-ready_marked clock (Ok done) old new w x tied below seen (inr (small, named, set)) up = record {
+ready_marked clock (Ok done) old new w x tied below seen (inr (small, named, set, other)) up = record {
   some = omega (arith, below, seen);
   epoch = named;
   tied = record { earlier = w.seat.marks; last = set; epoch = x.epoch - 1; named = named };
@@ -96,8 +99,8 @@ ready_marked clock (Ok done) old new w x tied below seen (inr (small, named, set
 -- the same, as the pass had seen the words before that load
 pub shows_since : (old new : Mark) (v w x : View) → w.seat ≡ v.seat → ShowsMark old new w x → ShowsMark old new v x
 shows_since old new v w x same (inl (kept, stays)) = inl (kept, stays ∙ ap (λ (s : Seat). s.marks) same)
-shows_since old new v w x same (inr (small, named, set)) =
-    inr (small, named, set ∙ ap (λ (s : Seat). s.marks ++ core_mark new ∷ []) same)
+shows_since old new v w x same (inr (small, named, set, other)) =
+    inr (small, named, set ∙ ap (λ (s : Seat). s.marks ++ core_mark new ∷ []) same, other)
 
 -- what a log that is up, with nothing that waits, answers as it is flushed and marked
 pub first_done : {T : Type 0} {D : Type 0} {tells : D → Option (List ℕ)} {clock : D → ℕ}
@@ -116,6 +119,11 @@ pub first_marked : {T : Type 0} (at : ℕ) (result : Result T LogFault) (new : L
     → OnOk result (IsJoined at new) → new.mark.epoch ≡ Some (at - 1)
 first_marked at (Ok done) new none joined = ap (λ (m : Mark). m.epoch) joined.marked
 first_marked at (Err fault) new none joined = absurd cc
+
+-- what stands in the first of some numbers that were drawn stands in all
+in_front : (xs ys : List Attempt) (a : Attempt) → IsFront xs ys → Contains xs a → Contains ys a
+in_front xs ys a front has =
+    subst (λ l. Contains l a) (front_rest xs ys front) (Contains-append_left xs (drop (length xs) ys) a has)
 
 -- The clock was loaded, a call of the log made, and its mark set on the words where it is a new one.
 pub readies_so : {D : Type 0} {tells : D → Option (List ℕ)} {clock : D → ℕ} {image_at : D → ℕ → List ℕ → Type 0}
@@ -139,6 +147,8 @@ readies_so {tells = tells} {clock = clock} {image_at = image_at} {faults = fault
       over = over;
       rises = subst (λ n. v.epoch ≤ n) (sym at) seen.rises;
       above = subst (λ n. last_marked v.seat.marks < n) (sym at) seen.marked;
+      drawn = λ a has. subst (λ n. a.number.epoch ≤ n) (sym at)
+          (seen.drawn a (in_front v.history w.history a seen.seen.history has));
       moves = subst (λ n. MovesLog tells clock image_at faults (n - 1) old new before now fault) (sym at) moves;
       shown = shows_since old.mark new.mark v w x seen.seat
           (subst (λ m. ShowsMark old.mark m w x) is_new (subst (λ m. ShowsMark m set w x) is_old shows));

@@ -1,10 +1,10 @@
 -- What the lines of a cell have done so far, one step after another.
 use Rattle.std.proofs.Common.{◌≡◌, ◌∙◌, ◌≤◌, ◌<◌, ◌+◌, ◌-◌, ◌++◌, ◌∷◌, inl, inr, refl, sym, ap, subst, ℕ, List, []}
 use Rattle.std.proofs.Common.{Option, Some, None, append_assoc, arith, false, length, length-append, map, suc}
-use Rattle.std.specs.Prelude.{fold, option_to_list, slice_get, unwrap_or}
+use Rattle.std.specs.Prelude.{◌≢◌, ◌⊎◌, Contains, fold, option_to_list, slice_get, unwrap_or}
 use Rattle.std.specs.List.{AllByRecursion}
 use Rattle.std.proofs.lemmas.List.{append-nil}
-use Rattle.lists.specs.Each.{all_append, all_push}
+use Rattle.lists.specs.Each.{all_append, all_push, all_weaker}
 use Rattle.serial_model.specs.declared.number.Change.{Change}
 use Rattle.serial_model.specs.declared.number.Commit.{Commit}
 use Rattle.serial_model.specs.declared.number.Number.{Number}
@@ -13,12 +13,13 @@ use Rattle.wire_form.specs.LogFile.{IsLineOf}
 use Rattle.wire_form.specs.Words.{IsMark}
 use Rattle.wire_form.specs.declared.clock.Mark.{Mark}
 use Rattle.commit_core.specs.CoreState.{last_marked, mark_of}
+use Rattle.commit_core.specs.declared.attempt.Attempt.{Attempt}
 use Rattle.commit_core.specs.declared.seat.Mark as core
 use Rattle.log_writer.specs.declared.journal.LogFault.{LogFault}
 use Rattle.tx_runner.specs.Tries.{Lost}
 use Rattle.engine_pages.specs.declared.view.View.{View}
 use Rattle.tx_script.specs.Causes.{is_unrun}
-use Rattle.tx_script.specs.Readied.{DrewSince, Readied, ReadiedUpTo}
+use Rattle.tx_script.specs.Readied.{DrewSince, Readied, ReadiedUpTo, epoch_behind}
 use Rattle.tx_script.specs.ReadiedLaws.{marks_push, readied_later, readied_more, readied_push}
 use Rattle.tx_script.specs.Seen.{AreMarksInOrder}
 use Rattle.tx_script.specs.declared.outcome.Outcome.{Outcome}
@@ -26,10 +27,10 @@ use Rattle.tx_script.specs.declared.outcome.Outcome.TheVariants.{Committed, Conf
 use Rattle.worker_logs.specs.Logs.{LogState}
 use Rattle.worker_logs.specs.Rows.{TakesCommit}
 use Rattle.worker_logs.specs.Shown.{LogShows, Stood}
-use Rattle.worker_logs.specs.ShownLaws.{shows_commit, shows_move, shows_none, shows_one}
-use Rattle.worker_logs.specs.RowLaws.{blames_move, blames_none, blames_took, keeps_commit, keeps_then, limit_took}
-use Rattle.worker_logs.specs.RowLaws.{reaches_took}
-use Rattle.worker_cells.specs.Cells.{AreLooked, HasLookedSince, IsCell, IsMarkedBelow, IsReached, IsTied, LogsLine}
+use Rattle.worker_logs.specs.ShownLaws.{shows_commit, shows_later, shows_move, shows_none, shows_one}
+use Rattle.worker_logs.specs.RowLaws.{blames_move, blames_none, blames_took, keeps_commit, keeps_later, keeps_then}
+use Rattle.worker_logs.specs.RowLaws.{limit_took, reaches_took}
+use Rattle.worker_cells.specs.Cells.{AreLooked, HasLookedSince, HasMarks, IsCell, IsMarkedBelow, IsReached, IsTied, LogsLine}
 use Rattle.worker_cells.specs.Cells.{RanOver, RanShown, Readies, ShowsMark, core_mark, core_of, epochs_of, steps_behind}
 use Rattle.worker_cells.specs.Rows.{ComesOf, IsSince, LineRan, logged_by, logged_of, outcomes_of, readied_of}
 use Rattle.worker_cells.specs.InARow.{goes_none, line_keeps, logged_push, row_goes, row_layout, row_push}
@@ -69,9 +70,11 @@ tied_still mid new (Some c) marks after tied same takes =
 
 -- an epoch that was reached is none above one that a load finds later
 pub reached_by : (high epoch : ℕ) (v : View) → IsReached high v → v.epoch ≤ epoch → last_marked v.seat.marks < epoch
-    → high ≤ epoch
-reached_by high epoch v (inl seen) rises above = omega (arith, seen, rises)
-reached_by high epoch v (inr marked) rises above = omega (arith, marked, above)
+    → ((a : Attempt) → Contains v.history a → a.number.epoch ≤ epoch) → high ≤ epoch
+reached_by high epoch v (inl seen) rises above drawn = omega (arith, seen, rises)
+reached_by high epoch v (inr (inl marked)) rises above drawn = omega (arith, marked, above)
+reached_by high epoch v (inr (inr (a, has, most))) rises above drawn =
+    let below = drawn a has in omega (arith, most, below)
 
 -- ---- epochs
 
@@ -123,6 +126,29 @@ began_line tries ops Limit refused logged v w comes = refl
 began_line tries ops Full refused logged v w comes = refl
 began_line tries ops Wide refused logged v w comes = absurd comes
 began_line tries ops Unrun refused logged v w comes = absurd comes
+
+-- the epoch that a line leaves was reached
+line_reached : (tries : ℕ) (ops : List Op) (outcome : Outcome) (refused : List Lost) (logged : Option Commit)
+    (v w : View) (epoch : ℕ) → ComesOf tries ops outcome refused logged v w → epoch ≤ last_marked w.seat.marks + 1
+    → IsReached (epoch_behind epoch outcome) w
+line_reached tries ops (Committed verdict number replies) refused logged v w epoch comes marked =
+    let same : comes.3.attempt.number.epoch ≡ number.epoch =
+    ap (λ (n : Number). n.epoch) (comes.3.numbered ∙ comes.1) in
+    inr (inr (comes.3.attempt, comes.3.drawn, omega (arith, same)))
+line_reached tries ops Conflict refused logged v w epoch comes marked = inr (inl marked)
+line_reached tries ops Limit refused logged v w epoch comes marked = inr (inl marked)
+line_reached tries ops Full refused logged v w epoch comes marked = inr (inl marked)
+line_reached tries ops Wide refused logged v w epoch comes marked = absurd comes
+line_reached tries ops Unrun refused logged v w epoch comes marked = absurd comes
+
+-- it is none below the one that was loaded before the line
+behind_late : (epoch : ℕ) (outcome : Outcome) → IsSince epoch outcome → epoch ≤ epoch_behind epoch outcome
+behind_late epoch (Committed verdict number replies) is = is
+behind_late epoch Conflict is = omega arith
+behind_late epoch Full is = omega arith
+behind_late epoch Wide is = omega arith
+behind_late epoch Limit is = omega arith
+behind_late epoch Unrun is = omega arith
 
 drew_line : (epoch : ℕ) (outcome : Outcome) → IsSince epoch outcome → DrewSince epoch outcome
 drew_line epoch (Committed verdict number replies) is = is
@@ -180,6 +206,16 @@ outcomes_more (x ∷ ran) line = ap (λ o. x.outcome ∷ o) (outcomes_more ran l
 mark_took : (mid new : LogState) (commit : Option Commit) → TakesCommit commit mid new → new.mark ≡ mid.mark
 mark_took mid new None takes = ap (λ (l : LogState). l.mark) takes
 mark_took mid new (Some c) takes = takes.mark
+
+-- more marks that were shown behind
+marks_more : (v : View) (more : List Stood) (one : Stood) (line : LineRan) → HasMarks v more line
+    → HasMarks v (more ++ one ∷ []) line
+marks_more v more one line has = record {
+  shown = has.shown;
+  still = has.still ++ one ∷ [];
+  whole = ap (λ l. l ++ one ∷ []) has.whole ∙ append_assoc has.shown has.still (one ∷ []);
+  marks = has.marks;
+}
 
 -- ---- looks at the clock
 
@@ -276,9 +312,10 @@ shown_line : (high : ℕ) (ran : List LineRan) (first : Stood) (more : List Stoo
     → IsSince line.before.epoch line.outcome → line.after.seat.marks ≡ line.before.seat.marks → new.mark ≡ mid.mark
     → line.before.seat.marks ≡ v.seat.marks ++ map core_of more
     → RanShown high ran (first ∷ more) v line.before mid
-    → RanShown high (ran ++ line ∷ []) (first ∷ more) v line.after new
+    → RanShown (epoch_behind line.before.epoch line.outcome) (ran ++ line ∷ []) (first ∷ more) v line.after new
 shown_line high ran first more v line mid new seen marked began since stays same words s =
     let marks = first ∷ more in
+    let behind = epoch_behind line.before.epoch line.outcome in
     let r : Readied = record {
       epoch = line.before.epoch;
       place = length line.before.seat.marks - length v.seat.marks;
@@ -303,13 +340,10 @@ shown_line high ran first more v line mid new seen marked began since stays same
       small = s.small;
       rise = s.rise;
       readied = subst (λ n. ReadiedUpTo v.epoch 0 (epochs_of marks) (readied_of v (ran ++ line ∷ []))
-          (outcomes_of (ran ++ line ∷ [])) n (length s.earlier)) (sym seen)
-          (subst (λ n. ReadiedUpTo v.epoch 0 (epochs_of marks) (readied_of v (ran ++ line ∷ []))
-          (outcomes_of (ran ++ line ∷ [])) line.before.epoch n) place
-          (subst (λ l. ReadiedUpTo v.epoch 0 (epochs_of marks) l (outcomes_of (ran ++ line ∷ [])) line.before.epoch
-          r.place)
+          (outcomes_of (ran ++ line ∷ [])) behind n) place
+          (subst (λ l. ReadiedUpTo v.epoch 0 (epochs_of marks) l (outcomes_of (ran ++ line ∷ [])) behind r.place)
           (sym (readied_push_of v ran line))
-          (subst (λ o. ReadiedUpTo v.epoch 0 (epochs_of marks) (readied_of v ran ++ r ∷ []) o line.before.epoch r.place)
+          (subst (λ o. ReadiedUpTo v.epoch 0 (epochs_of marks) (readied_of v ran ++ r ∷ []) o behind r.place)
           (sym (outcomes_more ran line))
           (readied_push v.epoch 0 (epochs_of marks) (readied_of v ran) (outcomes_of ran) high (length s.earlier) r
           line.outcome s.readied (omega (arith, seen)) (omega (arith, place)) (record {
@@ -318,7 +352,7 @@ shown_line high ran first more v line mid new seen marked began since stays same
             stood = stood;
             late = omega (arith, some);
             drew = drew_line line.before.epoch line.outcome since;
-          })))));
+          }))));
     }
 
 module _ {D : Type 0} {tells : D → Option (List ℕ)} {clock : D → ℕ} {image_at : D → ℕ → List ℕ → Type 0}
@@ -335,7 +369,8 @@ module _ {D : Type 0} {tells : D → Option (List ℕ)} {clock : D → ℕ} {ima
     lines_are = tt;
     steps = omega arith;
     looked = tt;
-    shows = shows_one (shows_none v.epoch v.epoch log bank);
+    marked = tt;
+    shows = shows_one (λ late. absurd (omega (arith, late))) (shows_none v.epoch v.epoch log bank);
     words = sym (append-nil v.seat.marks);
     shown = shown_begin v log (clock bank);
     mark = inl refl;
@@ -357,7 +392,7 @@ module _ {D : Type 0} {tells : D → Option (List ℕ)} {clock : D → ℕ} {ima
       first = record { mark = old.mark; since = clock before }
 
       reached : high ≤ x.epoch
-      reached = reached_by high x.epoch w so.reached ready.rises ready.above
+      reached = reached_by high x.epoch w so.reached ready.rises ready.above ready.drawn
 
       later : v.epoch ≤ x.epoch
       later = omega (arith, so.later, reached)
@@ -367,10 +402,10 @@ module _ {D : Type 0} {tells : D → Option (List ℕ)} {clock : D → ℕ} {ima
 
       on : (then : List Stood)
           → LogShows tells clock image_at v.epoch x.epoch (logged_of ran) (first ∷ then) old new before now
-          → x.seat.marks ≡ v.seat.marks ++ map core_of then
+          → x.seat.marks ≡ v.seat.marks ++ map core_of then → AllByRecursion (HasMarks v then) ran
           → (IsTied old.mark v.seat.marks → IsMark old.mark → RanShown x.epoch ran (first ∷ then) v x new)
           → RanOver tells clock image_at faults tries x.epoch ran then v x old new before now
-      on then shows words shown = record {
+      on then shows words marked shown = record {
         row = row_goes tries v ran w x so.row ready.goes;
         over = ready.over;
         later = later;
@@ -379,6 +414,7 @@ module _ {D : Type 0} {tells : D → Option (List ℕ)} {clock : D → ℕ} {ima
         lines_are = so.lines_are;
         steps = let before = so.steps in let on = ready.steps in omega (arith, before, on);
         looked = so.looked;
+        marked = marked;
         shows = shows;
         words = words;
         shown = shown;
@@ -388,32 +424,39 @@ module _ {D : Type 0} {tells : D → Option (List ℕ)} {clock : D → ℕ} {ima
         limit = ready.moves.limit ∙ so.limit;
       }
 
+      counted : new.mark ≢ mid.mark → (new.mark ≡ mid.mark) ⊎ (new.mark.length ≡ new.journal.durable)
+          → new.mark.length ≡ new.journal.durable
+      counted other (inl same) = absurd (other same)
+      counted other (inr all) = all
+
       by_mark : ShowsMark mid.mark new.mark w x
           → (then : List Stood) × RanOver tells clock image_at faults tries x.epoch ran then v x old new before now
       by_mark (inl (same, stays)) = (
         more,
-        on more moved (stays ∙ so.words)
+        on more moved (stays ∙ so.words) so.marked
             (λ tied small. shown_same high x.epoch ran (first ∷ more) v w x mid new reached same stays
             (so.shown tied small)),
       )
-      by_mark (inr (small, named, set)) =
+      by_mark (inr (small, named, set, other)) =
           let one : Stood = record { mark = new.mark; since = clock now } in (
             more ++ one ∷ [],
-            on (more ++ one ∷ []) (shows_one moved)
+            on (more ++ one ∷ []) (shows_one (λ late. counted other ready.moves.counts) moved)
                 (set ∙ ap (λ l. l ++ core_mark new.mark ∷ []) so.words
                 ∙ append_assoc v.seat.marks (map core_of more) (core_mark new.mark ∷ [])
                 ∙ ap (λ l. v.seat.marks ++ l) (sym (cores_push more one)))
+                (all_weaker (HasMarks v more) (HasMarks v (more ++ one ∷ [])) (marks_more v more one) ran so.marked)
                 (λ tied first_small. shown_more high x.epoch (clock now) ran (first ∷ more) v w x mid new reached
                 ready.above small named set (so.shown tied first_small)),
           )
 
-  -- a line was run, for which the log had been made ready at this epoch
+  -- A line was run, for which the log had been made ready at this epoch. What is loaded behind it is none below the
+  -- epoch of its commit.
   pub ran_line : {tries high : ℕ} {ran : List LineRan} {more : List Stood} {v w x : View} {old mid new : LogState}
       {before now : D} (ops : List Op) → high ≡ w.epoch
       → RanOver tells clock image_at faults tries high ran more v w old mid before now
       → IsMarkedBelow mid.mark w → HasLookedSince (steps_behind v.steps ran) w
       → (line : LogsLine tries ops w x mid new)
-      → RanOver tells clock image_at faults tries high (ran ++ record {
+      → RanOver tells clock image_at faults tries (epoch_behind w.epoch line.outcome) (ran ++ record {
         ops = ops;
         outcome = line.outcome;
         refused = line.refused;
@@ -446,11 +489,15 @@ module _ {D : Type 0} {tells : D → Option (List ℕ)} {clock : D → ℕ} {ima
       let last : last_marked x.seat.marks ≡ w.epoch - 1 =
       ap last_marked (kept.marks ∙ marked.tied.last)
       ∙ last_marked_last marked.tied.earlier (core_mark mid.mark) (w.epoch - 1) marked.epoch in
+      let behind = epoch_behind w.epoch line.outcome in
+      let late : w.epoch ≤ behind = behind_late w.epoch line.outcome drew in
+      let up : high ≤ behind = omega (arith, seen, late) in
       record {
         row = row_push tries v ran w one so.row (goes_none w) line.comes;
         over = kept.over;
-        later = so.later;
-        reached = inr (omega (arith, last, some, seen));
+        later = omega (arith, so.later, up);
+        reached = line_reached tries ops line.outcome line.refused line.logged w x w.epoch line.comes
+            (omega (arith, last));
         since = all_push (λ (r : LineRan). IsSince v.epoch r.outcome) ran one so.since
             (since_low v.epoch w.epoch line.outcome (omega (arith, so.later, seen)) drew);
         lines_are = subst (AllByRecursion (IsLineOf v.layout.decls)) (sym pushed)
@@ -458,13 +505,16 @@ module _ {D : Type 0} {tells : D → Option (List ℕ)} {clock : D → ℕ} {ima
             (subst (λ l. AllByRecursion (IsLineOf l.decls) (option_to_list line.logged)) same line.line));
         steps = let end = behind_push v.steps ran one in omega (arith, end);
         looked = looked_push v.steps ran one so.looked look;
-        shows = subst (λ l. LogShows tells clock image_at v.epoch high l (first ∷ more) old new before now) (sym pushed)
-            (shows_commit line.logged some so.later above so.shows line.takes);
+        marked = all_push (HasMarks v more) ran one so.marked
+            (record { shown = more; still = []; whole = sym (append-nil more); marks = so.words });
+        shows = subst (λ l. LogShows tells clock image_at v.epoch behind l (first ∷ more) old new before now)
+            (sym pushed) (shows_later up (shows_commit line.logged some so.later above so.shows line.takes));
         words = kept.marks ∙ so.words;
         shown = λ tied small. shown_line high ran first more v one mid new seen marked
             (began_line tries ops line.outcome line.refused line.logged w x line.comes) drew kept.marks
             (mark_took mid new line.logged line.takes) so.words (so.shown tied small);
-        mark = keeps_commit v.epoch high old mid new line.logged so.mark line.takes;
+        mark = keeps_later v.epoch high behind old new up
+            (keeps_commit v.epoch high old mid new line.logged so.mark line.takes);
         blames = blames_took mid new line.logged so.blames line.takes;
         reaches = reaches_took tells now mid new line.logged so.reaches line.takes;
         limit = limit_took mid new line.logged line.takes ∙ so.limit;

@@ -1,6 +1,6 @@
 -- What a worker's lines of a round leave of its cell: of its pass, of its log and of its log file.
-use Rattle.std.specs.Prelude.{◌≡◌, ◌⊎◌, ◌+◌, ◌-◌, ◌/◌, ◌^◌, ◌≤◌, ◌<◌, ◌++◌, ℕ, List, [], ◌∷◌, Option, Some, None}
-use Rattle.std.specs.Prelude.{Bool, false, is_some, length, map, option_to_list, true, ⊤}
+use Rattle.std.specs.Prelude.{◌≡◌, ◌≢◌, ◌⊎◌, ◌+◌, ◌-◌, ◌/◌, ◌^◌, ◌≤◌, ◌<◌, ◌++◌, ℕ, List, [], ◌∷◌, Option, Some, None}
+use Rattle.std.specs.Prelude.{Bool, Contains, false, is_some, length, map, option_to_list, true, ⊤}
 use Rattle.std.specs.List.{AllByRecursion}
 use Rattle.serial_model.specs.declared.number.Commit.{Commit}
 use Rattle.serial_model.specs.declared.op.Op.{Op}
@@ -8,6 +8,7 @@ use Rattle.wire_form.specs.LogFile.{IsLineOf}
 use Rattle.wire_form.specs.Words.{IsMark}
 use Rattle.wire_form.specs.declared.clock.Mark.{Mark}
 use Rattle.commit_core.specs.CoreState.{last_marked}
+use Rattle.commit_core.specs.declared.attempt.Attempt.{Attempt}
 use Rattle.commit_core.specs.declared.seat.Mark as core
 use Rattle.log_writer.specs.Journal.{Reaches}
 use Rattle.log_writer.specs.declared.journal.LogFault.{LogFault}
@@ -46,7 +47,8 @@ pub record IsTied (mark : Mark) (marks : List core.Mark) : Type 0 where
 -- of the epoch before the one that the pass saw.
 abbrev pub ShowsMark : Mark → Mark → View → View → Type 0
 ShowsMark shown now v w = ((now ≡ shown) × (w.seat.marks ≡ v.seat.marks))
-    ⊎ (IsMark now × (now.epoch ≡ Some (w.epoch - 1)) × (w.seat.marks ≡ v.seat.marks ++ core_mark now ∷ []))
+    ⊎ (IsMark now × (now.epoch ≡ Some (w.epoch - 1)) × (w.seat.marks ≡ v.seat.marks ++ core_mark now ∷ [])
+    × (now ≢ shown))
 
 -- a mark that was shown, as the words have it
 abbrev pub core_of : Stood → core.Mark
@@ -95,10 +97,19 @@ abbrev pub AreLooked : ℕ → List LineRan → Type 0
 AreLooked steps [] = ⊤
 AreLooked steps (line ∷ more) = HasLookedSince steps line.before × AreLooked line.after.steps more
 
--- An epoch that the pass has reached: none above the one that it saw last, or above the one behind its last mark. No
--- later load of the clock finds an earlier one.
+-- An epoch that the pass has reached: none above the one that it saw last, or above the one behind its last mark, or
+-- above that of a number that it knows to be drawn. No later load of the clock finds an earlier one.
 abbrev pub IsReached : ℕ → View → Type 0
 IsReached epoch v = (epoch ≤ v.epoch) ⊎ (epoch ≤ last_marked v.seat.marks + 1)
+    ⊎ ((a : Attempt) × Contains v.history a × (epoch ≤ a.number.epoch))
+
+-- As the line began, the marks of its seat were those of this view, and behind them the first of these, so many as have
+-- been shown by then.
+pub record HasMarks (v : View) (more : List Stood) (line : LineRan) : Type 0 where
+  pub shown : List Stood
+  pub still : List Stood
+  pub whole : more ≡ shown ++ still
+  pub marks : line.before.seat.marks ≡ v.seat.marks ++ map core_of shown
 
 -- What a cell has as its lines of a round begin: no transaction is under way, and its log is up and nothing waits in
 -- it. The first draw is none of a record that was never written.
@@ -150,12 +161,13 @@ module _ {D : Type 0} (tells : D → Option (List ℕ)) (clock : D → ℕ) (ima
     pub bank : now ≡ before
 
   -- The clock was loaded, and calls of the log were made at that epoch, which is none below the one that the pass saw,
-  -- and above each mark that its seat had.
+  -- nor below that of a number that it knew to be drawn, and above each mark that its seat had.
   pub record Readies (fault : Option LogFault) (v w : View) (old new : LogState) (before now : D) : Type 0 where
     pub goes : Goes v w
     pub over : IsOver w
     pub rises : v.epoch ≤ w.epoch
     pub above : last_marked v.seat.marks < w.epoch
+    pub drawn : (a : Attempt) → Contains v.history a → a.number.epoch ≤ w.epoch
     pub moves : MovesLog tells clock image_at faults (w.epoch - 1) old new before now fault
     pub shown : ShowsMark old.mark new.mark v w
     pub steps : v.steps ≤ w.steps
@@ -170,7 +182,7 @@ module _ {D : Type 0} (tells : D → Option (List ℕ)) (clock : D → ℕ) (ima
 
   -- These lines were run from the one view to the other, at epochs from the one that the pass had seen as the round
   -- began up to this one, and the log took what they changed. Before each line the clock was loaded anew. The words
-  -- showed these marks of the log more than the one that it had.
+  -- showed these marks of the log more than the one that it had, the first ones of them as each line began.
   pub record RanOver (tries high : ℕ) (ran : List LineRan) (more : List Stood) (v w : View) (old new : LogState)
       (before now : D) : Type 0 where
     pub row : AreInARow tries v ran w
@@ -181,6 +193,7 @@ module _ {D : Type 0} (tells : D → Option (List ℕ)) (clock : D → ℕ) (ima
     pub lines_are : AllByRecursion (IsLineOf v.layout.decls) (logged_of ran)
     pub steps : steps_behind v.steps ran ≤ w.steps
     pub looked : AreLooked v.steps ran
+    pub marked : AllByRecursion (HasMarks v more) ran
     pub shows : LogShows tells clock image_at v.epoch high (logged_of ran)
         (record { mark = old.mark; since = clock before } ∷ more) old new before now
     pub words : w.seat.marks ≡ v.seat.marks ++ map core_of more

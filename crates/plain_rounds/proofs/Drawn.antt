@@ -154,22 +154,23 @@ lines_lost (outcome ∷ outcomes) = omega (
 )
 
 -- no try of it met anybody
-line_meets : (lines : List (List (List Op))) (worker : ℕ) (ops : List Op) (outcome : Outcome)
-    → AllByRecursion (IsMet lines worker ops) (refusals_at outcome)
-line_meets lines worker ops (Committed verdict number replies) = tt
-line_meets lines worker ops Conflict = tt
-line_meets lines worker ops Full = tt
-line_meets lines worker ops Wide = tt
-line_meets lines worker ops Limit = (tt, tt)
-line_meets lines worker ops Unrun = tt
+line_meets : (lines : List (List (List Op))) (dropped : Type 0) (worker : ℕ) (ops : List Op) (outcome : Outcome)
+    → AllByRecursion (IsMet lines dropped worker ops) (refusals_at outcome)
+line_meets lines dropped worker ops (Committed verdict number replies) = tt
+line_meets lines dropped worker ops Conflict = tt
+line_meets lines dropped worker ops Full = tt
+line_meets lines dropped worker ops Wide = tt
+line_meets lines dropped worker ops Limit = (tt, tt)
+line_meets lines dropped worker ops Unrun = tt
 
-pub lines_meet : (lines : List (List (List Op))) (worker : ℕ) (mine : List (List Op)) (outcomes : List Outcome)
-    → length outcomes ≡ length mine → LinesMet lines worker mine (map refusals_at outcomes)
-lines_meet lines worker [] [] same = tt
-lines_meet lines worker [] (outcome ∷ outcomes) same = absurd (omega (arith, same))
-lines_meet lines worker (ops ∷ mine) [] same = absurd (omega (arith, same))
-lines_meet lines worker (ops ∷ mine) (outcome ∷ outcomes) same =
-    (line_meets lines worker ops outcome, lines_meet lines worker mine outcomes (omega (arith, same)))
+pub lines_meet : (lines : List (List (List Op))) (dropped : Type 0) (worker : ℕ) (mine : List (List Op))
+    (outcomes : List Outcome) → length outcomes ≡ length mine
+    → LinesMet lines dropped worker mine (map refusals_at outcomes)
+lines_meet lines dropped worker [] [] same = tt
+lines_meet lines dropped worker [] (outcome ∷ outcomes) same = absurd (omega (arith, same))
+lines_meet lines dropped worker (ops ∷ mine) [] same = absurd (omega (arith, same))
+lines_meet lines dropped worker (ops ∷ mine) (outcome ∷ outcomes) same =
+    (line_meets lines dropped worker ops outcome, lines_meet lines dropped worker mine outcomes (omega (arith, same)))
 
 -- no try of it is in conflict
 line_free : (outcome : Outcome) → conflicts_among (refusals_at outcome) ≡ 0

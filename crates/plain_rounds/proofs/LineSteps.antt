@@ -67,6 +67,7 @@ pub after_numbered : (s : Standing) (ops : List Op) (decls : List Decl) (state :
       slots = s.slots;
       pages = s.pages;
       resident = s.resident;
+      drops = s.drops;
       ended = s.ended;
     })
     (after_line s ops)
@@ -81,6 +82,7 @@ after_numbered s ops decls state has same is =
       slots = s.slots;
       pages = s.pages;
       resident = s.resident;
+      drops = s.drops;
       ended = s.ended;
     } in
     let kept : t ≡ record s { state = state; clock = next_number s.clock } =
@@ -159,6 +161,7 @@ module _ {D : Type 0} {tells : D → Option (List ℕ)} {clock : D → ℕ} {ima
       end = refl;
       limit = refl;
       mark = inl refl;
+      counts = inl refl;
       later = omega arith;
       quiet = λ is. refl;
       device = λ is. absurd (let no = is in cc);

@@ -19,7 +19,7 @@ use Rattle.serial_model.specs.declared.number.Commit.{Commit}
 use Rattle.serial_model.specs.declared.op.Op.{Op}
 use Rattle.script_grammar.specs.Script.{Round, lines_of_worker, worker_lines}
 use Rattle.tx_script.specs.Causes.{IsTryCause, is_unrun}
-use Rattle.tx_script.specs.Readied.{AreReadied, DrewSince, Readied}
+use Rattle.tx_script.specs.Readied.{AreReadied, DrewSince, Readied, epoch_behind}
 use Rattle.tx_script.specs.declared.outcome.Outcome.{Outcome}
 use Rattle.tx_script.specs.declared.outcome.Outcome.TheVariants.{Committed, Conflict, Full, Limit, Unrun, Wide}
 use Rattle.tx_script.specs.Conflicts.{WorkersMet}
@@ -141,12 +141,13 @@ shares_lost (p ∷ parts) s = omega (
 )
 
 -- no try of theirs met anybody
-pub shares_meet : (lines : List (List (List Op))) (first : ℕ) (parts : List Part) (s : Standing)
-    → WorkersMet lines first (lines_of (shares_of s parts)) (map (λ (p : Share). p.tries_refused) (shares_of s parts))
-shares_meet lines first [] s = tt
-shares_meet lines first (p ∷ parts) s = (
-  lines_meet lines first (lines_in p) (outcomes_in s p) (length-outcomes_in s p),
-  shares_meet lines (first + 1) parts (after_lines s p.ran),
+pub shares_meet : (lines : List (List (List Op))) (dropped : Type 0) (first : ℕ) (parts : List Part) (s : Standing)
+    → WorkersMet lines dropped first (lines_of (shares_of s parts))
+    (map (λ (p : Share). p.tries_refused) (shares_of s parts))
+shares_meet lines dropped first [] s = tt
+shares_meet lines dropped first (p ∷ parts) s = (
+  lines_meet lines dropped first (lines_in p) (outcomes_in s p) (length-outcomes_in s p),
+  shares_meet lines dropped (first + 1) parts (after_lines s p.ran),
 )
 
 -- of those of one line each has its cause
@@ -214,13 +215,22 @@ line_drew s ops epoch up = by (has_number s)
     by true = up
     by false = tt
 
+-- a line leaves no later epoch than its standing's
+line_behind : (s : Standing) (ops : List Op) (epoch : ℕ) → s.clock.epoch ≤ epoch
+    → epoch_behind epoch (outcome_at s ops) ≤ epoch
+line_behind s ops epoch up = by (has_number s)
+  where
+    by : (b : Bool) → epoch_behind epoch (cond b (committed s.clock (step s.decls s.state ops)) Limit) ≤ epoch
+    by true = up
+    by false = omega arith
+
 -- of each line that was run: the epoch then, and the mark that held it back
 readied_from : (epoch mark : ℕ) (marks : List (Option ℕ)) (left : List (List Op)) → slice_get marks 0 ≡ Some (Some mark)
-    → epoch ≤ mark + 1 → (ran : List (List Op)) (s : Standing) → s.clock.epoch ≡ epoch
-    → AreReadied epoch 0 marks (readied_at epoch ran) (outcomes_at s ran ++ unrun left)
-readied_from epoch mark marks left stood late [] s same = none_run left
-readied_from epoch mark marks left stood late (ops ∷ ran) s same = (
-  omega arith,
+    → epoch ≤ mark + 1 → (ran : List (List Op)) (s : Standing) (low : ℕ) → s.clock.epoch ≡ epoch → low ≤ epoch
+    → AreReadied low 0 marks (readied_at epoch ran) (outcomes_at s ran ++ unrun left)
+readied_from epoch mark marks left stood late [] s low same up = none_run left
+readied_from epoch mark marks left stood late (ops ∷ ran) s low same up = (
+  up,
   omega arith,
   record {
     ran = line_run s ops;
@@ -229,7 +239,8 @@ readied_from epoch mark marks left stood late (ops ∷ ran) s same = (
     late = late;
     drew = line_drew s ops epoch (omega (arith, same));
   },
-  readied_from epoch mark marks left stood late ran (after_line s ops) (lines_epoch (ops ∷ []) s ∙ same),
+  readied_from epoch mark marks left stood late ran (after_line s ops) (epoch_behind epoch (outcome_at s ops))
+      (lines_epoch (ops ∷ []) s ∙ same) (line_behind s ops epoch (omega (arith, same))),
 )
 
 readied_held : (epoch : ℕ) (ran left : List (List Op)) (marks : List Stood) (s : Standing) → s.clock.epoch ≡ epoch
@@ -237,7 +248,7 @@ readied_held : (epoch : ℕ) (ran left : List (List Op)) (marks : List Stood) (s
     → AreReadied epoch 0 (shown_epochs marks) (readied_at epoch ran) (outcomes_at s ran ++ unrun left)
 readied_held epoch [] left marks s same held = none_run left
 readied_held epoch (ops ∷ ran) left marks s same held =
-    readied_from epoch held.0 (shown_epochs marks) left held.1 held.2 (ops ∷ ran) s same
+    readied_from epoch held.0 (shown_epochs marks) left held.1 held.2 (ops ∷ ran) s epoch same (omega arith)
 
 pub shares_are : (parts : List Part) (s : Standing) (epoch first last tries : ℕ) → s.clock.epoch ≡ epoch → 1 ≤ tries
     → AreParts s parts → first ≤ s.clock.draw → (after_parts s parts).clock.draw ≤ last
@@ -322,13 +333,14 @@ plain_shares parts s tries some eight are =
         mine = x.mine;
         conflicts = x.conflicts;
         pages = x.pages;
+        drops = x.drops;
       }) (sym (parts_only parts s));
       epoch = let same = kept.1 in omega (arith, same);
       draw =
           let same : commit_count (map (λ (share : Share). share.outcomes) (shares_of s parts))
           ≡ commit_count (outcomes_of s parts) = ap commit_count (shares_told parts s) in
           omega (arith, parts_counted parts s, same, shares_lost parts s);
-      met = shares_meet (lines_of (shares_of s parts)) 0 parts s;
+      met = shares_meet (lines_of (shares_of s parts)) ((after_parts s parts).drops ≡ s.drops → ⊥) 0 parts s;
       caused = shares_caused s.slots parts s;
       conflicts = omega (arith, parts_free parts s, shares_free parts s);
       each = shares_are parts s s.clock.epoch s.clock.draw (after_parts s parts).clock.draw tries refl some are (omega arith)
@@ -544,7 +556,8 @@ module _ {D : Type 0} {tells : D → Option (List ℕ)} {clock : D → ℕ} {ima
                   (subst (λ x. LeftBy tells clock image_at faults s.clock.epoch s.clock.epoch [] one None old x before now) same
                   (subst (λ x. LeftBy tells clock image_at faults s.clock.epoch s.clock.epoch [] one None old old before x)
                   bank_same (record {
-                    shows = shows_one (shows_none s.clock.epoch s.clock.epoch old before);
+                    shows = shows_one (λ late. absurd (omega (arith, late)))
+                        (shows_none s.clock.epoch s.clock.epoch old before);
                     first = refl;
                     below = (
                       first_below s.clock.epoch (lines_of_worker round i) (stood_now clock old before)

@@ -1,5 +1,5 @@
 -- What the loop over a worker's lines has done so far.
-use Rattle.std.proofs.Common.{◌≡◌, ◌∙◌, ◌≤◌, ◌+◌, ◌-◌, ◌++◌, ◌∷◌, inl, sym, ap, subst, refl, ℕ, List, [], take}
+use Rattle.std.proofs.Common.{◌≡◌, ◌∙◌, ◌≤◌, ◌+◌, ◌-◌, ◌++◌, ◌∷◌, inl, inr, sym, ap, subst, refl, ℕ, List, [], take}
 use Rattle.std.proofs.Common.{Bool, true, false, cond, Option, Some, None, append_assoc, arith}
 use Rattle.std.specs.Prelude.{MatchBool, option_to_list}
 use Rattle.std.specs.List.{AllByRecursion}
@@ -18,7 +18,7 @@ use Rattle.log_writer.specs.declared.journal.LogFault.TheVariants.{Limit}
 use Rattle.tx_script.specs.declared.outcome.Outcome.{Outcome}
 use Rattle.tx_script.specs.declared.outcome.Outcome.TheVariants.{Unrun}
 use Rattle.worker_logs.specs.Changes.{IsLogged}
-use Rattle.worker_logs.specs.Logs.{LogState}
+use Rattle.worker_logs.specs.Logs.{IsUpTo, LogState}
 use Rattle.worker_logs.specs.Moves.{MovesLog}
 use Rattle.worker_logs.specs.Rows.{IsFull, IsLogUp, KeepsMark, TakesCommit, full_after}
 use Rattle.worker_logs.specs.RowLaws.{never_up}
@@ -74,6 +74,11 @@ down_took : (mid new : LogState) (commit : Option Commit) → TakesCommit commit
 down_took mid new None takes = ap (λ (l : LogState). l.journal.down) takes
 down_took mid new (Some c) takes = takes.down
 
+-- and its mark
+mark_took : (mid new : LogState) (commit : Option Commit) → TakesCommit commit mid new → new.mark ≡ mid.mark
+mark_took mid new None takes = ap (λ (l : LogState). l.mark) takes
+mark_took mid new (Some c) takes = takes.mark
+
 -- lines with one more are some
 pub some_lines : (lines : List (List Op)) (ops : List Op) → lines ++ ops ∷ [] ≡ [] → ⊥
 some_lines [] ops is = absurd cc
@@ -84,12 +89,14 @@ by_left : {R : Type 0} (left : List (List Op)) → ((left ≡ [] → ⊥) → R)
 by_left [] some none = none refl
 by_left (ops ∷ left) some none = some (λ is. absurd cc)
 
--- Lines were run, and what waits isn't flushed yet: a log that refused none is up.
+-- Lines were run, and what waits isn't flushed yet: a log that refused none is up, and has the mark that it had, if
+-- that held no epoch back that the clock had left.
 pub record RunsOn {D : Type 0} (tells : D → Option (List ℕ)) (clock : D → ℕ) (image_at : D → ℕ → List ℕ → Type 0)
     (faults : D → ℕ) (lines : List (List Op)) (s t : Standing) (outcomes : List Outcome) (full : Option ℕ)
     (old new : LogState) (before now : D) : Type 0 where
   pub runs : RunsLines tells clock image_at faults lines s t outcomes full old new before now
   pub up : runs.left ≡ [] → new.journal.down ≡ None
+  pub still : IsUpTo s.clock.epoch old.mark → new.mark ≡ old.mark
 
 module _ {D : Type 0} {tells : D → Option (List ℕ)} {clock : D → ℕ} {image_at : D → ℕ → List ℕ → Type 0}
     {faults : D → ℕ} where
@@ -106,8 +113,9 @@ module _ {D : Type 0} {tells : D → Option (List ℕ)} {clock : D → ℕ} {ima
       standing = refl;
       logged_are = refl;
       lines_are = tt;
-      shows = shows_one (shows_none s.clock.epoch s.clock.epoch log bank);
+      shows = shows_one (λ late. absurd (omega (arith, late))) (shows_none s.clock.epoch s.clock.epoch log bank);
       mark = inl refl;
+      counts = λ up. inl refl;
       blames = blames_none bank log.journal up.up;
       reaches = up.reaches;
       limit = refl;
@@ -118,6 +126,7 @@ module _ {D : Type 0} {tells : D → Option (List ℕ)} {clock : D → ℕ} {ima
       none = λ is. refl;
     };
     up = λ none. up.up;
+    still = λ up. refl;
   }
 
   -- a line of another worker was passed over
@@ -136,14 +145,18 @@ module _ {D : Type 0} {tells : D → Option (List ℕ)} {clock : D → ℕ} {ima
       {old log ready left : LogState} {before bank now : D} (ops : List Op) → 1 ≤ s.clock.epoch
       → RunsOn tells clock image_at faults lines s mid outcomes full old log before bank
       → MovesLog tells clock image_at faults (s.clock.epoch - 1) log ready bank now None
+      → (IsUpTo s.clock.epoch log.mark → ready.mark ≡ log.mark)
       → KeepsMark s.clock.epoch log ready
       → end_of ready.journal + 400 ≤ ready.journal.limit
       → TakesLine mid ops ready left
       → after ≡ outcomes ++ outcome_at mid ops ∷ [] → t ≡ after_line mid ops
       → RunsOn tells clock image_at faults (lines ++ ops ∷ []) s t after full old left before now
   lines_ran {lines = lines} {s = s} {mid = mid} {full = full} {old = old} {log = log} {ready = ready} {left = left} {now = now} ops some on
-      moves mark below took told then =
+      moves stays mark below took told then =
       let so = on.runs in
+      let still : IsUpTo s.clock.epoch old.mark → left.mark ≡ old.mark = λ up.
+      mark_took ready left took.first took.takes ∙ stays (subst (IsUpTo s.clock.epoch) (sym (on.still up)) up)
+      ∙ on.still up in
       let open_log : full ≡ None = room_left full (λ size is.
       let now_full = still_full moves (so.full_is size is) in omega (arith, now_full.end, now_full.above, below)) in
       let none : so.left ≡ [] = so.all open_log (was_up moves) in
@@ -176,6 +189,7 @@ module _ {D : Type 0} {tells : D → Option (List ℕ)} {clock : D → ℕ} {ima
           mark = keeps_commit s.clock.epoch s.clock.epoch old ready left took.first
               (keeps_then s.clock.epoch s.clock.epoch s.clock.epoch old log ready (omega arith) (omega arith) so.mark mark)
               took.takes;
+          counts = λ up. inl (still up);
           blames = blames_took ready left took.first (blames_move None so.blames moves) took.takes;
           reaches = reaches_took tells now ready left took.first moves.reaches took.takes;
           limit = limit_took ready left took.first took.takes ∙ moves.limit ∙ so.limit;
@@ -186,6 +200,7 @@ module _ {D : Type 0} {tells : D → Option (List ℕ)} {clock : D → ℕ} {ima
           none = λ is. absurd (some_lines lines ops is);
         };
         up = λ is. down_took ready left took.first took.takes ∙ moves.stays_up (λ no. cc) ∙ was_up moves;
+        still = still;
       }
 
   -- a line of the worker was left out
@@ -193,13 +208,16 @@ module _ {D : Type 0} {tells : D → Option (List ℕ)} {clock : D → ℕ} {ima
       {old log left : LogState} {before bank now : D} (ops : List Op) (fault : LogFault)
       → RunsOn tells clock image_at faults lines s mid outcomes full old log before bank
       → MovesLog tells clock image_at faults (s.clock.epoch - 1) log left bank now (Some fault)
+      → (IsUpTo s.clock.epoch log.mark → left.mark ≡ log.mark)
       → KeepsMark s.clock.epoch log left
       → ((size : ℕ) → fault ≡ Limit size → IsFull size log.journal)
       → after ≡ outcomes ++ Unrun ∷ []
       → RunsOn tells clock image_at faults (lines ++ ops ∷ []) s mid after (full_after fault full) old left before now
   lines_left {lines = lines} {s = s} {full = full} {old = old} {log = log} {left = left} {bank = bank} {now = now} ops
-      fault on moves mark limit told =
+      fault on moves stays mark limit told =
       let so = on.runs in
+      let still : IsUpTo s.clock.epoch old.mark → left.mark ≡ old.mark = λ up.
+      stays (subst (IsUpTo s.clock.epoch) (sym (on.still up)) up) ∙ on.still up in
       record {
         runs = record {
           ran = so.ran;
@@ -213,6 +231,7 @@ module _ {D : Type 0} {tells : D → Option (List ℕ)} {clock : D → ℕ} {ima
           lines_are = so.lines_are;
           shows = shows_move (omega arith) (omega arith) so.shows moves.runs;
           mark = keeps_then s.clock.epoch s.clock.epoch s.clock.epoch old log left (omega arith) (omega arith) so.mark mark;
+          counts = λ up. inl (still up);
           blames = blames_move (Some fault) so.blames moves;
           reaches = moves.reaches;
           limit = moves.limit ∙ so.limit;
@@ -237,6 +256,7 @@ module _ {D : Type 0} {tells : D → Option (List ℕ)} {clock : D → ℕ} {ima
           none = λ is. absurd (some_lines lines ops is);
         };
         up = λ none. absurd (some_lines so.left ops none);
+        still = still;
       }
 
   -- What waits was made durable at the end, and marked, unless there was no line.
@@ -258,6 +278,7 @@ module _ {D : Type 0} {tells : D → Option (List ℕ)} {clock : D → ℕ} {ima
     shows = shows_move (omega arith) (omega arith) so.shows marks.moves.runs;
     mark = keeps_then s.clock.epoch s.clock.epoch s.clock.epoch old log left (omega arith) (omega arith) so.mark
         marks.mark;
+    counts = λ up. elim marks.moves.counts [ inl same ↦ inl (same ∙ on.still up) | inr all ↦ inr all ];
     blames = blames_move marks.fault so.blames marks.moves;
     reaches = marks.moves.reaches;
     limit = marks.moves.limit ∙ so.limit;

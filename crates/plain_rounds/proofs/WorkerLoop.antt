@@ -13,7 +13,7 @@ use Rattle.log_writer.specs.declared.journal.LogFault.{LogFault}
 use Rattle.log_writer.specs.declared.journal.LogFault.TheVariants.{Limit}
 use Rattle.tx_script.specs.declared.outcome.Outcome.{Outcome}
 use Rattle.tx_script.specs.declared.outcome.Outcome.TheVariants.{Limit as AtLimit, Unrun}
-use Rattle.worker_logs.specs.Logs.{LogState}
+use Rattle.worker_logs.specs.Logs.{IsUpTo, LogState}
 use Rattle.worker_logs.specs.Moves.{MovesLog}
 use Rattle.worker_logs.specs.Rows.{full_after}
 use Rattle.worker_logs.specs.RowLaws.{blames_move, keeps_then, room_left, still_full, was_up}
@@ -81,15 +81,17 @@ module _ (D : Type 0) (tells : D → Option (List ℕ)) (clock : D → ℕ) (ima
       → 1 ≤ s.clock.epoch
       → LoopAt count s mid outcomes full old log before bank
       → MovesLog tells clock image_at faults (s.clock.epoch - 1) log ready bank now None
+      → (IsUpTo s.clock.epoch log.mark → ready.mark ≡ log.mark)
       → end_of ready.journal + 400 ≤ ready.journal.limit
       → TakesLine mid ops ready left
       → after ≡ outcomes ++ outcome_at mid ops ∷ [] → t ≡ after_line mid ops
       → RunsOn tells clock image_at faults (ops_of worker (take (i + 1) lines)) s t after full old left before now
       × (count + 1 ≡ length (ops_of worker (take (i + 1) lines))) × (count + 1 ≤ i + 1)
   loop_ran {s = s} {t = t} {after = after} {full = full} {old = old} {left = left} {before = before} {now = now}
-      count ops has some so moves below took told then = (
+      count ops has some so moves stays below took told then = (
         subst (λ l. RunsOn tells clock image_at faults l s t after full old left before now)
-            (sym (take_mine worker lines i ops has)) (lines_ran ops some so.0 moves moves.mark below took told then),
+            (sym (take_mine worker lines i ops has)) (lines_ran ops some so.0 moves stays moves.mark below
+            took told then),
         count_more worker i count lines ops has so.1,
         omega (arith, so.2),
       )
@@ -100,16 +102,17 @@ module _ (D : Type 0) (tells : D → Option (List ℕ)) (clock : D → ℕ) (ima
       → HasOps worker lines i (Some ops)
       → LoopAt count s mid outcomes full old log before bank
       → MovesLog tells clock image_at faults (s.clock.epoch - 1) log left bank now (Some fault)
+      → (IsUpTo s.clock.epoch log.mark → left.mark ≡ log.mark)
       → ((size : ℕ) → fault ≡ Limit size → (size ≡ end_of log.journal) × (log.journal.limit ≤ size + 399))
       → after ≡ outcomes ++ Unrun ∷ []
       → RunsOn tells clock image_at faults (ops_of worker (take (i + 1) lines)) s mid after (full_after fault full) old left
       before now
       × (count + 1 ≡ length (ops_of worker (take (i + 1) lines))) × (count + 1 ≤ i + 1)
   loop_left {s = s} {mid = mid} {after = after} {full = full} {old = old} {left = left} {before = before} {now = now}
-      count ops fault has so moves limit told = (
+      count ops fault has so moves stays limit told = (
         subst (λ l. RunsOn tells clock image_at faults l s mid after (full_after fault full) old left before now)
             (sym (take_mine worker lines i ops has))
-            (lines_left ops fault so.0 moves moves.mark
+            (lines_left ops fault so.0 moves stays moves.mark
             (λ size is. let at = limit size is in record { end = at.0; above = omega (arith, at.1) }) told),
         count_more worker i count lines ops has so.1,
         omega (arith, so.2),

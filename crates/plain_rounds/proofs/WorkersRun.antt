@@ -14,8 +14,8 @@ use Rattle.serial_model.specs.declared.op.Op.{Op}
 use Rattle.script_grammar.specs.Script.{Round, lines_of_worker, worker_lines}
 use Rattle.tx_script.specs.Run.{LogFailed, LogFull}
 use Rattle.tx_script.specs.declared.outcome.Outcome.{Outcome}
-use Rattle.worker_logs.specs.Logs.{LogState}
-use Rattle.worker_logs.specs.Rows.{IsBeforeOne, IsFull}
+use Rattle.worker_logs.specs.Logs.{IsEpochUpTo, IsUpTo, LogState}
+use Rattle.worker_logs.specs.Rows.{IsBeforeOne, IsFull, KeepsMarkIn}
 use Rattle.worker_logs.specs.Shown.{LogShows, Stood}
 use Rattle.worker_logs.specs.ShownLaws.{shows_one, shows_takes}
 use Rattle.wire_form.specs.declared.clock.Mark.{Mark}
@@ -221,14 +221,47 @@ first_for : (since : ℕ) (lines : List (List Op)) (first last : Stood) → firs
 first_for since [] first last is = is
 first_for since (ops ∷ lines) first last is = is
 
+-- a mark as lines begin holds no epoch back that the clock has left
+up_to : (epoch : ℕ) (lines : List (List Op)) (mark : Mark) → IsMarkedAs epoch lines mark → IsUpTo epoch mark
+up_to epoch [] mark is = subst (IsEpochUpTo epoch) (sym is) tt
+up_to epoch (ops ∷ lines) mark is = subst (IsEpochUpTo epoch) (sym is) (omega arith)
+
+-- what is known of the log's mark behind the lines is known of it as it is shown
+kept_last : (epoch : ℕ) (old new : LogState) (mark : Mark) → mark ≡ new.mark → KeepsMarkIn epoch epoch old new
+    → (mark ≡ old.mark) ⊎ IsBeforeOne epoch epoch mark.epoch
+kept_last epoch old new mark is keeps =
+    subst (λ (m : Mark). (m ≡ old.mark) ⊎ IsBeforeOne epoch epoch m.epoch) (sym is) keeps
+
+-- How the log's mark is shown behind a worker's lines: as it was first, if it is that one, else since now.
+record ShowsLast {D : Type 0} (tells : D → Option (List ℕ)) (clock : D → ℕ) (image_at : D → ℕ → List ℕ → Type 0)
+    (lines : List (List Op)) (low high : ℕ) (logged : List Commit) (old new : LogState) (before now : D) : Type 0 where
+  last : Stood
+  is : last.mark ≡ new.mark
+  shows : LogShows tells clock image_at low high logged (marks_for lines (stood_now clock old before) last)
+      old new before now
+
 module _ {D : Type 0} {tells : D → Option (List ℕ)} {clock : D → ℕ} {image_at : D → ℕ → List ℕ → Type 0} where
+  -- a mark that was shown may be shown again
+  shows_again : {low high : ℕ} {logged : List Commit} {m : Stood} {old new : LogState} {before now : D}
+      → LogShows tells clock image_at low high logged (m ∷ []) old new before now
+      → LogShows tells clock image_at low high logged (m ∷ m ∷ []) old new before now
+  shows_again shows commits was durable marks first ran passed =
+      let s = shows commits was durable marks first ran passed in
+      record { took = s.took; later = s.later; each = (s.each.0, (s.each.0, tt)) }
+
   -- behind the lines the log's mark is shown, too
-  shows_for : (lines : List (List Op)) {low high : ℕ} {logged : List Commit} {first new : LogState} {before now : D}
-      → LogShows tells clock image_at low high logged (stood_now clock first before ∷ []) first new before now
-      → LogShows tells clock image_at low high logged
-      (marks_for lines (stood_now clock first before) (stood_now clock new now)) first new before now
-  shows_for [] shows = shows
-  shows_for (ops ∷ lines) shows = shows_one shows
+  shows_last : (lines : List (List Op)) {low high : ℕ} {logged : List Commit} {old new : LogState} {before now : D}
+      → LogShows tells clock image_at low high logged (stood_now clock old before ∷ []) old new before now
+      → (new.mark ≡ old.mark) ⊎ (new.mark.length ≡ new.journal.durable)
+      → ShowsLast tells clock image_at lines low high logged old new before now
+  shows_last [] {old = old} {before = before} shows (inl same) =
+      record { last = stood_now clock old before; is = sym same; shows = shows }
+  shows_last [] {new = new} {now = now} shows (inr all) =
+      record { last = stood_now clock new now; is = refl; shows = shows }
+  shows_last (ops ∷ lines) {old = old} {before = before} shows (inl same) =
+      record { last = stood_now clock old before; is = sym same; shows = shows_again shows }
+  shows_last (ops ∷ lines) {new = new} {now = now} shows (inr all) =
+      record { last = stood_now clock new now; is = refl; shows = shows_one (λ late. all) shows }
 
 module _ {D : Type 0} {tells : D → Option (List ℕ)} {clock : D → ℕ} {image_at : D → ℕ → List ℕ → Type 0}
     {faults : D → ℕ} where
@@ -237,20 +270,23 @@ module _ {D : Type 0} {tells : D → Option (List ℕ)} {clock : D → ℕ} {ima
       {old new : LogState} {before now : D} (failed : Bool) → failed ≡ is_some new.journal.down
       → IsMarkedAs s.clock.epoch lines old.mark
       → (runs : RunsLines tells clock image_at faults lines s t outcomes full old new before now)
+      → (after : ShowsLast tells clock image_at lines s.clock.epoch s.clock.epoch runs.logged old new before now)
       → LeftBy tells clock image_at faults s.clock.epoch s.clock.epoch runs.logged
-      (marks_for lines (stood_now clock old before) (stood_now clock new now)) (refused_as failed full) old new before now
-  left_by lines {s = s} {full = full} {old = old} {new = new} {before = before} {now = now} failed is marked runs = record {
-    shows = shows_for lines runs.shows;
-    first = first_for (clock before) lines (stood_now clock old before) (stood_now clock new now) refl;
-    below = below_for s.clock.epoch lines (stood_now clock old before) (stood_now clock new now) marked runs.mark;
-    takes = shows_takes runs.shows;
-    mark = runs.mark;
-    blames = runs.blames;
-    reaches = runs.reaches;
-    limit = runs.limit;
-    refused = refused_by failed full new.journal is runs.full_is;
-    failed = failed_by failed full new.journal.down is;
-  }
+      (marks_for lines (stood_now clock old before) after.last) (refused_as failed full) old new before now
+  left_by lines {s = s} {full = full} {old = old} {new = new} {before = before} {now = now} failed is marked runs
+      after = record {
+        shows = after.shows;
+        first = first_for (clock before) lines (stood_now clock old before) after.last refl;
+        below = below_for s.clock.epoch lines (stood_now clock old before) after.last marked
+            (kept_last s.clock.epoch old new after.last.mark after.is runs.mark);
+        takes = shows_takes runs.shows;
+        mark = runs.mark;
+        blames = runs.blames;
+        reaches = runs.reaches;
+        limit = runs.limit;
+        refused = refused_by failed full new.journal is runs.full_is;
+        failed = failed_by failed full new.journal.down is;
+      }
 
   -- and one that stopped
   left_stopped : (lines : List (List Op)) {s t : Standing} {old new : LogState} {before now : D}
@@ -362,7 +398,14 @@ module _ {D : Type 0} {tells : D → Option (List ℕ)} {clock : D → ℕ} {ima
         let runs = one.4.0 in
         let lines = lines_of_worker round w in
         let shown : Stood = stood_now clock log.0 bank.0 in
-        let last : Stood = stood_now clock one.0 one.1 in
+        let epoch : mid.clock.epoch ≡ s.clock.epoch =
+        ap (λ (x : Standing). x.clock.epoch) so.first.standing ∙ (plain_kept so.parts s).1 in
+        let marked : IsMarkedAs mid.clock.epoch lines log.0.mark =
+        subst (λ e. IsMarkedAs e lines log.0.mark) (sym epoch)
+        (marks w log.0 (sym (so.first.rest_logs w (omega arith)) ∙ log.1)) in
+        let after = shows_last lines runs.shows (runs.counts (up_to mid.clock.epoch lines log.0.mark marked)) in
+        let last : Stood = after.last in
+        let keeps = kept_last mid.clock.epoch log.0 one.0 last.mark after.is runs.mark in
         let p : Part = record {
           ran = runs.ran;
           left = runs.left;
@@ -372,11 +415,6 @@ module _ {D : Type 0} {tells : D → Option (List ℕ)} {clock : D → ℕ} {ima
         } in
         let few : length runs.ran ≤ length lines =
         omega (arith, ap length runs.whole, length-append runs.ran runs.left) in
-        let epoch : mid.clock.epoch ≡ s.clock.epoch =
-        ap (λ (x : Standing). x.clock.epoch) so.first.standing ∙ (plain_kept so.parts s).1 in
-        let marked : IsMarkedAs mid.clock.epoch lines log.0.mark =
-        subst (λ e. IsMarkedAs e lines log.0.mark) (sym epoch)
-        (marks w log.0 (sym (so.first.rest_logs w (omega arith)) ∙ log.1)) in
         let ends_many : length ends ≡ length so.parts =
         sym (length-map ends refusal_of) ∙ ap length so.ends_are ∙ length-map so.parts (λ (q : Part). q.refusal) in
         let is : IsPart mid p = record {
@@ -385,13 +423,13 @@ module _ {D : Type 0} {tells : D → Option (List ℕ)} {clock : D → ℕ} {ima
           all = λ none.
               let up = not_refused end.failed end.full none in
               runs.all up.1 (none_there _ (sym one.4.1 ∙ up.0));
-          rise = rises_for mid.clock.epoch lines shown last marked runs.mark;
+          rise = rises_for mid.clock.epoch lines shown last marked keeps;
           held = held_for mid.clock.epoch lines runs.ran shown last marked few;
         } in
         record {
           parts = so.parts ++ p ∷ [];
           first = first_more p so.first is runs.standing log.1 bank.1 one.2 one.3
-              (left_by lines end.failed one.4.1 marked runs) others.logs_stay others.banks_stay others.logs_many others.banks_many;
+              (left_by lines end.failed one.4.1 marked runs after) others.logs_stay others.banks_stay others.logs_many others.banks_many;
           lines = map_push lines_in so.parts p ∙ ap (λ l. l ++ lines_in p ∷ []) so.lines
               ∙ ap (λ x. take w (worker_lines round) ++ x ∷ []) (sym runs.whole) ∙ sym (take_worker round w small);
           lines_each = λ i q has. elim (at_push_cases so.parts p q i has) [
@@ -471,11 +509,12 @@ module _ {D : Type 0} {tells : D → Option (List ℕ)} {clock : D → ℕ} {ima
             | inr newest ↦
                 let here : i ≡ w = newest.0 ∙ so.first.count in
                 let new_is : one.0 ≡ l = same_Some one.0 l (sym one.2 ∙ ap (slice_get logs_now) (sym here) ∙ is_now) in
-                let end_of = last_for lines shown last (λ none. ap (λ (x : LogState). x.mark) (runs.none none)) in (
+                let end_of = last_for lines shown last
+                (λ none. after.is ∙ ap (λ (x : LogState). x.mark) (runs.none none)) in (
                   end_of.0,
                   end_of.1,
                   ap (λ (x : Part). x.marks) (sym newest.1) ∙ end_of.2,
-                  end_of.3 ∙ ap (λ (x : LogState). x.mark) new_is,
+                  end_of.3 ∙ after.is ∙ ap (λ (x : LogState). x.mark) new_is,
                 )
           ];
           many_outcomes = length-append told (outcomes ∷ []) ∙ ap (λ n. n + 1) so.many_outcomes;

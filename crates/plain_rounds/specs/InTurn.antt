@@ -1,5 +1,5 @@
 -- What comes of the workers' lines over their logs on the plain map, one worker after another.
-use Rattle.std.specs.Prelude.{◌≡◌, ◌≢◌, ◌<◌, ◌≤◌, ◌-◌, ◌++◌, ◌∷◌, ℕ, List, [], get_or, length, map, take}
+use Rattle.std.specs.Prelude.{◌≡◌, ◌≢◌, ◌⊎◌, ◌<◌, ◌≤◌, ◌-◌, ◌++◌, ◌∷◌, ℕ, List, [], get_or, length, map, take}
 use Rattle.std.specs.Prelude.{Option, Some, None, is_some, slice_get}
 use Rattle.std.specs.Prelude.{Result, Ok, Err, IfOk, false}
 use Rattle.std.specs.List.{AllByRecursion}
@@ -13,7 +13,7 @@ use Rattle.wire_form.specs.declared.clock.Mark.{Mark}
 use Rattle.log_writer.specs.Journal.{Reaches}
 use Rattle.tx_script.specs.Readied.{Readied}
 use Rattle.tx_script.specs.declared.outcome.Outcome.{Outcome}
-use Rattle.worker_logs.specs.Logs.{LogState}
+use Rattle.worker_logs.specs.Logs.{IsUpTo, LogState}
 use Rattle.worker_logs.specs.Rows.{Blames, IsFull, KeepsMarkIn}
 use Rattle.worker_logs.specs.Shown.{LogShows, Stood}
 use Rattle.plain_rounds.specs.Parts.{AreLoggedAt, AreParts, Part, after_parts, lines_in, outcomes_of, unrun}
@@ -78,7 +78,8 @@ module _ {D : Type 0} (tells : D → Option (List ℕ)) (clock : D → ℕ) (ima
   -- ---- one worker
 
   -- Lines of a worker were run, one after another. Those behind them were left out: their log refused the first of
-  -- them, and it is told full only where it did. The mark that the log had first was shown meanwhile.
+  -- them, and it is told full only where it did. The mark that the log had first was shown meanwhile; if it held no
+  -- epoch back that the clock had left, it stands still, or the one behind the lines counts all that is durable.
   pub record RunsLines (lines : List (List Op)) (s t : Standing) (outcomes : List Outcome) (full : Option ℕ)
       (old new : LogState) (before now : D) : Type 0 where
     pub ran : List (List Op)
@@ -92,6 +93,8 @@ module _ {D : Type 0} (tells : D → Option (List ℕ)) (clock : D → ℕ) (ima
     pub shows : LogShows tells clock image_at s.clock.epoch s.clock.epoch logged (stood_now clock old before ∷ [])
         old new before now
     pub mark : KeepsMarkIn s.clock.epoch s.clock.epoch old new
+    pub counts : IsUpTo s.clock.epoch old.mark
+        → (new.mark ≡ old.mark) ⊎ (new.mark.length ≡ new.journal.durable)
     pub blames : Blames faults before now new.journal
     pub reaches : Reaches tells now new.journal
     pub limit : new.journal.limit ≡ old.journal.limit
@@ -178,7 +181,7 @@ module _ {D : Type 0} (tells : D → Option (List ℕ)) (clock : D → ℕ) (ima
   -- What comes of a round's lines, all in the epoch in which it began: however often each may be tried, they were run,
   -- or some first ones of each worker where memory was wanted. Each number was drawn for a commit. The gate was told of
   -- each line that was run. Words that threads share couldn't have the contents from which they were run, and the run
-  -- had not ended.
+  -- had not ended. There are no pages in memory, and none were dropped.
   pub record RunsInTurn (round : Round) (s t : Standing) (logs_was logs : List LogState) (banks_was banks : List D)
       (result : Result WorkersRan Memory) : Type 0 where
     pub marks : List (List Stood)
@@ -187,6 +190,8 @@ module _ {D : Type 0} (tells : D → Option (List ℕ)) (clock : D → ℕ) (ima
         → LinesCome tells clock image_at faults tries round s t marks readied logs_was logs banks_was banks result
     pub epoch : t.clock.epoch ≡ s.clock.epoch
     pub pages : t.pages ≡ s.pages
+    pub drops : t.drops ≡ s.drops
+    pub no_slots : t.slots ≡ 0
     pub once : IfOk result (λ (ran : WorkersRan). DrewOnce s t ran.outcomes)
     pub calls : IfOk result (λ (ran : WorkersRan). AreAllTold 0 ran.outcomes ran.ends.items)
     pub apart : IsApart s

@@ -28,6 +28,7 @@ stands_at decls state clock = record {
   slots = 0;
   pages = [];
   resident = 0;
+  drops = [];
   ended = false;
 }
 

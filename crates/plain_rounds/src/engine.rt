@@ -39,6 +39,7 @@ impl Model for PlainEngine {
       slots = 0;
       pages = [];
       resident = 0;
+      drops = [];
       ended = false;
     } };
 
@@ -67,6 +68,7 @@ impl PlainEngine {
         ensures apart { IsApart self.now }
         ensures no_slots { self.now.slots ≡ 0 }
         ensures no_pages { self.now.pages ≡ [] }
+        ensures no_drops { self.now.drops ≡ [] }
     {
         self.clock
     }

@@ -47,6 +47,7 @@ unused l clock = record {
   slots = l.slots;
   pages = l.pages;
   resident = l.resident;
+  drops = [];
 }
 
 pub first_shared : (l : Layout) (clock : Number) (keeper : Pass) → OnlyFilled (opening_view l) (view keeper)
@@ -64,6 +65,7 @@ first_shared l clock keeper is same =
       slots = v.layout.slots;
       pages = v.pages;
       resident = v.layout.resident;
+      drops = v.drops;
     }) is
     ∙ ap (unused l) same
 
@@ -91,4 +93,5 @@ first_kept l v can arrays none is claims = subst IsKept (sym is) record {
         (subst (λ (w : View). n ≤ w.layout.resident) (sym is) most);
     long = claims.long;
   };
+  free = record { holds = refl; made = refl; taken = refl; ways = refl; took = refl; shuts = refl };
 }

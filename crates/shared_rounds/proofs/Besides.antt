@@ -6,6 +6,7 @@ use Rattle.std.specs.List.{AllByRecursion}
 use Rattle.lists.specs.Each.{all_at}
 use Rattle.wire_form.specs.Words.{IsMark}
 use Rattle.std.proofs.lemmas.Option.{same_Some}
+use Rattle.serial_model.specs.Decls.{AreDecls}
 use Rattle.serial_model.specs.declared.number.Number.{Number}
 use Rattle.script_grammar.specs.Script.{Round}
 use Rattle.commit_core.specs.declared.seat.Mark.{Mark}
@@ -36,7 +37,7 @@ use Rattle.shared_rounds.specs.SharedState.{IsKept, shared_by}
 use Rattle.shared_rounds.specs.Shares.{Share}
 use Rattle.shared_rounds.specs.Together.{RanSeated}
 use Rattle.shared_rounds.proofs.Joined.{shares_of}
-use Rattle.shared_rounds.proofs.Claimed.{claimed_still, same_pages}
+use Rattle.shared_rounds.proofs.Claimed.{claimed_still, free_still, same_pages}
 use Rattle.shared_rounds.proofs.Told.{words_at}
 
 -- ---- as the lines begin
@@ -59,6 +60,9 @@ begins_on was mid seated kept some sets past owns is =
       pages = pages;
       claimed = seated_claims mid (claimed_still was mid kept.claimed sets.layout sets.fills pages);
       rests = subst (λ (s : Seat). IsResting s) (sym sets.seat) kept.rests;
+      declared = subst (λ (l : Layout). AreDecls l.decls) (sym sets.layout) kept.decls;
+      drops = sets.drops;
+      free = free_still mid (with_made (seats_from 8 0) mid) refl refl refl refl (sets.free kept.free);
     })
   where
     seated_claims : (v : View) → AreClaimed v → AreClaimed (with_made (seats_from 8 0) v)
@@ -79,6 +83,9 @@ begins_beside keeper clock v epoch on = record {
   pages = on.pages;
   claimed = on.claimed;
   rests = on.rests;
+  declared = on.declared;
+  drops = on.drops;
+  free = on.free;
 }
 
 -- ---- the marks that were met
@@ -162,6 +169,7 @@ module _ {D : Type 0} (tells : D → Option (List ℕ)) (clock : D → ℕ) (ima
         epoch = audited.1.keepers so.role ∙ so.epoch;
         pages = ap (λ (v : View). v.pages) audited.2.is ∙ ap (λ (v : View). v.pages) audited.1.is
             ∙ same_pages behind ended (ran.went.claimed ran.begins.claimed) owns layout so.fills so.pages;
+        drops = ap (λ (v : View). v.drops) audited.2.is ∙ ap (λ (v : View). v.drops) audited.1.is ∙ so.drops;
         known = λ worker small. omega (arith, ran.known worker small);
         met = λ x has small mine there low.
             let p = marks_at so.parts x.worker mine there in

@@ -1,11 +1,36 @@
 -- The pages that the keeper knows stay the same, as those behind them are its own to fill.
-use Rattle.std.proofs.Common.{◌≡◌, sym, ap, subst, inl, inr, ◌⊎◌, ℕ, ◌<◌, List, length, arith}
+use Rattle.std.proofs.Common.{◌≡◌, ◌∙◌, sym, ap, subst, inl, inr, ◌⊎◌, ℕ, ◌<◌, List, length, arith}
 use Rattle.std.specs.List.{Contains}
+use Rattle.std.proofs.lemmas.Bool.{cases_lt}
+use Rattle.lists.specs.Fronts.{IsFront, front_length, front_refl, front_same}
 use Rattle.engine_pages.specs.declared.layout.Layout.{Layout}
 use Rattle.engine_pages.specs.declared.view.Filled.{Filled}
 use Rattle.engine_pages.specs.declared.view.View.{View}
 use Rattle.resident_pages.specs.Fills.{AreClaimed, HasLooked}
+use Rattle.drop_core.specs.declared.grip.Grip.{Grip}
 use Rattle.shared_rounds.specs.Ended.{OwnsBehind}
+use Rattle.shared_rounds.specs.SharedState.{HoldsNothing}
+
+-- a list that has grown is longer
+pub grown : {A : Type 0} (a b : List A) → IsFront a b → (b ≡ a) ⊎ (length a < length b)
+grown a b front = elim (cases_lt (length a) (length b)) [
+  | inl more ↦ inr more
+  | inr low ↦
+      let long = front_length a b front in
+      inl (sym (front_same a b b front (front_refl b) (omega (arith, low, long))))
+]
+
+-- what has nothing of the pages in memory has nothing still
+pub free_still : (v w : View) → w.grip ≡ v.grip → w.ways ≡ v.ways → w.took ≡ v.took → w.shuts ≡ v.shuts
+    → HoldsNothing v → HoldsNothing w
+free_still v w grip ways took shuts nothing = record {
+  holds = ap (λ (g : Grip). g.holds) grip ∙ nothing.holds;
+  made = ap (λ (g : Grip). g.made) grip ∙ nothing.made;
+  taken = ap (λ (g : Grip). g.taken) grip ∙ nothing.taken;
+  ways = ways ∙ nothing.ways;
+  took = took ∙ nothing.took;
+  shuts = shuts ∙ nothing.shuts;
+}
 
 -- the load tells that what is the pass's own to fill stands behind all that it knows
 pub owns_behind : (mid now : View) (count : ℕ) → HasLooked mid count now → OwnsBehind now

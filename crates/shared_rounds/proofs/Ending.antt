@@ -37,6 +37,7 @@ use Rattle.shared_rounds.specs.SharedState.{conflicts_in}
 use Rattle.shared_rounds.specs.Shares.{Share, all_conflicts}
 use Rattle.shared_rounds.proofs.Conflicts.{conflicts_append, more_conflicts}
 use Rattle.shared_rounds.specs.Seating.{seats_from}
+use Rattle.shared_rounds.proofs.Claimed.{free_still}
 use Rattle.shared_rounds.proofs.Made.{seen_then}
 use Rattle.shared_rounds.proofs.Meets.{in_either}
 use Rattle.shared_rounds.proofs.Shared.{parts_later, parts_push}
@@ -226,11 +227,13 @@ module _ {D : Type 0} (tells : D → Option (List ℕ)) (clock : D → ℕ) (ima
             let more : drawn_in_all (so.parts ++ p ∷ []) ≡ drawn_in_all so.parts + draws_of p.ran =
             sum_by_push (λ (q : Part). draws_of q.ran) so.parts p in
             omega (arith, drew, own, begun, row, more, so.draws);
-        touched = λ t has.
+        drops = same_drops;
+        dropped = so.dropped;
+        touched = λ same t has.
             let drew : now.touched ≡ mid.touched ++ u.touched = ap (λ (v : View). v.touched) timed.is in
             elim (in_either t mid.touched u.touched (subst (λ (l : List Touch). Contains l t) drew has)) [
               | inl before ↦
-                  let x = so.touched t before in (x.0, x.1, at_older so.parts p x.1 x.0 x.2, x.3)
+                  let x = so.touched (sym same_then ∙ same) t before in (x.0, x.1, at_older so.parts p x.1 x.0 x.2, x.3)
               | inr own ↦ (
                 count,
                 p,
@@ -252,6 +255,8 @@ module _ {D : Type 0} (tells : D → Option (List ℕ)) (clock : D → ℕ) (ima
         left = left_push was.epoch behind.epoch so.parts logs_was logs banks_was banks p old new before bank so.left
             (subst (λ n. LeavesLog tells clock image_at faults was.epoch n p old new before bank) here_epoch
             leaves.log);
+        free = λ nothing. free_still mid now (ap (λ (v : View). v.grip) timed.is) (ap (λ (v : View). v.ways) timed.is)
+            (ap (λ (v : View). v.took) timed.is) (ap (λ (v : View). v.shuts) timed.is) (so.free nothing);
         told = then;
         many_outcomes = many;
         calls = calls;
@@ -259,6 +264,12 @@ module _ {D : Type 0} (tells : D → Option (List ℕ)) (clock : D → ℕ) (ima
     where
       here_epoch : now.epoch ≡ behind.epoch
       here_epoch = ap (λ (v : View). v.epoch) timed.is ∙ timed.keepers so.role ∙ so.epoch
+
+      same_then : now.drops ≡ mid.drops
+      same_then = ap (λ (v : View). v.drops) timed.is
+
+      same_drops : now.drops ≡ behind.drops
+      same_drops = same_then ∙ so.drops
 
       who : worker_of u.role ≡ count
       who = ap worker_of seat

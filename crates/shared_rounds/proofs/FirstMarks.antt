@@ -46,6 +46,7 @@ use Rattle.shared_rounds.specs.Seating.{CanSeat}
 use Rattle.shared_rounds.specs.FirstLaws.{idle_by, journal_by, left_by_first, marked_at, named_by, no_items}
 use Rattle.shared_rounds.specs.FirstLaws.{out_first, same_by, same_lists, there_at}
 use Rattle.shared_rounds.proofs.Backward.{AreBegun}
+use Rattle.shared_rounds.proofs.Claimed.{free_still}
 use Rattle.shared_rounds.proofs.Ending.{longer_then, seats_less, set_here}
 
 -- ---- lists of seats
@@ -90,8 +91,10 @@ sets_then u v w first next = record {
   pages = more_pages u.pages v.pages w.pages first.pages next.pages;
   fills = next.fills ∙ first.fills;
   met = next.met ∙ first.met;
+  drops = next.drops ∙ first.drops;
   parked_are = next.parked_are;
   parked = next.parked;
+  free = λ nothing. next.free (first.free nothing);
 }
   where
     more_pages : (a b c : List (List ℕ)) → (b ≡ a) ⊎ (length a < length b) → (c ≡ b) ⊎ (length b < length c)
@@ -289,9 +292,12 @@ module _ {D : Type 0} {tells : D → Option (List ℕ)} {clock : D → ℕ} {ima
           pages = longer_then v.pages v.pages u.pages w.pages (inl refl) (ap (λ (x : View). x.pages) t.is);
           fills = ap (λ (x : View). x.fills) t.is;
           met = ap (λ (x : View). x.met) t.is;
+          drops = ap (λ (x : View). x.drops) t.is;
           parked_are = ap (λ (l : List Seat). length l) parked ∙ set_long v.parked worker u.seat ∙ long;
           parked = λ other less. subst (λ (l : List Seat). IsResting (get_or l other bare_seat)) (sym parked)
               (set_rests v.parked worker u.seat other set.over.seat (can.parked other less));
+          free = free_still v w (ap (λ (x : View). x.grip) t.is) (ap (λ (x : View). x.ways) t.is)
+              (ap (λ (x : View). x.took) t.is) (ap (λ (x : View). x.shuts) t.is);
         };
         past = ap (λ (x : View). x.past) t.is
             ∙ ap (λ (r : Role). past_at r (without (worker_of u.role) (v.made ++ worker ∷ [])) v.past (n / 2 ^ 40))
@@ -329,8 +335,10 @@ module _ {D : Type 0} {tells : D → Option (List ℕ)} {clock : D → ℕ} {ima
       pages = inl refl;
       fills = refl;
       met = refl;
+      drops = refl;
       parked_are = long;
       parked = can.parked;
+      free = λ nothing. nothing;
     };
     past = λ some. absurd (some refl);
     logs_many = refl;
@@ -424,8 +432,10 @@ module _ {D : Type 0} {tells : D → Option (List ℕ)} {clock : D → ℕ} {ima
           pages = so.sets.pages;
           fills = so.sets.fills;
           met = so.sets.met;
+          drops = so.sets.drops;
           parked_are = so.sets.parked_are;
           parked = so.sets.parked;
+          free = λ nothing. free_still u (glanced published_at seen u) refl refl refl refl (so.sets.free nothing);
         };
         past = so.past;
         logs_many = so.logs_many;
@@ -577,7 +587,10 @@ module _ {D : Type 0} {tells : D → Option (List ℕ)} {clock : D → ℕ} {ima
         gathers = so.gathers;
         conflicts = so.conflicts;
         draws = so.draws;
+        drops = so.drops;
+        dropped = so.dropped;
         touched = so.touched;
+        free = so.free;
         blamed = so.blamed;
         parked_are = so.parked_are;
         parked = so.parked;

@@ -22,4 +22,12 @@ kept_next v w is k = subst IsKept (sym is) record {
   some_slots = k.some_slots;
   few = k.few;
   claimed = record { has = k.claimed.has; long = k.claimed.long };
+  free = record {
+    holds = k.free.holds;
+    made = k.free.made;
+    taken = k.free.taken;
+    ways = k.free.ways;
+    took = k.free.took;
+    shuts = k.free.shuts;
+  };
 }

@@ -9,6 +9,7 @@ mod Counted
 mod Counts
 mod Declared
 mod Draws
+mod Drops
 mod Ending
 mod FirstMarks
 mod Gathering

@@ -1,5 +1,5 @@
 -- Behind the last seat the keeper looks how many pages are published.
-use Rattle.std.proofs.Common.{◌≡◌, sym, subst, ℕ, List, Option}
+use Rattle.std.proofs.Common.{◌≡◌, refl, sym, subst, ℕ, List, Option}
 use Rattle.lists.specs.Fronts.{front_refl}
 use Rattle.script_grammar.specs.Script.{Round}
 use Rattle.engine_pages.specs.Layout.{published_at}
@@ -9,6 +9,7 @@ use Rattle.tx_script.specs.declared.outcome.Outcome.{Outcome}
 use Rattle.worker_cells.specs.declared.cell.LogEnd.{LogEnd}
 use Rattle.worker_logs.specs.Logs.{LogState}
 use Rattle.shared_rounds.specs.Ended.{EndedSoFar}
+use Rattle.shared_rounds.proofs.Claimed.{free_still}
 use Rattle.shared_rounds.proofs.Shared.{parts_later}
 
 module _ {D : Type 0} (tells : D → Option (List ℕ)) (clock : D → ℕ) (image_at : D → ℕ → List ℕ → Type 0)
@@ -39,7 +40,10 @@ module _ {D : Type 0} (tells : D → Option (List ℕ)) (clock : D → ℕ) (ima
         gathers = so.gathers;
         conflicts = so.conflicts;
         draws = so.draws;
+        drops = so.drops;
+        dropped = so.dropped;
         touched = so.touched;
+        free = λ nothing. free_still mid (glanced published_at count mid) refl refl refl refl (so.free nothing);
         blamed = so.blamed;
         parked_are = so.parked_are;
         parked = so.parked;

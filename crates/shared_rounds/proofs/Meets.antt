@@ -1,7 +1,7 @@
--- Whom tries in conflict met: where one met another's lock, a line of another worker may change that key. A line that
--- found no slot may change some key.
+-- Whom tries in conflict met: where one met another's lock, a line of another worker may change that key, or pages were
+-- dropped. A line that found no slot may change some key.
 use Rattle.std.proofs.Common.{◌≡◌, ◌⊎◌, ◌∙◌, inl, inr, sym, ap, subst, refl, ℕ, zero, suc, ◌+◌, true, List, []}
-use Rattle.std.proofs.Common.{◌∷◌, ◌++◌, map, arith, Option, Some, None}
+use Rattle.std.proofs.Common.{◌∷◌, ◌++◌, length, map, arith, Option, Some, None}
 use Rattle.std.specs.Prelude.{slice_get}
 use Rattle.std.specs.List.{AllByRecursion, Contains}
 use Rattle.std.proofs.lemmas.Bool.Decides.{nat_tests}
@@ -11,6 +11,7 @@ use Rattle.serial_model.specs.declared.key.Key.{Key}
 use Rattle.serial_model.specs.declared.op.Op.{Op}
 use Rattle.serial_model.specs.declared.op.Op.TheVariants.{Read, Write, Remove, Add, Take, Scan}
 use Rattle.engine_pages.specs.Touches.{AreBlamed, touch}
+use Rattle.engine_pages.specs.declared.view.Dropped.{Dropped}
 use Rattle.engine_pages.specs.declared.view.Touch.{Touch}
 use Rattle.engine_pages.specs.declared.view.View.{View}
 use Rattle.worker_cells.specs.Below.{blame_at, blame_of, blames_of, IsKeyOf, IsMetKey, IsOfKey, IsWrittenBy, Lost}
@@ -21,6 +22,7 @@ use Rattle.tx_script.specs.Conflicts.{touches_key}
 use Rattle.worker_cells.specs.Rows.{AreInARow, LineRan, lines_of, refused_of}
 use Rattle.shared_rounds.specs.Parts.{AreParts, IsPart, IsRound, Part, no_tries, tries_of, try_refusal}
 use Rattle.shared_rounds.specs.Shares.{Share}
+use Rattle.shared_rounds.proofs.Claimed.{grown}
 use Rattle.shared_rounds.proofs.Conflicts.{IsLostOf, line_lost}
 use Rattle.shared_rounds.proofs.Joined.{shares_of}
 
@@ -127,6 +129,13 @@ module _ (tries : ℕ) (was now : View) (parts : List Part) (r : IsRound tries w
   abbrev lines_all : List (List (List Op))
   lines_all = map (λ (share : Share). share.lines) (shares_of parts)
 
+  -- pages were dropped
+  abbrev dropped : Type 0
+  dropped = now.drops ≡ was.drops → ⊥
+
+  now_drops : now.drops ≡ r.ended.drops
+  now_drops = ap (λ (v : View). v.drops) r.audited.2.is ∙ ap (λ (v : View). v.drops) r.audited.1.is
+
   blamed_all : AreBlamed (λ q k. Contains r.ended.touched (touch q k)) r.ended.blamed
   blamed_all b has =
       let o = r.audited.2.blamed (ap (λ (v : View). v.role) r.audited.1.is ∙ r.role)
@@ -141,26 +150,27 @@ module _ (tries : ℕ) (was now : View) (parts : List Part) (r : IsRound tries w
 
   lost_met : (worker : ℕ) (p : Part) → slice_get parts worker ≡ Some p → (line : LineRan) → Contains p.ran line
       → (lost : Lost) → Contains line.refused lost → IsLostOf line.ops lost
-      → IsMet lines_all worker line.ops (try_refusal lost)
+      → IsMet lines_all dropped worker line.ops (try_refusal lost)
   lost_met worker p at line among (ToClock clock) has of = tt
   lost_met worker p at line among (ToSlots words) has of = (of.0, line_changes line.ops of.0 of.1)
   lost_met worker p at line among (ToSet set) has of = absurd of
   lost_met worker p at line among (ToOther clash) has of =
       by_met clash.met refl of.1
     where
-      at_key : (k : Key) → clash.met ≡ Some k → IsKeyOf line.ops k → IsMetBy lines_all worker line.ops k
-      at_key k met key =
+      by_line : r.ended.drops ≡ was.drops → (k : Key) → clash.met ≡ Some k → IsKeyOf line.ops k
+          → IsMetBy lines_all worker line.ops k
+      by_line same k met key =
           let b : Touch = touch (suc worker) k in
           let here : Contains (blame_of (suc worker) (ToOther clash)) b =
           subst (λ (o : Option Key). Contains (blame_at (suc worker) o) b) (sym met) (in_head b []) in
           let o = blamed_all b (r.blamed worker p at b (blame_in (suc worker) k (refused_of p.ran) (ToOther clash)
           (refused_in p.ran line (ToOther clash) among has) here)) in
-          let x = r.touched (touch o.by k) o.taken in
+          let x = r.touched same (touch o.by k) o.taken in
           let own : o.by ≡ suc x.0 = x.3.own in
           record {
             key = line_touches line.ops k key;
             by = x.0;
-            other = λ same. o.apart (own ∙ ap suc same);
+            other = λ is. o.apart (own ∙ ap suc is);
             changer = record {
               mine = lines_of x.1.ran ++ x.1.left;
               at = share_there parts x.0 x.1 x.2;
@@ -170,29 +180,41 @@ module _ (tries : ℕ) (was now : View) (parts : List Part) (r : IsRound tries w
             };
           }
 
+      at_key : (k : Key) → clash.met ≡ Some k → IsKeyOf line.ops k
+          → IsMetAt lines_all dropped worker line.ops (Some k)
+      at_key k met key = elim (grown was.drops r.ended.drops r.drops) [
+        | inl same ↦ inl (by_line same k met key)
+        | inr more ↦ inr (
+          line_touches line.ops k key,
+          λ none.
+              let long : length r.ended.drops ≡ length was.drops =
+              ap (λ (l : List Dropped). length l) (sym now_drops ∙ none) in omega (arith, more, long),
+        )
+      ]
+
       by_met : (met : Option Key) → clash.met ≡ met → IsMetKey line.ops clash.met
-          → IsMetAt lines_all worker line.ops clash.met
+          → IsMetAt lines_all dropped worker line.ops clash.met
       by_met (Some k) is key =
-          subst (IsMetAt lines_all worker line.ops) (sym is) (at_key k is (subst (IsMetKey line.ops) is key))
-      by_met None is key = subst (IsMetAt lines_all worker line.ops) (sym is) tt
+          subst (IsMetAt lines_all dropped worker line.ops) (sym is) (at_key k is (subst (IsMetKey line.ops) is key))
+      by_met None is key = subst (IsMetAt lines_all dropped worker line.ops) (sym is) tt
 
   line_met : (worker : ℕ) (p : Part) → slice_get parts worker ≡ Some p → (line : LineRan) → Contains p.ran line
       → (losts : List Lost) → ((lost : Lost) → Contains losts lost → Contains line.refused lost)
       → AllByRecursion (IsLostOf line.ops) losts
-      → AllByRecursion (IsMet lines_all worker line.ops) (map try_refusal losts)
+      → AllByRecursion (IsMet lines_all dropped worker line.ops) (map try_refusal losts)
   line_met worker p at line among [] within of = tt
   line_met worker p at line among (lost ∷ losts) within of = (
     lost_met worker p at line among lost (within lost (in_head lost losts)) of.0,
     line_met worker p at line among losts (λ x has. within x (in_tail x lost losts has)) of.1,
   )
 
-  left_met : (worker : ℕ) (left : List (List Op)) → LinesMet lines_all worker left (no_tries left)
+  left_met : (worker : ℕ) (left : List (List Op)) → LinesMet lines_all dropped worker left (no_tries left)
   left_met worker [] = tt
   left_met worker (ops ∷ left) = (tt, left_met worker left)
 
   lines_met : (worker : ℕ) (p : Part) → slice_get parts worker ≡ Some p → (ran : List LineRan)
       → ((line : LineRan) → Contains ran line → Contains p.ran line) → (left : List (List Op))
-      → LinesMet lines_all worker (lines_of ran ++ left) (tries_of ran ++ no_tries left)
+      → LinesMet lines_all dropped worker (lines_of ran ++ left) (tries_of ran ++ no_tries left)
   lines_met worker p at [] within left = left_met worker left
   lines_met worker p at (line ∷ ran) within left =
       let among = within line (in_head line ran) in
@@ -204,7 +226,7 @@ module _ (tries : ℕ) (was now : View) (parts : List Part) (r : IsRound tries w
 
   workers_met : (first : ℕ) (rest : List Part)
       → ((i : ℕ) (p : Part) → slice_get rest i ≡ Some p → slice_get parts (first + i) ≡ Some p)
-      → WorkersMet lines_all first (map (λ (share : Share). share.lines) (shares_of rest))
+      → WorkersMet lines_all dropped first (map (λ (share : Share). share.lines) (shares_of rest))
       (map (λ (share : Share). share.tries_refused) (shares_of rest))
   workers_met first [] there = tt
   workers_met first (p ∷ rest) there =
@@ -215,5 +237,5 @@ module _ (tries : ℕ) (was now : View) (parts : List Part) (r : IsRound tries w
             ap (λ n. slice_get parts n) later ∙ there (suc i) q is),
       )
 
-  pub all_met : WorkersMet lines_all 0 lines_all (map (λ (share : Share). share.tries_refused) (shares_of parts))
+  pub all_met : WorkersMet lines_all dropped 0 lines_all (map (λ (share : Share). share.tries_refused) (shares_of parts))
   all_met = workers_met 0 parts (λ i p is. let same : 0 + i ≡ i = omega arith in ap (λ n. slice_get parts n) same ∙ is)

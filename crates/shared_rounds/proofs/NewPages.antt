@@ -38,7 +38,7 @@ stored_read : (ss : List Stored) (rest : List ℕ)
 stored_read [] rest = refl
 stored_read (s ∷ ss) rest = ap (λ (l : List Stored). s ∷ l) (stored_read ss rest)
 
-newest_is : (pages : List (List ℕ)) (contents : Contents) → CatalogueAt pages (length pages) contents
+pub newest_is : (pages : List (List ℕ)) (contents : Contents) → CatalogueAt pages (length pages) contents
     → newest_in (decls_of contents) pages ≡ contents.storages
 newest_is pages contents at =
     ap (λ (ws : List ℕ). stored_in (decls_of contents) (drop 16 ws)) at.words
@@ -134,6 +134,14 @@ kept_published pages v w is claims k = subst IsKept (sym is) record {
         (subst (λ (z : View). n ≤ z.layout.resident) (sym is) most);
     long = claims.long;
   };
+  free = record {
+    holds = k.free.holds;
+    made = k.free.made;
+    taken = k.free.taken;
+    ways = k.free.ways;
+    took = k.free.took;
+    shuts = k.free.shuts;
+  };
 }
 
 -- of the engine the pages alone changed
@@ -151,4 +159,5 @@ shared_published pages old new clock is =
       slots = v.layout.slots;
       pages = v.pages;
       resident = v.layout.resident;
+      drops = v.drops;
     } in s) is

@@ -114,7 +114,11 @@ module _ {D : Type 0} (tells : D → Option (List ℕ)) (clock : D → ℕ) (ima
       gathers = stands.mine;
       conflicts = ap conflicts_in stands.refused ∙ omega arith;
       draws = stands.draws ∙ omega arith;
-      touched = λ t has. absurd (in_none t (subst (λ (l : List Touch). Contains l t) stands.touched has));
+      drops = refl;
+      dropped = stands.drops;
+      touched = λ same t has. absurd (in_none t
+          (subst (λ (l : List Touch). Contains l t) (stands.touched same) has));
+      free = λ nothing. nothing;
       blamed = λ worker p there. absurd cc;
       parked_are = stands.parked_are;
       parked = stands.parked;

@@ -23,6 +23,7 @@ use Rattle.serial_bridge.specs.WriteLaws.{each_in, runs_behind, writes_behind}
 use Rattle.serial_bridge.specs.WriteSets.{keys_of}
 use Rattle.engine_seats.specs.Between.{counts}
 use Rattle.engine_seats.specs.Gathered.{joined}
+use Rattle.engine_pages.specs.declared.view.Dropped.{Dropped}
 use Rattle.engine_pages.specs.declared.view.View.{View}
 use Rattle.tx_script.specs.Run.{IsBetween, of_worker}
 use Rattle.shared_rounds.specs.Changes.{AreLogged}
@@ -41,9 +42,9 @@ use Rattle.shared_rounds.proofs.Orders.{at_end_of, pairs_rise, placed_below, ris
 use Rattle.shared_rounds.proofs.Pairs.{ArePairs, pairs_attempts, pairs_permuted}
 use Rattle.shared_rounds.proofs.Seats.{mine_ascends, mine_at, mine_logged, mine_on}
 
--- where the engine stands, with the layout's storages and these pages
-abbrev pub standing_at : View → State → Number → List Attempt → ℕ → List (List ℕ) → Bool → Standing
-standing_at v state clock mine conflicts pages done = record {
+-- where the engine stands, with the layout's storages, these pages, and what these drops came to
+abbrev pub standing_at : View → State → Number → List Attempt → ℕ → List (List ℕ) → List Dropped → Bool → Standing
+standing_at v state clock mine conflicts pages drops done = record {
   decls = v.layout.decls;
   state = state;
   opening = v.layout.opening;
@@ -53,6 +54,7 @@ standing_at v state clock mine conflicts pages done = record {
   slots = v.layout.slots;
   pages = pages;
   resident = v.layout.resident;
+  drops = drops;
   ended = done;
 }
 
@@ -152,13 +154,14 @@ module _ (tries : ℕ) (was now : View) (parts : List Part) (r : IsRound tries w
       some_key = record { storage = 0; key = 0 }
 
   pub ordered_so : (index : ℕ) (state : State) (clock : Number) (mine_was mine : List Attempt)
-      (before after : ℕ) (first_pages last_pages : List (List ℕ)) (done : Bool)
+      (before after : ℕ) (first_pages last_pages : List (List ℕ)) (first_drops last_drops : List Dropped) (done : Bool)
       → Agrees was.layout.decls state (after_attempts (content_at was.layout.opening) was.mine) → IsClockOf clock was
-      → AreOrdered index (standing_at was state clock mine_was before first_pages done)
+      → AreOrdered index (standing_at was state clock mine_was before first_pages first_drops done)
       (standing_at was (after_commits state (split tries was now parts r).new)
-      (clock_number r.clock) mine after last_pages done)
+      (clock_number r.clock) mine after last_pages last_drops done)
       (shares_of parts)
-  ordered_so index state clock mine_was mine before after first_pages last_pages done agrees at =
+  ordered_so index state clock mine_was mine before after first_pages last_pages first_drops last_drops done agrees
+      at =
       let decls = was.layout.decls in
       let new = (split tries was now parts r).new in
       let moved = pairs_permuted decls (entries_in index (shares_of parts)) (joined (mines_of parts)) new

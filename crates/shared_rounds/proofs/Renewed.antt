@@ -27,10 +27,10 @@ use Rattle.engine_pages.specs.declared.view.View.{View}
 use Rattle.resident_pages.specs.Fills.{AreClaimed}
 use Rattle.shared_rounds.specs.Contents.{after_changes, after_commits}
 use Rattle.shared_rounds.specs.Parts.{IsRound, Part, clock_number}
-use Rattle.shared_rounds.specs.SharedState.{IsKept, opened, state_of}
+use Rattle.shared_rounds.specs.SharedState.{HoldsNothing, IsKept, opened, state_of}
 use Rattle.shared_rounds.proofs.Contents.{changes_over, commits_append, opened_is}
 use Rattle.shared_rounds.proofs.Counted.{now_counted, now_layout, split}
-use Rattle.shared_rounds.proofs.Claimed.{claimed_still}
+use Rattle.shared_rounds.proofs.Claimed.{claimed_still, free_still}
 use Rattle.shared_rounds.proofs.Numbers.{epoch_of_word, later_epoch}
 use Rattle.shared_rounds.proofs.Records.{records_stay}
 
@@ -72,8 +72,8 @@ module _ (tries : ℕ) (was now : View) (parts : List Part) (r : IsRound tries w
 
   pub kept_now : IsKept was → r.ended.seat ≡ was.seat → length r.ended.parked ≡ 8
       → ((worker : ℕ) → worker < 8 → IsResting (get_or r.ended.parked worker bare_seat)) → AreClaimed r.ended
-      → IsKept now
-  kept_now kept own parked_are parked claims =
+      → HoldsNothing r.ended → IsKept now
+  kept_now kept own parked_are parked claims nothing =
       let layout = now_layout tries was now parts r in record {
         role = ap (λ (v : View). v.role) r.audited.2.is ∙ ap (λ (v : View). v.role) r.audited.1.is ∙ r.role;
         made = ap (λ (v : View). v.made) r.audited.2.is ∙ ap (λ (v : View). v.made) r.audited.1.is ∙ r.made;
@@ -101,6 +101,11 @@ module _ (tries : ℕ) (was now : View) (parts : List Part) (r : IsRound tries w
         claimed = claimed_still r.ended now claims (layout ∙ sym r.layout)
             (ap (λ (v : View). v.fills) r.audited.2.is ∙ ap (λ (v : View). v.fills) r.audited.1.is)
             (ap (λ (v : View). v.pages) r.audited.2.is ∙ ap (λ (v : View). v.pages) r.audited.1.is);
+        free = free_still r.ended now
+            (ap (λ (v : View). v.grip) r.audited.2.is ∙ ap (λ (v : View). v.grip) r.audited.1.is)
+            (ap (λ (v : View). v.ways) r.audited.2.is ∙ ap (λ (v : View). v.ways) r.audited.1.is)
+            (ap (λ (v : View). v.took) r.audited.2.is ∙ ap (λ (v : View). v.took) r.audited.1.is)
+            (ap (λ (v : View). v.shuts) r.audited.2.is ∙ ap (λ (v : View). v.shuts) r.audited.1.is) nothing;
       }
     where
       parked_now : (P : List Seat → Type 0) → P r.ended.parked → P now.parked

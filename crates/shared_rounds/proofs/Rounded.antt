@@ -29,8 +29,10 @@ use Rattle.shared_rounds.specs.Beside.{Went}
 use Rattle.shared_rounds.specs.First.{SetsMarks}
 use Rattle.shared_rounds.specs.Shares.{Share}
 use Rattle.shared_rounds.specs.Seated.{AreRan, AreSeated, HasRun, backward}
+use Rattle.engine_pages.specs.declared.view.Dropped.{Dropped}
+use Rattle.lists.specs.Fronts.{IsFront}
 use Rattle.shared_rounds.specs.Seating.{CanSeat, StandsFor, seats_from, with_made}
-use Rattle.shared_rounds.specs.SharedState.{AreKept, IsKept, marks_of}
+use Rattle.shared_rounds.specs.SharedState.{AreKept, HoldsNothing, IsKept, marks_of}
 use Rattle.shared_rounds.specs.declared.ends.WorkersRan.{WorkersRan}
 use Rattle.shared_rounds.proofs.Backward.{AreBegun, cells_ran}
 use Rattle.shared_rounds.proofs.Counted.{now_layout}
@@ -69,7 +71,9 @@ stand_for was first seated now sets is went = record {
   mine = went.mine ∙ ap (λ (v : View). v.mine) is ∙ sets.mine;
   draws = went.draws ∙ ap (λ (v : View). v.draws) is ∙ sets.draws;
   refused = went.refused ∙ ap (λ (v : View). v.refused) is ∙ sets.refused;
-  touched = went.touched ∙ ap (λ (v : View). v.touched) is;
+  drops = subst (λ (l : List Dropped). IsFront l now.drops) (ap (λ (v : View). v.drops) is ∙ sets.drops) went.drops;
+  touched = λ same.
+      went.touched (same ∙ sym (ap (λ (v : View). v.drops) is ∙ sets.drops)) ∙ ap (λ (v : View). v.touched) is;
   blamed = went.blamed ∙ ap (λ (v : View). v.blamed) is;
   parked_are = ap (λ (l : List Seat). length l) (went.parked ∙ ap (λ (v : View). v.parked) is) ∙ sets.parked_are;
   parked = λ worker few. subst (λ (l : List Seat). IsResting (get_or l worker bare_seat))
@@ -86,17 +90,17 @@ module _ {D : Type 0} (tells : D → Option (List ℕ)) (clock : D → ℕ) (ima
       outcomes ends
       → IsKept was → (word count : ℕ) → HasAudited ended word count (view now) → IsPassOf words now
       → decls ≡ was.layout.decls → (first : Number) → IsNumber first → first.epoch ≡ was.epoch → OwnsBehind ended
-      → behind.layout ≡ was.layout → AreClaimed behind
+      → behind.layout ≡ was.layout → AreClaimed behind → HoldsNothing behind
       → AreKept words now decls (clock_number word)
   round_kept tries round words was behind ended now decls logs_was logs banks_was banks outcomes ends so kept word count
-      audited of decls_are first number epoch owns laid claimed =
+      audited of decls_are first number epoch owns laid claimed nothing =
       let layout = so.layout ∙ sym laid in
       let r = round_is tells clock image_at faults tries round was behind ended (view now) logs_was logs banks_was banks
       outcomes ends so kept word count audited in record {
         of = of;
         kept = kept_now tries was (view now) so.parts r kept so.seat so.parked_are so.parked
             (claimed_still behind ended claimed layout so.fills
-            (same_pages behind ended claimed owns layout so.fills so.pages));
+            (same_pages behind ended claimed owns layout so.fills so.pages)) (so.free nothing);
         decls_are = decls_are ∙ sym (ap (λ (l : Layout). l.decls) (now_layout tries was (view now) so.parts r));
         number = clock_now tries was (view now) so.parts r first kept number epoch;
         epoch = clock_stands tries was (view now) so.parts r;

@@ -98,9 +98,9 @@ pub round_runs : (tries : ℕ) (was now : View) (parts : List Part) (r : IsRound
     (clock : Number) (done : Bool) → 1 ≤ tries
     → Agrees was.layout.decls state (after_attempts (content_at was.layout.opening) was.mine) → IsClockOf clock was
     → was.draws ≡ length was.history
-    → RunsShares tries (standing_at was state clock was.mine (conflicts_in was.refused) was.pages done)
+    → RunsShares tries (standing_at was state clock was.mine (conflicts_in was.refused) was.pages was.drops done)
     (standing_at was (after_commits state (split tries was now parts r).new) (clock_number r.clock) now.mine
-    (conflicts_in now.refused) now.pages done) (shares_of parts)
+    (conflicts_in now.refused) now.pages now.drops done) (shares_of parts)
 round_runs tries was now parts r state clock done some agrees at drew =
     let ends = ended_draws tries was now parts r in
     let begins = at.draw in
@@ -119,7 +119,7 @@ round_runs tries was now parts r state clock done some agrees at drew =
       each = parts_share clock.epoch clock.draw tries (r.clock % 2 ^ 40) was r.ended 0 parts (sym at.epoch) some
           (omega (arith, begins)) ends r.parts_are;
       ordered = λ index. ordered_so tries was now parts r index state clock was.mine now.mine (conflicts_in was.refused)
-          (conflicts_in now.refused) was.pages now.pages done agrees at;
+          (conflicts_in now.refused) was.pages now.pages was.drops now.drops done agrees at;
     }
 
 -- ---- part by part

@@ -3,6 +3,7 @@ use Rattle.std.proofs.Common.{◌≡◌, ◌∙◌, sym, ap, subst, ℕ, ◌/◌
 use Rattle.std.proofs.Common.{arith, map, refl, Option}
 use Rattle.std.specs.List.{Contains}
 use Rattle.std.proofs.lemmas.List.{length-map}
+use Rattle.lists.specs.Fronts.{IsFront}
 use Rattle.commit_core.specs.declared.seat.Mark.{Mark}
 use Rattle.commit_core.specs.declared.seat.Seat.{Seat}
 use Rattle.serial_model.specs.declared.number.Number.{Number}
@@ -34,7 +35,7 @@ use Rattle.shared_rounds.proofs.Told.{told_rests, words_at}
 
 -- where the engine stands, as the keeper's view and the clock have it
 abbrev pub stands : View → Number → Bool → Standing
-stands v clock done = standing_at v (state_of v) clock v.mine (conflicts_in v.refused) v.pages done
+stands v clock done = standing_at v (state_of v) clock v.mine (conflicts_in v.refused) v.pages v.drops done
 
 module _ {D : Type 0} (tells : D → Option (List ℕ)) (clock : D → ℕ) (image_at : D → ℕ → List ℕ → Type 0)
     (faults : D → ℕ) (tries : ℕ) (round : Round) (was behind ended now : View) (logs_was logs : List LogState)
@@ -57,6 +58,7 @@ module _ {D : Type 0} (tells : D → Option (List ℕ)) (clock : D → ℕ) (ima
     seen = so.seen;
     conflicts = so.conflicts;
     draws = so.draws;
+    drops = subst (IsFront was.drops) (sym so.drops) so.dropped;
     touched = so.touched;
     blamed = so.blamed;
     clock = word;
@@ -72,10 +74,10 @@ module _ {D : Type 0} (tells : D → Option (List ℕ)) (clock : D → ℕ) (ima
       where
         same : standing_at was (after_commits (state_of was) (split tries was now so.parts round_is).new)
             (clock_number word) now.mine
-            (conflicts_in now.refused) now.pages done ≡ stands now (clock_number word) done
+            (conflicts_in now.refused) now.pages now.drops done ≡ stands now (clock_number word) done
         same =
-            ap (λ s. standing_at was s (clock_number word) now.mine (conflicts_in now.refused) now.pages done) (sym
-            (state_now tries was now so.parts round_is))
+            ap (λ s. standing_at was s (clock_number word) now.mine (conflicts_in now.refused) now.pages now.drops done)
+            (sym (state_now tries was now so.parts round_is))
             ∙ ap (λ (l : Layout). let t : Standing = record {
               decls = l.decls;
               state = state_of now;
@@ -86,6 +88,7 @@ module _ {D : Type 0} (tells : D → Option (List ℕ)) (clock : D → ℕ) (ima
               slots = l.slots;
               pages = now.pages;
               resident = l.resident;
+              drops = now.drops;
               ended = done;
             } in t) (sym (now_layout tries was now so.parts round_is))
 

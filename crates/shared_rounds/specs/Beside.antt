@@ -1,9 +1,11 @@
 -- What is done beside the workers' lines of a round, on the pass of the maintenance thread.
-use Rattle.std.proofs.Common.{◌≡◌, ◌∙◌, refl, subst, arith}
+use Rattle.std.proofs.Common.{◌≡◌, ◌∙◌, ap, refl, subst, sym, arith}
 use Rattle.std.specs.Prelude.{◌<◌, ◌≤◌, ◌+◌, ◌-◌, ℕ, List, [], Contains, get_or, length, slice_get, Some}
-use Rattle.lists.specs.Fronts.{IsFront, front_refl, front_then}
+use Rattle.lists.specs.Fronts.{IsFront, front_length, front_refl, front_same, front_then}
+use Rattle.serial_model.specs.Decls.{AreDecls}
 use Rattle.engine_pages.specs.Views.{IsResting, bare_seat}
 use Rattle.wire_form.specs.Words.{IsMark, mark_word}
+use Rattle.engine_pages.specs.declared.view.Dropped.{Dropped}
 use Rattle.engine_pages.specs.declared.view.Met.{Met}
 use Rattle.engine_pages.specs.declared.view.Role.TheVariants.{Keeper}
 use Rattle.engine_pages.specs.declared.view.View.{View}
@@ -12,10 +14,12 @@ use Rattle.resident_pages.specs.Fills.{AreClaimed}
 use Rattle.worker_cells.specs.InARow.{seen_then}
 use Rattle.worker_logs.specs.Shown.{Stood}
 use Rattle.shared_rounds.specs.SharedState.{SharedState}
+pub use Rattle.shared_rounds.specs.SharedState.{HoldsNothing}
 
 -- The pass that seats workers went on beside them. Whoever is seated stays seated, and no seat of a worker changes. It
--- draws no number, takes no lock, is refused nothing, and has no commit more. The clock may come further, and more
--- pages may be published, as long as all room for such pages is its own.
+-- draws no number, is refused nothing, and has no commit more; it takes locks only for drops of pages, which it counts,
+-- and keeps none. The clock may come further, and more pages may be published, as long as all room for such pages is its
+-- own.
 pub record Went (v w : View) : Type 0 where
   pub role : w.role ≡ v.role
   pub layout : w.layout ≡ v.layout
@@ -26,12 +30,14 @@ pub record Went (v w : View) : Type 0 where
   pub mine : w.mine ≡ v.mine
   pub draws : w.draws ≡ v.draws
   pub refused : w.refused ≡ v.refused
-  pub touched : w.touched ≡ v.touched
+  pub drops : IsFront v.drops w.drops
+  pub touched : w.drops ≡ v.drops → w.touched ≡ v.touched
   pub blamed : w.blamed ≡ v.blamed
   pub seen : HasSeen v w
   pub epoch : v.epoch ≤ w.epoch
   pub met : IsFront v.met w.met
   pub claimed : AreClaimed v → AreClaimed w
+  pub free : HoldsNothing v → HoldsNothing w
 
 -- nothing was done
 pub went_none : (v : View) → Went v v
@@ -45,13 +51,23 @@ went_none v = record {
   mine = refl;
   draws = refl;
   refused = refl;
-  touched = refl;
+  drops = front_refl v.drops;
+  touched = λ same. refl;
   blamed = refl;
   seen = record { history = front_refl v.history; decided = front_refl v.decided };
   epoch = omega arith;
   met = front_refl v.met;
   claimed = λ claims. claims;
+  free = λ nothing. nothing;
 }
+
+-- what stands between two equal lists, each the front of the next one
+between : (a b c : List Dropped) → IsFront a b → IsFront b c → c ≡ a → b ≡ a
+between a b c first next same =
+    let low = front_length a b first in
+    let high = front_length b c next in
+    let long : length c ≡ length a = ap (λ (l : List Dropped). length l) same in
+    sym (front_same a b c (front_then a b c first next) next (omega (arith, low, high, long)))
 
 -- one thing after another
 pub went_then : (u v w : View) → Went u v → Went v w → Went u w
@@ -65,19 +81,24 @@ went_then u v w first next = record {
   mine = next.mine ∙ first.mine;
   draws = next.draws ∙ first.draws;
   refused = next.refused ∙ first.refused;
-  touched = next.touched ∙ first.touched;
+  drops = front_then u.drops v.drops w.drops first.drops next.drops;
+  touched = λ same.
+      let mid = between u.drops v.drops w.drops first.drops next.drops same in
+      next.touched (same ∙ sym mid) ∙ first.touched mid;
   blamed = next.blamed ∙ first.blamed;
   seen = seen_then u v w first.seen next.seen;
   epoch = omega (arith, first.epoch, next.epoch);
   met = front_then u.met v.met w.met first.met next.met;
   claimed = λ claims. next.claimed (first.claimed claims);
+  free = λ nothing. next.free (first.free nothing);
 }
   where
     sym_made : v.made ≡ [] → u.made ≡ []
     sym_made none = subst (λ l. l ≡ []) first.made none
 
 -- The keeper's view as the lines of a round begin, and the one that it had as the round began: all workers are seated,
--- and the epoch before the clock's is over. All room for pages that are not published yet is its own.
+-- and the epoch before the clock's is over. All room for pages that are not published yet is its own, and it has nothing
+-- of the pages in memory.
 pub record BeginsOn (was v : View) : Type 0 where
   pub role : v.role ≡ Keeper
   pub made : v.made ≡ [] → ⊥
@@ -88,6 +109,9 @@ pub record BeginsOn (was v : View) : Type 0 where
   pub pages : v.pages ≡ was.pages
   pub claimed : AreClaimed v
   pub rests : IsResting v.seat
+  pub declared : AreDecls v.layout.decls
+  pub drops : v.drops ≡ was.drops
+  pub free : HoldsNothing v
 
 -- the same on an engine, of which nothing else is known
 pub record BeginsBeside (s : SharedState) (v : View) : Type 0 where
@@ -102,6 +126,9 @@ pub record BeginsBeside (s : SharedState) (v : View) : Type 0 where
   pub pages : v.pages ≡ s.pages
   pub claimed : AreClaimed v
   pub rests : IsResting v.seat
+  pub declared : AreDecls v.layout.decls
+  pub drops : v.drops ≡ s.drops
+  pub free : HoldsNothing v
 
 -- The mark that was met of a worker, of whom the keeper knew so many marks as the lines began, is one of these, which
 -- the words showed from the last of those on: it stands at its place among them.
@@ -119,6 +146,7 @@ pub record BesideRan (did : View → View → Type 0) (marks : List (List Stood)
   pub did_so : did from to
   pub epoch : now.clock.epoch ≡ to.epoch
   pub pages : now.pages ≡ to.pages
+  pub drops : now.drops ≡ to.drops
   pub known : (worker : ℕ) → worker < 8 → 1 ≤ length (get_or from.parked worker bare_seat).marks
   pub met : (x : Met) → Contains to.met x → x.worker < 8 → (mine : List Stood) → slice_get marks x.worker ≡ Some mine
       → length (get_or from.parked x.worker bare_seat).marks ≤ x.place + 1

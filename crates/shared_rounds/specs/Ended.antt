@@ -1,6 +1,7 @@
 -- Workers' seats that were taken in again, one worker after another.
 use Rattle.std.specs.Prelude.{◌≡◌, ◌⊎◌, ◌<◌, ◌≤◌, ◌+◌, ◌-◌, ◌++◌, ℕ, List, [], ◌∷◌, Option, Some}
 use Rattle.std.specs.Prelude.{map, length, get_or, slice_get, Contains, ⊤}
+use Rattle.lists.specs.Fronts.{IsFront}
 use Rattle.script_grammar.specs.Script.{Round, lines_of_worker}
 use Rattle.engine_seats.specs.Cuts.{HasSeen}
 use Rattle.engine_seats.specs.Gathered.{gathered_all}
@@ -18,7 +19,7 @@ use Rattle.shared_rounds.specs.Left.{LeavesLog, TellsPart}
 use Rattle.shared_rounds.specs.Parts.{AreParts, HasBlames, Part, TouchesAre, drawn_in_all, share_of}
 use Rattle.shared_rounds.specs.Seated.{AreRan, backward}
 use Rattle.shared_rounds.specs.Seating.{seats_from}
-use Rattle.shared_rounds.specs.SharedState.{conflicts_in}
+use Rattle.shared_rounds.specs.SharedState.{HoldsNothing, conflicts_in}
 use Rattle.shared_rounds.specs.Shares.{Share, all_conflicts}
 
 -- what is told of all lines of the workers from this one on
@@ -66,7 +67,10 @@ module _ {D : Type 0} (tells : D → Option (List ℕ)) (clock : D → ℕ) (ima
     pub conflicts : conflicts_in now.refused
         ≡ conflicts_in was.refused + all_conflicts (map (λ (share : Share). share.tries_refused) (map share_of parts))
     pub draws : now.draws ≡ was.draws + drawn_in_all parts
-    pub touched : TouchesAre parts now
+    pub drops : now.drops ≡ behind.drops
+    pub dropped : IsFront was.drops behind.drops
+    pub touched : now.drops ≡ was.drops → TouchesAre parts now
+    pub free : HoldsNothing behind → HoldsNothing now
     pub blamed : HasBlames parts now
     pub parked_are : length now.parked ≡ 8
     pub parked : (worker : ℕ) → worker < 8 → IsResting (get_or now.parked worker bare_seat)

@@ -13,6 +13,7 @@ use Rattle.worker_cells.specs.Cells.{core_mark}
 use Rattle.worker_cells.specs.Rows.{Goes}
 use Rattle.worker_logs.specs.Logs.{LogState}
 use Rattle.worker_logs.specs.Moves.{MovesLog}
+use Rattle.shared_rounds.specs.SharedState.{HoldsNothing}
 
 -- The keeper's view with seats that were taken in again as they were, but for their marks: it has no number and no
 -- commit more of its own. What it knows of published pages may be more.
@@ -29,8 +30,10 @@ pub record SetsMarks (v w : View) : Type 0 where
   pub pages : (w.pages ≡ v.pages) ⊎ (length v.pages < length w.pages)
   pub fills : w.fills ≡ v.fills
   pub met : w.met ≡ v.met
+  pub drops : w.drops ≡ v.drops
   pub parked_are : length w.parked ≡ 8
   pub parked : (worker : ℕ) → worker < 8 → IsResting (get_or w.parked worker bare_seat)
+  pub free : HoldsNothing v → HoldsNothing w
 
 module _ {D : Type 0} (tells : D → Option (List ℕ)) (clock : D → ℕ) (image_at : D → ℕ → List ℕ → Type 0)
     (faults : D → ℕ) where

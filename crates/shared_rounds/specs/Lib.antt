@@ -20,4 +20,5 @@ pub mod Marks
 pub mod First
 pub mod FirstLaws
 pub mod Beside
+pub mod Drops
 pub mod Together

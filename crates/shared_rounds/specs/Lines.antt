@@ -22,6 +22,7 @@ standing ended s = record {
   slots = s.slots;
   pages = s.pages;
   resident = s.resident;
+  drops = s.drops;
   ended = ended;
 }
 

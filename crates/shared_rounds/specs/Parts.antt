@@ -2,6 +2,7 @@
 use Rattle.std.specs.Prelude.{◌≡◌, ◌≤◌, ◌+◌, ◌/◌, ◌%◌, ◌^◌, ◌++◌, ℕ, List, [], ◌∷◌, length, map, sum_by}
 use Rattle.std.specs.Prelude.{Contains, Option, None, Some, get_or, slice_get, suc, ⊤}
 use Rattle.std.specs.List.{AllByRecursion}
+use Rattle.lists.specs.Fronts.{IsFront}
 use Rattle.serial_model.specs.declared.number.Number.{Number}
 use Rattle.serial_model.specs.declared.op.Op.{Op}
 use Rattle.wire_form.specs.LogFile.{IsLineOf}
@@ -130,7 +131,8 @@ HasBlames parts v = (worker : ℕ) (p : Part) → slice_get parts worker ≡ Som
     → (b : Touch) → Contains (blames_of (suc worker) (refused_of p.ran)) b → Contains v.blamed b
 
 -- Between two counts eight workers were seated, and taken in again with these parts; the keeper may have gone on to
--- later epochs meanwhile. Numbers were drawn for their lines alone, and locks were taken for them alone.
+-- later epochs meanwhile. Numbers were drawn for their lines alone, and where no pages were dropped meanwhile, locks were
+-- taken for them alone.
 pub record IsRound (tries : ℕ) (was now : View) (parts : List Part) : Type 0 where
   pub arrays : HasNoTree was.layout.decls
   pub counted : IsCounted was
@@ -146,7 +148,8 @@ pub record IsRound (tries : ℕ) (was now : View) (parts : List Part) : Type 0 w
   pub conflicts : conflicts_in ended.refused
       ≡ conflicts_in was.refused + all_conflicts (map (λ (share : Share). share.tries_refused) (map share_of parts))
   pub draws : ended.draws ≡ was.draws + drawn_in_all parts
-  pub touched : TouchesAre parts ended
+  pub drops : IsFront was.drops ended.drops
+  pub touched : ended.drops ≡ was.drops → TouchesAre parts ended
   pub blamed : HasBlames parts ended
   pub clock : ℕ
   pub count : ℕ

@@ -1,5 +1,6 @@
 -- The keeper's view as workers are seated.
 use Rattle.std.specs.Prelude.{◌≡◌, ◌<◌, ◌≤◌, ◌+◌, ℕ, zero, suc, List, [], ◌∷◌, ◌++◌, get_or, length}
+use Rattle.lists.specs.Fronts.{IsFront}
 use Rattle.serial_model.specs.Decls.{AreDecls}
 use Rattle.engine_pages.specs.Views.{IsResting, bare_seat}
 use Rattle.engine_seats.specs.Cuts.{HasSeen}
@@ -35,7 +36,8 @@ pub record CanSeat (v : View) : Type 0 where
   pub parked : (worker : ℕ) → worker < 8 → IsResting (get_or v.parked worker bare_seat)
 
 -- The keeper has this view, who had the other one as the round began, with all eight workers seated since. It has done
--- nothing of a worker's own meanwhile; the clock may have come further, and more pages may be published.
+-- nothing of a worker's own meanwhile; the clock may have come further, more pages may be published, and it may have
+-- dropped pages, for which it took locks.
 pub record StandsFor (was now : View) : Type 0 where
   pub role : now.role ≡ Keeper
   pub made : now.made ≡ seats_from 8 0
@@ -46,7 +48,8 @@ pub record StandsFor (was now : View) : Type 0 where
   pub mine : now.mine ≡ was.mine
   pub draws : now.draws ≡ was.draws
   pub refused : now.refused ≡ was.refused
-  pub touched : now.touched ≡ []
+  pub drops : IsFront was.drops now.drops
+  pub touched : now.drops ≡ was.drops → now.touched ≡ []
   pub blamed : now.blamed ≡ []
   pub parked_are : length now.parked ≡ 8
   pub parked : (worker : ℕ) → worker < 8 → IsResting (get_or now.parked worker bare_seat)

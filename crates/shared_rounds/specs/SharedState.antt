@@ -20,6 +20,7 @@ use Rattle.commit_core.specs.declared.seat.Mark.{Mark}
 use Rattle.commit_core.specs.declared.seat.Seat.{Seat}
 use Rattle.serial_bridge.specs.WriteSets.{HasNoTree}
 use Rattle.engine_pages.specs.declared.engine.Engine.{Engine}
+use Rattle.engine_pages.specs.declared.view.Dropped.{Dropped}
 use Rattle.engine_pages.specs.declared.view.RefusalCause.{RefusalCause}
 use Rattle.engine_pages.specs.declared.view.RefusalCause.TheVariants.{Conflict, Full, Wide, NumberLimit}
 use Rattle.engine_pages.specs.declared.view.Role.TheVariants.{Keeper}
@@ -79,7 +80,7 @@ conflicts_in refused = length (filter was_conflict refused)
 -- the storages, their contents, what stood at keys at first, with its numbers, the number that the next commit gets,
 -- the attempts that count, in order of number, how many tries were refused with a conflict so far, the workers' marks
 -- on the words, worker 0's first, how many slots there are for pages in memory, the words of the snapshot pages that
--- are published, and for how many such pages there is room
+-- are published, for how many such pages there is room, and what each drop of pages came to so far
 pub record SharedState : Type 0 where
   pub decls : List Decl
   pub state : State
@@ -91,6 +92,7 @@ pub record SharedState : Type 0 where
   pub slots : ℕ
   pub pages : List (List ℕ)
   pub resident : ℕ
+  pub drops : List Dropped
 
 -- what the keeper's pass and the clock are
 abbrev pub shared_by : Pass → Number → SharedState
@@ -105,6 +107,7 @@ shared_by keeper clock = record {
   slots = (view keeper).layout.slots;
   pages = (view keeper).pages;
   resident = (view keeper).layout.resident;
+  drops = (view keeper).drops;
 }
 
 -- What a count told of the keeper's view, with nobody seated: its own commits are those that count.
@@ -113,10 +116,19 @@ pub record IsCounted (v : View) : Type 0 where
   pub all : (h : Number → ℕ) → total (λ (a : Attempt). h a.number) v.mine ≡ total h v.decided
   pub drawn : (n : Number) → is_decided v.decided n ≡ true → (a : Attempt) × Contains v.history a × (a.number ≡ n)
 
+-- The pass holds no slot and owns none, has led nothing away from one, has no lock of a record, and has shut no pointer.
+pub record HoldsNothing (v : View) : Type 0 where
+  pub holds : v.grip.holds ≡ []
+  pub made : v.grip.made ≡ []
+  pub taken : v.grip.taken ≡ []
+  pub ways : v.ways ≡ []
+  pub took : v.took ≡ []
+  pub shuts : v.shuts ≡ []
+
 -- What the keeper's pass knows between two rounds: nobody is seated, and no seat, its own or a worker's, has a
 -- transaction or a lock; each storage is an array, and only their keys have values; the attempts that count are its
--- own, and serial; each number was drawn by this pass, or by one that was ended into it; and all room for snapshot
--- pages behind those that are published is its own to fill.
+-- own, and serial; each number was drawn by this pass, or by one that was ended into it; all room for snapshot pages
+-- behind those that are published is its own to fill; and it has nothing of the pages in memory.
 pub record IsKept (v : View) : Type 0 where
   pub role : v.role ≡ Keeper
   pub made : v.made ≡ []
@@ -134,6 +146,7 @@ pub record IsKept (v : View) : Type 0 where
   pub some_slots : 0 < v.layout.slots
   pub few : v.layout.resident ≤ 65536
   pub claimed : AreClaimed v
+  pub free : HoldsNothing v
 
 -- The words with the keeper's pass, the storages, and the clock as it was last loaded: its draw is the one behind all
 -- that were drawn.

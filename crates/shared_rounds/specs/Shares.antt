@@ -94,18 +94,26 @@ abbrev pub all_conflicts : List (List (List TryRefusal)) → ℕ
 all_conflicts refused = sum_by (λ of_worker. sum_by conflicts_among of_worker) refused
 
 -- The lines of eight workers were run from s to t, each with so many tries. Contents, clock, the attempts that count
--- and the count of conflicts change alone, and which pages are published; the clock may be in a later epoch then, where
--- the maintenance thread's lines ran beside them. Each number was drawn for a commit of theirs, or for a try of theirs
--- that was refused behind its draw. Each conflict that is told of a line at a record is with a line of another worker;
--- the engine counted each, and no others. Where a try found no slot usable, the words of all slots are told.
+-- and the count of conflicts change alone, and which pages are published, and what drops came to; the clock may be in a
+-- later epoch then, where the maintenance thread's lines ran beside them. Each number was drawn for a commit of theirs,
+-- or for a try of theirs that was refused behind its draw. Each conflict that is told of a line at a record is with a
+-- line of another worker, or pages were dropped meanwhile; the engine counted each, and no others. Where a try found no
+-- slot usable, the words of all slots are told.
 pub record RunsShares (tries : ℕ) (s t : Standing) (shares : List Share) : Type 0 where
   pub workers : length shares ≡ 8
-  pub only : t ≡ record s { state = t.state; clock = t.clock; mine = t.mine; conflicts = t.conflicts; pages = t.pages }
+  pub only : t ≡ record s {
+    state = t.state;
+    clock = t.clock;
+    mine = t.mine;
+    conflicts = t.conflicts;
+    pages = t.pages;
+    drops = t.drops;
+  }
   pub epoch : s.clock.epoch ≤ t.clock.epoch
   pub draw : t.clock.draw ≡ s.clock.draw + commit_count (map (λ (share : Share). share.outcomes) shares)
       + lost_of (map (λ (share : Share). share.tries_refused) shares)
-  pub met : WorkersMet (map (λ (share : Share). share.lines) shares) 0 (map (λ (share : Share). share.lines) shares)
-      (map (λ (share : Share). share.tries_refused) shares)
+  pub met : WorkersMet (map (λ (share : Share). share.lines) shares) (t.drops ≡ s.drops → ⊥) 0
+      (map (λ (share : Share). share.lines) shares) (map (λ (share : Share). share.tries_refused) shares)
   pub caused : AllByRecursion (λ (share : Share).
       AllByRecursion (AllByRecursion (IsTryCause s.slots)) share.tries_refused) shares
   pub conflicts : t.conflicts ≡ s.conflicts + all_conflicts (map (λ (share : Share). share.tries_refused) shares)

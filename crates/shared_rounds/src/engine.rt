@@ -71,6 +71,7 @@ impl SharedEngine {
           slots = start.slots;
           pages = start.pages;
           resident = start.resident;
+          drops = [];
         }) }
     {
         let desks = make_desks(alloc)?;

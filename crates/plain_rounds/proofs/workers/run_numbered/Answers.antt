@@ -29,6 +29,7 @@ returns-clause-takes c =
       slots = 0;
       pages = [];
       resident = 0;
+      drops = [];
       ended = false;
     } in
     let has = number_there c.args.engine.now view c.engine.view_is c.requires.number in
@@ -53,6 +54,7 @@ returns-clause-stops c =
       slots = 0;
       pages = [];
       resident = 0;
+      drops = [];
       ended = false;
     } in
     let has = number_there c.args.engine.now view c.engine.view_is c.requires.number in

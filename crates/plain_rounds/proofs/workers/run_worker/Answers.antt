@@ -6,7 +6,7 @@ use Rattle.std.proofs.lemmas.List.{take_all}
 use Rattle.std.proofs.lemmas.Result.{err_from_is_err_and}
 use Rattle.serial_model.specs.Keys.{fits}
 use Rattle.tx_script.specs.Run.{CanRunOps}
-use Rattle.worker_logs.specs.Logs.{LogState}
+use Rattle.worker_logs.specs.Logs.{IsUpTo, LogState}
 use Rattle.worker_logs.specs.Moves.{MovesLog}
 use Rattle.shared_rounds.specs.Standing.{Standing}
 use Rattle.plain_rounds.specs.Steps.{Moves}
@@ -75,6 +75,8 @@ returns-in_err-run_line-in-Ok g c =
     ∙ lines_epoch so.0.runs.ran c.args.engine.now in
     let moves = subst (λ e. MovesLog g.D.Disk.tells g.D.Disk.clock g.D.Disk.image_at g.D.Disk.faults (e - 1) c.loop-index.log
     c.prepare.new.self c.loop-index.bank c.prepare.new.bank None) epoch c.in-Ok.ensures.moves in
+    let stays = subst (λ e. IsUpTo e c.loop-index.log.mark → c.prepare.new.self.mark ≡ c.loop-index.log.mark) epoch
+    c.in-Ok.ensures.stays in
     let some : 1 ≤ c.args.engine.now.clock.epoch = omega (arith, epoch, c.engine.invariant.0.some_epoch) in
     rw p.1 (record {
       runs = elim c.in_err-run_line-in-Ok.ensures.stops [
@@ -84,7 +86,7 @@ returns-in_err-run_line-in-Ok g c =
         | inr ran ↦ loop_stopped g.row.D.Denot g.D.Disk.tells g.D.Disk.clock g.D.Disk.image_at g.D.Disk.faults c.args.worker
             (c.loop-index.index + 1) c.args.round.now.lines
             (loop_ran g.row.D.Denot g.D.Disk.tells g.D.Disk.clock g.D.Disk.image_at g.D.Disk.faults c.args.worker c.loop-index.index
-            c.args.round.now.lines c.loop-index.count c.in-Some.ops.now c.in-Some.ensures some (so.0, so.1, so.2) moves
+            c.args.round.now.lines c.loop-index.count c.in-Some.ops.now c.in-Some.ensures some (so.0, so.1, so.2) moves stays
             c.in-Ok.ensures.below
             ran.1 refl ran.0).0
       ];
@@ -117,6 +119,8 @@ loop-index-preserved g c =
             | in-Ok+in_ok-run_line-in-Ok v ↦
                 let moves = subst (λ e. MovesLog g.D.Disk.tells g.D.Disk.clock g.D.Disk.image_at g.D.Disk.faults (e - 1)
                 c.loop-index.log w.prepare.new.self c.loop-index.bank w.prepare.new.bank None) epoch v.in-Ok.ensures.moves in
+                let stays = subst (λ e. IsUpTo e c.loop-index.log.mark
+                → w.prepare.new.self.mark ≡ c.loop-index.log.mark) epoch v.in-Ok.ensures.stays in
                 rw (
                   w.engine-is,
                   w.outcomes-is,
@@ -134,7 +138,7 @@ loop-index-preserved g c =
                 (let one = loop_ran g.row.D.Denot g.D.Disk.tells g.D.Disk.clock g.D.Disk.image_at g.D.Disk.faults
                 c.args.worker
                 c.loop-index.index c.args.round.now.lines c.loop-index.count w.in-Some.ops.now w.in-Some.ensures some
-                (so.0, so.1, so.2) moves
+                (so.0, so.1, so.2) moves stays
                 v.in-Ok.ensures.below v.in_ok-run_line-in-Ok.ensures.takes v.in_ok-run_line-in-Ok.ensures.outcome
                 v.in_ok-run_line-in-Ok.ensures.standing in (
                   one.0,
@@ -150,6 +154,8 @@ loop-index-preserved g c =
                 let moves = subst (λ e. MovesLog g.D.Disk.tells g.D.Disk.clock g.D.Disk.image_at g.D.Disk.faults (e - 1)
                 c.loop-index.log w.prepare.new.self c.loop-index.bank w.prepare.new.bank (Some v.in-Err.fault)) epoch
                 v.in-Err.ensures.moves in
+                let stays = subst (λ e. IsUpTo e c.loop-index.log.mark
+                → w.prepare.new.self.mark ≡ c.loop-index.log.mark) epoch v.in-Err.ensures.stays in
                 rw (
                   w.engine-is,
                   w.outcomes-is,
@@ -168,7 +174,7 @@ loop-index-preserved g c =
                 (let one = loop_left g.row.D.Denot g.D.Disk.tells g.D.Disk.clock g.D.Disk.image_at g.D.Disk.faults
                 c.args.worker
                 c.loop-index.index c.args.round.now.lines c.loop-index.count w.in-Some.ops.now v.in-Err.fault w.in-Some.ensures
-                (so.0, so.1, so.2) moves
+                (so.0, so.1, so.2) moves stays
                 (λ size is. let at = v.in-Err.ensures.full size (ap Err is) in (at.0, omega (arith, at.1)))
                 v.in_ok-push_refused-in-Err.ensures.ok in (
                   one.0,

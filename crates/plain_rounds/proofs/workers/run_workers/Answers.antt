@@ -22,6 +22,8 @@ returns g c =
       readied = told.1;
       epoch = ran.ensures.epoch;
       pages = c.clock-2.ensures.no_pages ∙ sym c.clock.ensures.no_pages;
+      drops = c.clock-2.ensures.no_drops ∙ sym c.clock.ensures.no_drops;
+      no_slots = c.clock-2.ensures.no_slots;
       come = λ tries some. subst (λ l. LinesCome g.D.Disk.tells g.D.Disk.clock g.D.Disk.image_at g.D.Disk.faults tries
           c.args.round.now c.args.engine.now ran.new.engine told.0 told.1 l ran.new.logs c.args.growing.now.items ran.new.growing
           ran.result) c.deref_mut.ensures.value

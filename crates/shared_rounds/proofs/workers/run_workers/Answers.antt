@@ -48,7 +48,8 @@ invariant_of-engine g c =
           c.run_seated-ran.result.ends.items ran.ended inv.kept
           c.audit-word.result.0 c.audit-word.result.1 c.audit-word.ensures.counts c.audit-word.ensures.of inv.decls_are
           c.engine.inside.clock inv.number inv.epoch c.run_seated-ran.ensures.behind
-          (ran.went.layout ∙ ran.begins.layout) (ran.went.claimed ran.begins.claimed)),
+          (ran.went.layout ∙ ran.begins.layout) (ran.went.claimed ran.begins.claimed)
+          (ran.went.free ran.begins.free)),
       c.run_seated-ran.ensures.desks,
     )
 
@@ -80,7 +81,7 @@ returns-clause-stays g c =
     c.run_seated-ran.result.ends.items ran.ended inv.kept
     c.audit-word.result.0 c.audit-word.result.1 c.audit-word.ensures.counts c.audit-word.ensures.of inv.decls_are
     c.engine.inside.clock inv.number inv.epoch c.run_seated-ran.ensures.behind
-    (ran.went.layout ∙ ran.begins.layout) (ran.went.claimed ran.begins.claimed)).kept
+    (ran.went.layout ∙ ran.begins.layout) (ran.went.claimed ran.begins.claimed) (ran.went.free ran.begins.free)).kept
 
 pub returns-clause-runs : goal.returns-clause-runs
 returns-clause-runs g c =

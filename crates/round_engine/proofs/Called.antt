@@ -16,7 +16,7 @@ use Rattle.tx_script.specs.declared.answer.Answer.{Answer}
 use Rattle.tx_script.specs.declared.answer.Answer.TheVariants as answers
 use Rattle.tx_script.specs.declared.outcome.Outcome.{Outcome}
 use Rattle.shared_rounds.specs.Below.{AreAllTold, GateCalls, LogEnd, calls_for, calls_in, is_run}
-use Rattle.round_engine.specs.Keeping.{StepsEpoch, StepsLine, glean_answer, save_answer}
+use Rattle.round_engine.specs.Keeping.{StepsDrop, StepsEpoch, StepsLine, glean_answer, save_answer}
 use Rattle.round_engine.specs.RoundCalls.{calls_at, is_answered, round_calls}
 use Rattle.round_engine.specs.Standing.{RuntimeState}
 use Rattle.round_engine.specs.declared.report.End.{End}
@@ -36,6 +36,20 @@ epoch_run answers.Device old new steps = refl
 epoch_run answers.Damaged old new steps = refl
 epoch_run answers.Memory old new steps = refl
 epoch_run answers.Unrun old new steps = absurd steps
+
+drop_run : (answer : Answer) (old new : RuntimeState) → StepsDrop answer old new → is_answered answer ≡ true
+drop_run (answers.Epoch epoch) old new steps = refl
+drop_run (answers.Save epoch) old new steps = refl
+drop_run (answers.Snap epoch count) old new steps = refl
+drop_run answers.Empty old new steps = refl
+drop_run answers.SnapFull old new steps = refl
+drop_run answers.Deep old new steps = refl
+drop_run (answers.Drop dropped kept) old new steps = refl
+drop_run answers.Limit old new steps = refl
+drop_run answers.Device old new steps = refl
+drop_run answers.Damaged old new steps = refl
+drop_run answers.Memory old new steps = refl
+drop_run answers.Unrun old new steps = absurd steps
 
 save_run : (result : Result ℕ SaveFault) → is_answered (save_answer result) ≡ true
 save_run (Ok epoch) = refl
@@ -63,7 +77,8 @@ line_run tells clock image_at faults marks asks.Save answer refusal old new befo
     ap is_answered steps.0.answer_is ∙ save_run steps.0.result
 line_run tells clock image_at faults marks asks.Glean answer refusal old new before now steps =
     ap is_answered steps.answer_is ∙ glean_run steps.result
-line_run tells clock image_at faults marks asks.Drop answer refusal old new before now steps = absurd steps
+line_run tells clock image_at faults marks asks.Drop answer refusal old new before now steps =
+    drop_run answer old new steps.0
 
 -- ---- all threads
 

@@ -46,9 +46,11 @@ use Rattle.round_engine.specs.Ends.{is_closed, swaps, where_true}
 use Rattle.tx_script.specs.Causes.{keeper_at_end}
 use Rattle.round_engine.specs.Logs.{AreClosedFiles, AreLogs, IsFirstAt, LeavesLog}
 use Rattle.round_engine.specs.RanRound.{LeavesVault, LogsRan}
-use Rattle.round_engine.specs.Saves.{saves_told}
+use Rattle.worker_logs.specs.declared.savepoints.Beside.{Beside}
+use Rattle.round_engine.specs.Saves.{beside_at_save, saves_told}
 use Rattle.round_engine.specs.Sides.{closed_in, closed_numbers, growing_in, other_side}
-use Rattle.round_engine.specs.Standing.{RuntimeState, StandsOn}
+use Rattle.round_engine.specs.Standing.{beside_of, RuntimeState, StandsOn}
+use Rattle.round_engine.proofs.Saved.{over_begin, over_save}
 use Rattle.round_engine.specs.Swaps.{behind_swap, CutsBanks, since_swap}
 use Rattle.round_engine.proofs.BanksCut.{closed_in_numbers, numbers_closed}
 use Rattle.round_engine.proofs.BanksShut.{shut_of}
@@ -468,15 +470,18 @@ module _ {D : Type 0} {tells : D → Option (List ℕ)} {clock : D → ℕ} {ima
           let one = by.1.each w place here in
           let same : one.0 ≡ m = same_Some one.0 m (sym one.1 ∙ there) in
           let marked : List ℕ = map (λ (x : Mark). x.length) by.0 in
+          let beside : Beside = beside_at_save (beside_of old) ran.printed.answers k in
+          let over = over_save ran.printed.answers (beside_of old) k
+          (over_begin old.side old.counted (length old.store.pages) stood.closed.workers) in
           ap (λ (p : Option Savepoint). counted_of p (growing_number old.side w))
           (point_behind story last begun (front_of new.store) made (last + 1 + k) (omega arith)
           ∙ begun_at story last begun (front_of new.store) made k saved at)
           ∙ ap (λ l. get_or l (growing_number old.side w) 0) by.2.saves.lengths
-          ∙ ap (λ s. get_or (lengths_by s marked by.2.beside.closed) (growing_number old.side w) 0) by.2.growing
-          ∙ growing_length old.side marked by.2.beside.closed w m.mark.length
+          ∙ ap (λ s. get_or (lengths_by s marked beside.closed) (growing_number old.side w) 0) over.growing
+          ∙ growing_length old.side marked beside.closed w m.mark.length
           (map_there (λ (x : Mark). x.length) by.0 w one.0.mark one.2
           ∙ ap (λ (x : Stood). Some x.mark.length) same)
-          (length-map by.0 (λ (x : Mark). x.length) ∙ by.1.workers ∙ sym by.2.workers)
+          (length-map by.0 (λ (x : Mark). x.length) ∙ by.1.workers ∙ sym over.workers)
 
       growing_fresh : (w k : ℕ) (bank : D) (is : Grew w bank) → w < 8
           → disk_in between (Bank (growing_number old.side w)) ≡ Some bank → last < k → k ≤ high

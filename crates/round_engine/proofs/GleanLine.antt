@@ -39,6 +39,7 @@ use Rattle.gleaner.specs.declared.gleaning.GleanFault.{GleanFault}
 use Rattle.gleaner.specs.declared.gleaning.GleanFault.TheVariants as glean_faults
 use Rattle.gleaner.specs.declared.gleaning.Gleaned.{Gleaned}
 use Rattle.gleaner.specs.declared.gleaning.Gleaned.TheVariants.{Empty, Snap}
+use Rattle.tx_script.specs.CausedBeside.{drops_told}
 use Rattle.tx_script.specs.Run.{AdvancesTo, Ran}
 use Rattle.tx_script.specs.Causes.{AnswerCause, closed_of as closed_file_of, file_of, IsGleanDevice, KeeperAt, keeper_after, some_counted}
 use Rattle.tx_script.specs.declared.answer.Answer.{Answer}
@@ -54,7 +55,7 @@ use Rattle.round_engine.specs.Gleans.{device_of_glean, devices_of_glean, GleansQ
 use Rattle.round_engine.specs.Keeping.{epoch_by, IsSavedBySeen, SeenAmong}
 use Rattle.round_engine.specs.Keeping.{AreByPlace, CanKeep, glean_answer, glean_refusal, is_refusal, keeper_on, KeepsSaves, NeedCounted}
 use Rattle.round_engine.specs.Keeping.{refusal_beside, refusal_told, RestsOn, RunsKeeper, StepsGlean}
-use Rattle.round_engine.specs.Saves.{AreSavedIn, beside_at_end, saves_told}
+use Rattle.round_engine.specs.Saves.{AreSavedIn, beside_at_end, beside_at_save, saves_told}
 use Rattle.round_engine.specs.Sides.{closed_in, is_odd}
 use Rattle.round_engine.specs.Standing.{beside_of, HasSnapshot, IsPublished, RuntimeState, Standing}
 use Rattle.round_engine.specs.declared.report.End.{End}
@@ -62,6 +63,7 @@ use Rattle.round_engine.specs.declared.report.End.TheVariants as ends
 use Rattle.round_engine.proofs.GleanDevices.{damage_beside, device_told, in_option, memory_beside, none_beside, some_beside}
 use Rattle.round_engine.proofs.GleansThen.{no_snap, none_of_zeros}
 use Rattle.round_engine.proofs.KeepingSaves.{some_there}
+use Rattle.round_engine.proofs.Dropped.{nothing_dropped}
 use Rattle.round_engine.proofs.Placed.{place_none}
 use Rattle.round_engine.proofs.PlainLine.{TellsNone}
 use Rattle.round_engine.proofs.Places.{within_of}
@@ -178,6 +180,7 @@ module _ {D : Type 0} {tells : D → Option (List ℕ)} {clock : D → ℕ} {ima
   -- what a line is answered that stores nothing
   pub record IsAnswered (answer : Answer) : Type 0 where
     pub unsaved : saves_told (answer ∷ []) ≡ []
+    pub undropped : drops_told (answer ∷ []) ≡ []
     pub none_in : AreSavedIn (IsSavedBySeen (SeenAmong [] r.stands.clock.epoch new.stands.clock.epoch)) (beside_of r)
         (answer ∷ []) []
     pub stays : AdvancesTo r.stands.clock.epoch (answer ∷ []) r.stands.clock.epoch
@@ -205,8 +208,10 @@ module _ {D : Type 0} {tells : D → Option (List ℕ)} {clock : D → ℕ} {ima
     keeps = keeps_gleans durable;
     by_lines = is.none_in;
     by_failed = tt;
-    by_place = subst (AreByPlace r.side [] [] (sequence_of r.save.newest))
-        (ap (λ (s : SaveState). sequence_of s.newest) (sym gleans.alone.save)) (place_none r.side (sequence_of r.save.newest));
+    by_place = subst (AreByPlace r.stands.clock.epoch new.stands.clock.epoch
+        (beside_at_save (beside_of r) (answer ∷ [])) [] [] (sequence_of r.save.newest))
+        (ap (λ (s : SaveState). sequence_of s.newest) (sym gleans.alone.save)) (place_none r.stands.clock.epoch
+        new.stands.clock.epoch (beside_at_save (beside_of r) (answer ∷ [])) (sequence_of r.save.newest));
     gleaned = round;
     leaves = leaves;
     needs = needs;
@@ -214,7 +219,13 @@ module _ {D : Type 0} {tells : D → Option (List ℕ)} {clock : D → ℕ} {ima
         (tt, subst (λ e. epoch_of r.save.newest ≤ epoch_by e from) (sym same_epoch) low);
     later = omega (arith, same_epoch);
     stands = gleans.alone.stands
-        ∙ ap (λ e. record r.stands { clock = record r.stands.clock { epoch = e }; pages = new.stands.pages }) (sym same_epoch);
+        ∙ ap (λ e. record r.stands { clock = record r.stands.clock { epoch = e }; pages = new.stands.pages }) (sym same_epoch)
+        ∙ ap (λ d. record r.stands {
+          clock = record r.stands.clock { epoch = new.stands.clock.epoch };
+          pages = new.stands.pages;
+          drops = d;
+        }) (sym same_drops);
+    dropped = nothing_dropped r.stands.slots (answer ∷ []) r.stands.drops new.stands.drops is.undropped same_drops;
     logs = gleans.alone.logs;
     is_down = gleans.alone.down;
     count = refl;
@@ -234,15 +245,19 @@ module _ {D : Type 0} {tells : D → Option (List ℕ)} {clock : D → ℕ} {ima
       none_more : (index : ℕ) → index ≡ index + 0
       none_more index = omega arith
 
+      same_drops : new.stands.drops ≡ r.stands.drops
+      same_drops = ap (λ (s : Standing). s.drops) gleans.alone.stands
+
       same_epoch : new.stands.clock.epoch ≡ r.stands.clock.epoch
       same_epoch = ap (λ (s : Standing). s.clock.epoch) gleans.alone.stands
 
   -- ---- its cases
 
-  answered_plain : (answer : Answer) → saves_told (answer ∷ []) ≡ []
+  answered_plain : (answer : Answer) → saves_told (answer ∷ []) ≡ [] → drops_told (answer ∷ []) ≡ []
       → AreSavedIn (IsSavedBySeen (SeenAmong [] r.stands.clock.epoch new.stands.clock.epoch)) (beside_of r) (answer ∷ []) []
       → AdvancesTo r.stands.clock.epoch (answer ∷ []) r.stands.clock.epoch → IsAnswered answer
-  answered_plain answer unsaved none stays = record { unsaved = unsaved; none_in = none; stays = stays }
+  answered_plain answer unsaved undropped none stays =
+      record { unsaved = unsaved; undropped = undropped; none_in = none; stays = stays }
 
   -- the engine has all pages
   published_behind : (0 < r.stands.slots
@@ -384,7 +399,7 @@ module _ {D : Type 0} {tells : D → Option (List ℕ)} {clock : D → ℕ} {ima
         | inr later ↦ also_failed d later
       ])
       (refusal_beside beside (Some (ends.Device device))) (record { none = refl; beside = λ b. refl })
-      (answered_plain answers.Device refl refl refl) (λ what has. absurd (in_none what has))
+      (answered_plain answers.Device refl refl refl refl) (λ what has. absurd (in_none what has))
       (λ d at no. absurd (let bad = no in cc)) (λ none. refl) (needed counted) refl
       (some_beside beside (ends.Device device))
       (device_told beside device (told_before (Err (or.Fault (glean_faults.Device device))) is))
@@ -404,7 +419,7 @@ module _ {D : Type 0} {tells : D → Option (List ℕ)} {clock : D → ℕ} {ima
       let none : beside ≡ None =
       none_beside beside (told_before (Err (or.Fault (glean_faults.Device devices.Snaps))) is) in
       built answers.Device (refusal_beside beside (Some (ends.Device devices.Snaps))) [] (devices.Snaps ∷ []) None
-      (answered_plain answers.Device refl refl refl) (λ tell begins up. absurd (never up))
+      (answered_plain answers.Device refl refl refl refl) (λ tell begins up. absurd (never up))
       (record {
         told = gleans.over.told;
         found = λ what has. absurd (in_none what has);
@@ -448,7 +463,7 @@ module _ {D : Type 0} {tells : D → Option (List ℕ)} {clock : D → ℕ} {ima
       let within : length r.store.pages + count ≤ r.room =
       subst (λ n. n + count ≤ r.room) (length-map r.store.pages (λ p. Page.words p)) added.gleaned.within in
       built (answers.Snap epoch count) (refusal_beside beside None) (Some count ∷ []) [] None
-      (answered_plain (answers.Snap epoch count) refl refl refl)
+      (answered_plain (answers.Snap epoch count) refl refl refl refl)
       (λ tell begins up. let file = some_there (tells vault.snaps) tell in adds.durable file.0 file.1)
       (record {
         told = gleans.over.told;
@@ -558,7 +573,7 @@ module _ {D : Type 0} {tells : D → Option (List ℕ)} {clock : D → ℕ} {ima
       none_added answers.Damaged [] (option_to_list beside) (Some (device, at)) same
       (devices_are None beside (ap device_of_glean is) refl) also_failed
       (refusal_beside beside (Some (ends.Damaged device at))) (record { none = refl; beside = λ b. refl })
-      (answered_plain answers.Damaged refl refl refl) (λ what has. absurd (in_none what has))
+      (answered_plain answers.Damaged refl refl refl refl) (λ what has. absurd (in_none what has))
       (λ d n there.
       let pair = same_Some (device, at) (d, n) there in
       subst (λ (x : Device × ℕ). FindsDamage tells r vault x.0 x.1) pair bad)
@@ -590,7 +605,7 @@ module _ {D : Type 0} {tells : D → Option (List ℕ)} {clock : D → ℕ} {ima
       let none : beside ≡ None = none_beside beside (told_before (Err (or.Fault glean_faults.Deep)) is) in
       none_added answers.Deep (None ∷ []) [] None told.1 (devices_are None None (ap device_of_glean is) none)
       (λ d no. absurd (in_none d no)) (refusal_beside beside None) (record { none = refl; beside = λ b. refl })
-      (answered_plain answers.Deep refl refl refl)
+      (answered_plain answers.Deep refl refl refl refl)
       (λ what has. elim (in_cases what None [] has) [
         | inl here ↦ subst (IsFound tells r vault) here told.0
         | inr none ↦ absurd (in_none what none)
@@ -602,7 +617,7 @@ module _ {D : Type 0} {tells : D → Option (List ℕ)} {clock : D → ℕ} {ima
       none_beside beside (told_before (Err (or.Fault (glean_faults.Limit have count room))) is) in
       none_added answers.SnapFull (Some count ∷ []) [] None told.4 (devices_are None None (ap device_of_glean is) none)
       (λ d no. absurd (in_none d no)) (refusal_beside beside None) (record { none = refl; beside = λ b. refl })
-      (answered_plain answers.SnapFull refl refl refl)
+      (answered_plain answers.SnapFull refl refl refl refl)
       (λ what has. elim (in_cases what (Some count) [] has) [
         | inl here ↦ subst (IsFound tells r vault) here told.3
         | inr none ↦ absurd (in_none what none)
@@ -618,7 +633,7 @@ module _ {D : Type 0} {tells : D → Option (List ℕ)} {clock : D → ℕ} {ima
   by_answer counted (Err or.Memory) is told =
       none_added answers.Memory [] (option_to_list beside) None told (devices_are None beside (ap device_of_glean is) refl)
       also_failed (refusal_beside beside (Some ends.Memory)) (record { none = refl; beside = λ b. refl })
-      (answered_plain answers.Memory refl refl refl) (λ what has. absurd (in_none what has))
+      (answered_plain answers.Memory refl refl refl refl) (λ what has. absurd (in_none what has))
       (λ d n no. absurd (let none = no in cc)) (λ none. refl) (needed counted) refl (some_beside beside ends.Memory)
       (memory_beside beside) (λ ran rests. counted)
 
@@ -629,7 +644,7 @@ module _ {D : Type 0} {tells : D → Option (List ℕ)} {clock : D → ℕ} {ima
       let alone : beside ≡ None = none_beside beside (told_before (Ok Empty) is) in
       none_added answers.Empty [] [] None same (devices_are None None (ap device_of_glean is) alone)
       (λ d no. absurd (in_none d no)) (refusal_beside beside None)
-      (record { none = refl; beside = λ b. refl }) (answered_plain answers.Empty refl refl refl)
+      (record { none = refl; beside = λ b. refl }) (answered_plain answers.Empty refl refl refl refl)
       (λ what has. absurd (in_none what has)) (λ d n no. absurd (let bad = no in cc)) (λ no. refl)
       (record {
         found = λ what has. absurd (in_none what has);

@@ -10,6 +10,7 @@ use Rattle.script_grammar.specs.Script.{Round, keeper_lines}
 use Rattle.tx_script.specs.Run.{Readied}
 use Rattle.tx_script.specs.Seen.{NeverBack, NoneBefore, first_places}
 use Rattle.tx_script.specs.declared.answer.Answer.{Answer}
+use Rattle.engine_pages.specs.declared.view.Dropped.{Dropped as Counts}
 use Rattle.wire_form.specs.declared.clock.Mark.{Mark}
 use Rattle.worker_logs.specs.Logs.{LogState}
 use Rattle.worker_logs.specs.Saves.{logs_marks}
@@ -26,6 +27,7 @@ use Rattle.round_engine.specs.Sides.{SameButGrowing, growing_in}
 use Rattle.round_engine.specs.Standing.{RuntimeState, Standing}
 use Rattle.round_engine.specs.Workers.{RunsWorkers}
 use Rattle.round_engine.specs.declared.report.End.{End}
+use Rattle.round_engine.proofs.Dropped.{nothing_counted}
 use Rattle.round_engine.proofs.Places.{map_at}
 use Rattle.round_engine.proofs.SideSteps.{first_before}
 
@@ -97,14 +99,20 @@ behind_back marks low (m ∷ seen) first = (
 
 -- ---- the lines
 
--- where neither the clock nor the pages go on, the maintenance thread begins on what the lines left
+-- where neither the clock, nor the pages, nor the drops go on, the maintenance thread begins on what the lines left
 pub begun_alone : (r mid : RuntimeState) → mid.stands.clock.epoch ≡ r.stands.clock.epoch
-    → mid.stands.pages ≡ r.stands.pages → mid ≡ record r { stands = mid.stands; logs = mid.logs }
+    → mid.stands.pages ≡ r.stands.pages → mid.stands.drops ≡ r.stands.drops
+    → mid ≡ record r { stands = mid.stands; logs = mid.logs }
     → mid ≡ record r { stands = as_begun r.stands mid.stands; logs = mid.logs }
-begun_alone r mid epoch pages alone = alone
+begun_alone r mid epoch pages drops alone = alone
     ∙ ap (λ (s : Standing). record r { stands = s; logs = mid.logs })
     (ap (λ (p : List (List ℕ)). record mid.stands { pages = p }) pages
-    ∙ ap (λ (e : ℕ). record mid.stands { clock = record mid.stands.clock { epoch = e }; pages = r.stands.pages }) epoch)
+    ∙ ap (λ (d : List Counts). record mid.stands { pages = r.stands.pages; drops = d }) drops
+    ∙ ap (λ (e : ℕ). record mid.stands {
+      clock = record mid.stands.clock { epoch = e };
+      pages = r.stands.pages;
+      drops = r.stands.drops;
+    }) epoch)
 
 module _ {D : Type 0} {tells : D → Option (List ℕ)} {clock : D → ℕ} {image_at : D → ℕ → List ℕ → Type 0}
     {faults : D → ℕ} {tries : ℕ} {round : Round} (r mid kept : RuntimeState) (before between after : Vault D)
@@ -113,7 +121,8 @@ module _ {D : Type 0} {tells : D → Option (List ℕ)} {clock : D → ℕ} {ima
     (lines : RunsWorkers tells clock image_at faults tries round r.stands mid.stands ran.outcomes ran.ends.items marks
     readied r.logs mid.logs (growing_in r.side before) (growing_in r.side between)) (many : length r.logs ≡ 8)
     (last : AreLastOf marks mid.logs) (epoch : mid.stands.clock.epoch ≡ r.stands.clock.epoch)
-    (pages : mid.stands.pages ≡ r.stands.pages) (once : DrewOnce r.stands mid.stands ran.outcomes)
+    (pages : mid.stands.pages ≡ r.stands.pages) (drops : mid.stands.drops ≡ r.stands.drops)
+    (map : mid.stands.slots ≡ 0) (once : DrewOnce r.stands mid.stands ran.outcomes)
     (alone : mid ≡ record r { stands = mid.stands; logs = mid.logs }) (beside : SameButGrowing r.side before between)
     (keeper : RunsBehind tells clock image_at faults (keeper_lines round) said refusal mid kept between after) where
   marks_many : length marks ≡ 8
@@ -131,8 +140,9 @@ module _ {D : Type 0} {tells : D → Option (List ℕ)} {clock : D → ℕ} {ima
     lines = lines;
     once = λ tree. once;
     history = λ shares. absurd (plain shares);
-    alone = begun_alone r mid epoch pages alone;
+    alone = begun_alone r mid epoch pages drops alone;
     later = keeper.runs.later;
+    drops = sym (nothing_counted mid.stands.slots said mid.stands.drops kept.stands.drops map keeper.runs.dropped);
     beside = beside;
     seen = keeper.seen;
     places = all_last marks keeper.seen;

@@ -1,6 +1,6 @@
 -- A line of the maintenance thread more.
 use Rattle.std.proofs.Common.{◌≡◌, ◌∙◌, ◌≤◌, ◌<◌, ◌+◌, ◌++◌, ◌∷◌, inl, inr, sym, ap, subst, refl, ℕ, List, [], length}
-use Rattle.std.proofs.Common.{Bool, true, false, Option, Some, None, arith, length-append}
+use Rattle.std.proofs.Common.{Bool, true, false, Option, Some, None, arith, length-append, map}
 use Rattle.std.specs.Prelude.{◌||◌, ◌^◌, is_some, option_to_list}
 use Rattle.std.specs.List.{AllByRecursion, Contains, list_any}
 use Rattle.std.proofs.lemmas.Bool.{cases_Bool}
@@ -36,19 +36,21 @@ use Rattle.worker_logs.specs.declared.savepoints.Side.TheVariants.{Even, Odd}
 use Rattle.round_engine.specs.Ends.{first_device, wants_memory, save_limited}
 use Rattle.round_engine.specs.Keeping.{answers_end, CanKeep, epochs_in, GoOn, IsSavedBySeen, is_limited, is_refusal, keeper_on, refusal_told}
 use Rattle.round_engine.specs.Keeping.{RunsBehind, RunsKeeper, seen_by, seen_unless, SeenAmong, StepsEpoch, StepsKeeper}
-use Rattle.round_engine.specs.Keeping.{StepsLine}
-use Rattle.round_engine.specs.Saves.{AreSavedIn, beside_after, beside_at_end}
+use Rattle.round_engine.specs.Drops.{counts_of, drops_if}
+use Rattle.round_engine.specs.Keeping.{StepsDrop, StepsLine}
+use Rattle.round_engine.specs.Saves.{AreSavedIn, beside_after, beside_at_end, beside_at_save, GoesBy}
 use Rattle.round_engine.specs.Sides.{closed_in, growing_in}
 use Rattle.round_engine.specs.Standing.{AreClosed, beside_of, RuntimeState}
 use Rattle.round_engine.specs.declared.report.End.{End}
 use Rattle.round_engine.proofs.Beside.{keeps_none}
+use Rattle.round_engine.proofs.Dropped.{dropped_then, nothing_dropped}
 use Rattle.round_engine.proofs.GleansThen.{beside_kept, beside_zeros, no_snap, snap_in}
 use Rattle.round_engine.proofs.GleanLine.{glean_line}
 use Rattle.round_engine.proofs.KeeperThen.{advances_on, any_append, caused_then, keeper_then, refused_nothing, saved_in_then, saves_on}
 use Rattle.round_engine.proofs.KeeperThen.{sees_then, where_memory}
 use Rattle.round_engine.proofs.LogsStanding.{stand_keeper}
 use Rattle.round_engine.proofs.Places.{nothing_there}
-use Rattle.round_engine.proofs.Placed.{place_none}
+use Rattle.round_engine.proofs.Placed.{place_none, save_unrun}
 use Rattle.round_engine.proofs.PlainLine.{IsPlain, plain_line, reads_none}
 use Rattle.round_engine.proofs.SaveLine.{save_line}
 
@@ -160,7 +162,17 @@ module _ {D : Type 0} {tells : D → Option (List ℕ)} {clock : D → ℕ} {ima
     by_lines = subst (AreSavedIn By (beside_of old) (said ++ answers.Unrun ∷ [])) (append-nil runs.stored)
         (saved_in_then By (beside_of old) said (answers.Unrun ∷ []) runs.stored [] runs.by_lines refl);
     by_failed = subst (λ b. AllByRecursion (By b) (option_to_list runs.failed)) (sym beside_same) runs.by_failed;
-    by_place = runs.by_place;
+    by_place = record {
+      by = λ k s at.
+          let one = runs.by_place.by k s at in (
+            one.0,
+            one.1,
+            subst (λ b. GoesBy old.stands.clock.epoch mid.stands.clock.epoch b one.0 s)
+                (sym (save_unrun (beside_of old) said k)) one.2,
+          );
+      left = runs.by_place.left;
+      all = runs.by_place.all;
+    };
     gleaned = record {
       told = runs.gleaned.told;
       found = runs.gleaned.found;
@@ -193,6 +205,9 @@ module _ {D : Type 0} {tells : D → Option (List ℕ)} {clock : D → ℕ} {ima
     rise = runs.rise;
     later = runs.later;
     stands = runs.stands;
+    dropped = dropped_then old.stands.slots old.stands.slots said (answers.Unrun ∷ []) old.stands.drops mid.stands.drops
+        mid.stands.drops refl runs.dropped
+        (nothing_dropped old.stands.slots (answers.Unrun ∷ []) mid.stands.drops mid.stands.drops refl refl);
     logs = runs.logs;
     is_down = runs.is_down;
     count = length-append said (answers.Unrun ∷ []) ∙ ap (λ n. n + 1) runs.count ∙ sym (length-append lines (line ∷ []));
@@ -232,6 +247,15 @@ epoch_plain epoch = record {
   remembers = refl;
 }
 
+drop_plain : (dropped kept : ℕ) → IsPlain (answers.Drop dropped kept)
+drop_plain dropped kept = record {
+  tells = record { none = refl; beside = λ b. refl };
+  unsaved = refl;
+  none_in = λ By b. refl;
+  goes_on = refl;
+  remembers = refl;
+}
+
 limit_plain : IsPlain answers.Limit
 limit_plain = record {
   tells = record { none = refl; beside = λ b. refl };
@@ -248,15 +272,32 @@ module _ {D : Type 0} {tells : D → Option (List ℕ)} {clock : D → ℕ} {ima
   epoch_line (answers.Epoch epoch) {new} step =
       subst (λ n. RunsKeeper tells clock image_at faults [] (asks.Epoch ∷ []) (answers.Epoch epoch ∷ []) None r n vault vault)
       (sym step.2)
-      (plain_line r vault ready asks.Epoch (answers.Epoch epoch) epoch (epoch_plain epoch) (omega (arith, step.1))
-      (step.1, refl) refl (λ ran. (step.0, step.1)) [] (λ ran index. none_more index)
-      (place_none r.side (sequence_of r.save.newest)))
+      (plain_line r vault ready asks.Epoch (answers.Epoch epoch) epoch r.stands.drops (epoch_plain epoch)
+      (omega (arith, step.1))
+      (step.1, refl) (nothing_dropped r.stands.slots (answers.Epoch epoch ∷ []) r.stands.drops r.stands.drops refl refl)
+      refl (λ ran same. (step.0, step.1)) [] (λ ran index. none_more index)
+      (place_none r.stands.clock.epoch epoch (beside_at_save (beside_of r) (answers.Epoch epoch ∷ []))
+      (sequence_of r.save.newest)))
   epoch_line answers.Limit {new} step =
       subst (λ n. RunsKeeper tells clock image_at faults [] (asks.Epoch ∷ []) (answers.Limit ∷ []) None r n vault vault)
       (sym step.1)
-      (plain_line r vault ready asks.Epoch answers.Limit r.stands.clock.epoch limit_plain (omega arith) refl refl
-      (λ ran. step.0) [] (λ ran index. none_more index) (place_none r.side (sequence_of r.save.newest)))
+      (plain_line r vault ready asks.Epoch answers.Limit r.stands.clock.epoch r.stands.drops limit_plain (omega arith) refl
+      (nothing_dropped r.stands.slots (answers.Limit ∷ []) r.stands.drops r.stands.drops refl refl) refl
+      (λ ran same. step.0) [] (λ ran index. none_more index) (place_none r.stands.clock.epoch r.stands.clock.epoch
+      (beside_at_save (beside_of r) (answers.Limit ∷ [])) (sequence_of r.save.newest)))
   epoch_line _ {new} step = absurd step
+
+  drop_line : (answer : Answer) {new : RuntimeState} → StepsDrop answer r new
+      → RunsKeeper tells clock image_at faults [] (asks.Drop ∷ []) (answer ∷ []) None r new vault vault
+  drop_line (answers.Drop dropped kept) {new} step =
+      subst (λ n. RunsKeeper tells clock image_at faults [] (asks.Drop ∷ []) (answers.Drop dropped kept ∷ []) None r n
+      vault vault) (sym step.1)
+      (plain_line r vault ready asks.Drop (answers.Drop dropped kept) r.stands.clock.epoch
+      (r.stands.drops ++ map counts_of (drops_if r.stands.slots (answers.Drop dropped kept ∷ [])))
+      (drop_plain dropped kept) (omega arith) refl refl refl (λ ran same none. step.0 (sym same ∙ none)) []
+      (λ ran index. none_more index) (place_none r.stands.clock.epoch r.stands.clock.epoch
+      (beside_at_save (beside_of r) (answers.Drop dropped kept ∷ [])) (sequence_of r.save.newest)))
+  drop_line _ {new} step = absurd step
 
   one_line : (marks : List Mark) (line : KeeperLine) (answer : Answer) (refusal : Option End) {new : RuntimeState}
       {now : Vault D} → StepsLine tells clock image_at faults marks line answer refusal r new vault now
@@ -269,7 +310,10 @@ module _ {D : Type 0} {tells : D → Option (List ℕ)} {clock : D → ℕ} {ima
       subst (λ e. RunsKeeper tells clock image_at faults (marks ∷ []) (asks.Save ∷ []) (answer ∷ []) e r new vault now)
       (sym step.1) (save_line faults r vault ready marks answer step.0)
   one_line marks asks.Glean answer refusal step = glean_line faults r vault ready answer refusal step
-  one_line marks asks.Drop answer refusal step = absurd step
+  one_line marks asks.Drop answer refusal {new} {now} step =
+      subst (λ e. RunsKeeper tells clock image_at faults [] (asks.Drop ∷ []) (answer ∷ []) e r new vault now) (sym step.2)
+      (subst (λ v. RunsKeeper tells clock image_at faults [] (asks.Drop ∷ []) (answer ∷ []) None r new vault v)
+      (sym step.1) (drop_line answer step.0))
 
 module _ {D : Type 0} {tells : D → Option (List ℕ)} {clock : D → ℕ} {image_at : D → ℕ → List ℕ → Type 0} {faults : D → ℕ}
     {seen : List (List Mark)} {lines : List KeeperLine} {said : List Answer} {old mid : RuntimeState}
@@ -306,7 +350,8 @@ keeper_begin {tells = tells} {clock} {image_at} {faults} r vault ready = record 
   keeps = keeps_none r vault ready.up ready.stored;
   by_lines = refl;
   by_failed = tt;
-  by_place = place_none r.side (sequence_of r.save.newest);
+  by_place = place_none r.stands.clock.epoch r.stands.clock.epoch (beside_at_save (beside_of r) [])
+      (sequence_of r.save.newest);
   gleaned = record {
     told = refl;
     found = λ what has. absurd (in_none what has);
@@ -348,6 +393,7 @@ keeper_begin {tells = tells} {clock} {image_at} {faults} r vault ready = record 
   rise = λ from going low. (tt, low);
   later = omega arith;
   stands = refl;
+  dropped = nothing_dropped r.stands.slots [] r.stands.drops r.stands.drops refl refl;
   logs = refl;
   is_down = refl;
   count = refl;

@@ -4,7 +4,7 @@ use Rattle.std.proofs.Common.{length-append, append_assoc, map, Bool, true, fals
 use Rattle.std.specs.Prelude.{◌||◌, fold, is_some, option_to_list}
 use Rattle.std.specs.List.{AllByRecursion, Contains, list_any}
 use Rattle.std.proofs.lemmas.Bool.{cases_Bool}
-use Rattle.std.proofs.lemmas.List.{append-nil, map-append}
+use Rattle.std.proofs.lemmas.List.{append-nil, length-map, map-append}
 use Rattle.std.proofs.lemmas.List.Elements.{Contains-append_cases, Contains-append_left, Contains-append_right}
 use Rattle.std.proofs.lemmas.List.Sums.{fold-append}
 use Rattle.lists.specs.Each.{all_weaker}
@@ -30,12 +30,13 @@ use Rattle.round_engine.specs.Gleans.{LeaveGleans, RoundGleans}
 use Rattle.round_engine.specs.Keeping.{answers_end, AreSeenFrom, epoch_by, epochs_in, GoOn, IsSavedBySeen, is_refusal, keeper_on}
 use Rattle.round_engine.specs.Keeping.{KeepsSaves, last_epoch_of, last_seen, refusal_told, RestsOn, RunsKeeper}
 use Rattle.round_engine.specs.Keeping.{AreByPlace, SeenAmong}
-use Rattle.round_engine.specs.Saves.{AreSavedIn, beside_after, beside_at_end, newest_after, saves_told}
+use Rattle.round_engine.specs.Saves.{AreSavedIn, beside_after, beside_at_end, beside_at_save, newest_after, saves_told}
 use Rattle.round_engine.proofs.Placed.{place_then, sequence_after}
 use Rattle.round_engine.specs.Sides.{is_odd}
 use Rattle.round_engine.specs.Standing.{beside_of, RuntimeState, Standing}
 use Rattle.round_engine.specs.declared.report.End.{End}
 use Rattle.round_engine.specs.declared.report.End.TheVariants as ends
+use Rattle.round_engine.proofs.Dropped.{dropped_then}
 use Rattle.round_engine.proofs.GleansThen.{beside_both, beside_kept, beside_mid, gleans_both, leaves_both, snap_in, spent}
 use Rattle.round_engine.proofs.Keeping.{keeps_then}
 
@@ -199,6 +200,9 @@ module _ {D : Type 0} {tells : D → Option (List ℕ)} {clock : D → ℕ} {ima
   nothing : NothingRefused first.failed first.broken first.damaged said
   nothing = refused_nothing first.failed first.broken first.damaged said first.refusal_is
 
+  slots_same : mid.stands.slots ≡ old.stands.slots
+  slots_same = ap (λ (s : Standing). s.slots) first.stands
+
   decls_same : mid.stands.decls ≡ old.stands.decls
   decls_same = ap (λ (s : Standing). s.decls) first.stands
 
@@ -304,6 +308,7 @@ module _ {D : Type 0} {tells : D → Option (List ℕ)} {clock : D → ℕ} {ima
         odd = rests.odd;
         closed_at = rests.closed_at;
         room = rests.room;
+        slots = rests.slots;
         gleans_are = λ what has. rests.gleans_are what (Contains-append_left first.gleans next.gleans what has);
         damage = λ damage is. absurd (let no = sym is ∙ nothing.damaged_is in cc);
         store = λ is. absurd (let no = sym (ap is_some nothing.failed_is) ∙ is in cc);
@@ -316,6 +321,7 @@ module _ {D : Type 0} {tells : D → Option (List ℕ)} {clock : D → ℕ} {ima
         odd = rests.odd ∙ ap is_odd (sym left.side);
         closed_at = rests.closed_at ∙ sym left.closed_at;
         room = rests.room ∙ sym left.room;
+        slots = rests.slots ∙ sym slots_same;
         gleans_are = λ what has. rests.gleans_are what (Contains-append_right first.gleans next.gleans what has);
         damage = rests.damage;
         store = rests.store;
@@ -355,14 +361,15 @@ module _ {D : Type 0} {tells : D → Option (List ℕ)} {clock : D → ℕ} {ima
         (all_weaker (IsSavedBySeen (SeenAmong later_seen mid.stands.clock.epoch new.stands.clock.epoch)
         (beside_at_end (beside_of mid) told)) (Between (beside_at_end (beside_of mid) told))
         (marks_next (beside_at_end (beside_of mid) told)) (option_to_list next.failed) next.by_failed);
-    by_place = subst (λ l. AreByPlace old.side (seen ++ later_seen) l (sequence_of old.save.newest) (sequence_of new.save.newest))
-        (sym (append_assoc first.stored next.stored (option_to_list next.failed)))
-        (place_then old.side seen later_seen first.stored (next.stored ++ option_to_list next.failed) (sequence_of old.save.newest)
-        (sequence_of mid.save.newest) (sequence_of new.save.newest)
-        (subst (λ l. AreByPlace old.side seen l (sequence_of old.save.newest) (sequence_of mid.save.newest)) first_stored
-        first.by_place)
-        (subst (λ s. AreByPlace s later_seen (next.stored ++ option_to_list next.failed) (sequence_of mid.save.newest)
-        (sequence_of new.save.newest)) first.leaves.side next.by_place)
+    by_place = subst (λ l. AreByPlace old.stands.clock.epoch new.stands.clock.epoch
+        (beside_at_save (beside_of old) (said ++ told)) (seen ++ later_seen) l (sequence_of old.save.newest)
+        (sequence_of new.save.newest)) (sym (append_assoc first.stored next.stored (option_to_list next.failed)))
+        (place_then old.stands.clock.epoch mid.stands.clock.epoch new.stands.clock.epoch (beside_of old) (beside_of mid) said
+        told seen later_seen first.stored (next.stored ++ option_to_list next.failed) (sequence_of old.save.newest)
+        (sequence_of mid.save.newest) (sequence_of new.save.newest) first.later next.later
+        (sym (length-map first.stored (λ (s : Saved). s.epoch)) ∙ ap length first.told) middle
+        (subst (λ l. AreByPlace old.stands.clock.epoch mid.stands.clock.epoch (beside_at_save (beside_of old) said) seen l
+        (sequence_of old.save.newest) (sequence_of mid.save.newest)) first_stored first.by_place) next.by_place
         (ap sequence_of first.keeps.newest ∙ sequence_after old.save.newest first.stored)
         (omega (arith, ap sequence_of next.keeps.newest, sequence_after mid.save.newest next.stored)));
     gleaned = gleans_both sound decls_same gleaned left next.gleaned next.leaves next.needs;
@@ -385,7 +392,10 @@ module _ {D : Type 0} {tells : D → Option (List ℕ)} {clock : D → ℕ} {ima
         ∙ ap (λ (s : Standing). record s {
           clock = record s.clock { epoch = new.stands.clock.epoch };
           pages = new.stands.pages;
+          drops = new.stands.drops;
         }) first.stands;
+    dropped = dropped_then old.stands.slots mid.stands.slots said told old.stands.drops mid.stands.drops new.stands.drops
+        slots_same first.dropped next.dropped;
     logs = next.logs ∙ first.logs;
     is_down = next.is_down ∙ first.is_down;
     count = length-append said told ∙ ap (λ n. n + length told) first.count ∙ ap (λ n. length lines + n) next.count

@@ -2,6 +2,7 @@ pub mod Alone
 pub mod Beginning
 pub mod Beside
 pub mod Devices
+pub mod Dropped
 pub mod EndKinds
 pub mod Ended
 pub mod EndTold

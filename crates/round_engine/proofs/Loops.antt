@@ -1,17 +1,14 @@
 -- Loops over lines and over the ends of logs.
 use Rattle.std.proofs.Common.{◌≡◌, ◌≢◌, ◌∙◌, ◌≤◌, ◌+◌, ◌++◌, ◌∷◌, sym, ap, refl, ℕ, zero, suc, List, [], length}
-use Rattle.std.proofs.Common.{subst, take, drop, Option, Some, None, arith, length-append}
+use Rattle.std.proofs.Common.{take, drop, Option, Some, None, arith, length-append}
 use Rattle.std.specs.Prelude.{slice_get}
-use Rattle.std.specs.List.{AllByRecursion, filter_map}
+use Rattle.std.specs.List.{filter_map}
 use Rattle.std.specs.Option.{option_map}
 use Rattle.std.proofs.lemmas.Bool.{ne_eqb}
 use Rattle.std.proofs.lemmas.List.{append-nil, take-append-drop}
 use Rattle.std.proofs.lemmas.List.Elements.{filter_map-append}
-use Rattle.lists.specs.Each.{all_at}
-use Rattle.serial_model.specs.declared.decl.Decl.{Decl}
-use Rattle.script_grammar.specs.Script.{IsAsked, Line, Worker, Keeper, keeper_line_of, worker_of}
+use Rattle.script_grammar.specs.Script.{Line, Worker, Keeper, keeper_line_of, worker_of}
 use Rattle.script_grammar.specs.declared.lines.KeeperLine.{KeeperLine}
-use Rattle.tx_script.specs.Run.{CanRunLine}
 use Rattle.round_engine.proofs.Fronts.{ops_of, take_line, ops_of-append}
 
 -- ---- lines
@@ -80,19 +77,6 @@ asked_one (Keeper line) asked is = let same : line ≡ asked = cc in ap (λ l. l
 pub asked_none : (line : Line) → keeper_line_of line ≡ None → filter_map keeper_line_of (line ∷ []) ≡ []
 asked_none (Worker other ops) is = refl
 asked_none (Keeper line) is = absurd cc
-
-asked_of : (decls : List Decl) (line : Line) (asked : KeeperLine) → keeper_line_of line ≡ Some asked → CanRunLine decls line
-    → IsAsked asked
-asked_of decls (Worker other ops) asked is can = absurd cc
-asked_of decls (Keeper line) asked is can = let same : line ≡ asked = cc in subst (λ l. IsAsked l) same can
-
--- a line of the maintenance thread asks for what can be asked for
-pub asked_there : (decls : List Decl) (lines : List Line) (i : ℕ) (line : KeeperLine)
-    → option_map keeper_line_of (slice_get lines i) ≡ Some (Some line) → AllByRecursion (CanRunLine decls) lines
-    → IsAsked line
-asked_there decls lines i line is all =
-    let at = keeper_there lines i (Some line) is in
-    asked_of decls at.0 line at.2 (all_at (CanRunLine decls) lines i at.0 all at.1)
 
 pub keeper_at : (lines : List Line) (i : ℕ) (line : KeeperLine) → option_map keeper_line_of (slice_get lines i) ≡ Some (Some line)
     → filter_map keeper_line_of (take (i + 1) lines) ≡ filter_map keeper_line_of (take i lines) ++ line ∷ []

@@ -89,6 +89,9 @@ module _ {D : Type 0} {tells : D → Option (List ℕ)} {clock : D → ℕ} {ima
           slots = omega (arith, may.slots, may.begins.slots);
           few = may.begins.few;
           claimed = may.begins.claimed;
+          rests = may.begins.rests;
+          free = may.begins.free;
+          declared = may.begins.declared;
         };
         tie_room = tie_room;
         none = none;

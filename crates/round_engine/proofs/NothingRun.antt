@@ -92,6 +92,7 @@ module _ {D : Type 0} {before lent : Vault D} (room : RoomAlone before lent) whe
       history = all.history;
       alone = all.alone;
       later = all.later;
+      drops = all.drops;
       room = room_then room all.room;
       beside = all.beside;
       seen = all.seen;

@@ -1,5 +1,5 @@
 -- A line of the maintenance thread that stores nothing and makes no snapshot.
-use Rattle.std.proofs.Common.{◌+◌, ◌≡◌, ◌∙◌, ◌≤◌, ◌-◌, ◌∷◌, sym, ap, subst, refl, ℕ, List, [], length}
+use Rattle.std.proofs.Common.{◌+◌, ◌++◌, ◌≡◌, ◌∙◌, ◌≤◌, ◌-◌, ◌∷◌, sym, ap, subst, refl, ℕ, List, [], length, map}
 use Rattle.std.proofs.Common.{Bool, true, false, Option, None, arith}
 use Rattle.std.specs.Prelude.{◌||◌, flat_map, fold, is_some, min, option_to_list, slice_get}
 use Rattle.std.specs.List.{list_any}
@@ -24,11 +24,13 @@ use Rattle.snapshot_store.specs.Store.{HoldsPages, StoreState}
 use Rattle.worker_logs.specs.Saves.{saved_epoch}
 use Rattle.worker_logs.specs.declared.savepoints.Beside.{Beside}
 use Rattle.log_writer.specs.declared.saved.Saved.{Saved}
+use Rattle.engine_pages.specs.declared.view.Dropped.{Dropped as Counts}
+use Rattle.round_engine.specs.Drops.{counts_of, drops_if}
 use Rattle.round_engine.specs.Ends.{wants_memory}
 use Rattle.round_engine.specs.Gleans.{GleansOver, LeaveGleans, RoundGleans}
 use Rattle.round_engine.specs.Keeping.{AreByPlace, at_epoch, CanKeep, epoch_by, epochs_in, GoOn, is_refusal, keeper_on, last_seen}
-use Rattle.round_engine.specs.Keeping.{NeedCounted, RunsKeeper}
-use Rattle.round_engine.specs.Saves.{AreSavedIn, beside_after, saves_told}
+use Rattle.round_engine.specs.Keeping.{NeedCounted, RunsKeeper, with_drops}
+use Rattle.round_engine.specs.Saves.{AreSavedIn, beside_after, beside_at_save, saves_told}
 use Rattle.round_engine.specs.Sides.{closed_in, growing_in}
 use Rattle.round_engine.specs.Standing.{beside_of, RuntimeState}
 use Rattle.round_engine.proofs.Beside.{keeps_none}
@@ -155,7 +157,7 @@ saved_on a b from (marks ∷ seen) le going =
     let rest = saved_on b b marks seen (omega arith) going.1 in
     omega (arith, one, rest)
 
--- ---- a line at which at most the epoch is advanced
+-- ---- a line at which at most the epoch is advanced, or a drop is counted
 
 -- what such an answer is
 pub record IsPlain (answer : Answer) : Type 1 where
@@ -167,16 +169,18 @@ pub record IsPlain (answer : Answer) : Type 1 where
 
 module _ {D : Type 0} {tells : D → Option (List ℕ)} {clock : D → ℕ} {image_at : D → ℕ → List ℕ → Type 0} {faults : D → ℕ}
     (r : RuntimeState) (vault : Vault D) (ready : CanKeep tells clock image_at r vault) where
-  pub plain_line : (line : KeeperLine) (answer : Answer) (epoch : ℕ) → IsPlain answer → r.stands.clock.epoch ≤ epoch
-      → AdvancesTo r.stands.clock.epoch (answer ∷ []) epoch
+  pub plain_line : (line : KeeperLine) (answer : Answer) (epoch : ℕ) (drops : List Counts) → IsPlain answer
+      → r.stands.clock.epoch ≤ epoch → AdvancesTo r.stands.clock.epoch (answer ∷ []) epoch
+      → drops ≡ r.stands.drops ++ map counts_of (drops_if r.stands.slots (answer ∷ []))
       → keeper_after (keeper_on r false) answer ≡ keeper_on (at_epoch r epoch) false
-      → ((ran : Ran) → AnswerCause ran (keeper_on r false) line answer)
+      → ((ran : Ran) → ran.beside.slots ≡ r.stands.slots → AnswerCause ran (keeper_on r false) line answer)
       → (seen : List (List Mark)) → ((ran : Ran) (index : ℕ)
       → SavesSee ran index (keeper_on r false) (line ∷ []) (answer ∷ []) (index + length seen))
-      → AreByPlace r.side seen [] (sequence_of r.save.newest) (sequence_of r.save.newest)
-      → RunsKeeper tells clock image_at faults seen (line ∷ []) (answer ∷ []) None r (at_epoch r epoch) vault vault
-  plain_line line answer epoch is le advances after cause seen saw placed =
-      let same : Ungleaned r (at_epoch r epoch) vault vault = record {
+      → AreByPlace r.stands.clock.epoch epoch (beside_at_save (beside_of r) (answer ∷ [])) seen []
+      (sequence_of r.save.newest) (sequence_of r.save.newest)
+      → RunsKeeper tells clock image_at faults seen (line ∷ []) (answer ∷ []) None r (with_drops (at_epoch r epoch) drops) vault vault
+  plain_line line answer epoch drops is le advances added after cause seen saw placed =
+      let same : Ungleaned r (with_drops (at_epoch r epoch) drops) vault vault = record {
         store = refl;
         decls = refl;
         pages = record { slots = refl; pages = refl; resident = refl };
@@ -228,6 +232,7 @@ module _ {D : Type 0} {tells : D → Option (List ℕ)} {clock : D → ℕ} {ima
         );
         later = le;
         stands = refl;
+        dropped = added;
         logs = refl;
         is_down = refl;
         count = refl;
@@ -238,7 +243,7 @@ module _ {D : Type 0} {tells : D → Option (List ℕ)} {clock : D → ℕ} {ima
         refused = sym (no_more (is_refusal answer) is.goes_on);
         refusal_is = sym (ap (λ b. where_memory b) (no_more (wants_memory answer) is.remembers));
         told = sym is.unsaved;
-        caused = λ ran rests. (cause ran, tt);
+        caused = λ ran rests. (cause ran rests.slots, tt);
         saw = λ ran index are. saw ran index;
         above = λ low. omega (arith, low, le);
         tie_room = omega arith;

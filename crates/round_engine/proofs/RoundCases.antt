@@ -30,7 +30,7 @@ use Rattle.round_engine.specs.Phases.{RunsAll, ended_as}
 use Rattle.round_engine.specs.RanRound.{Rounds, SwapsFiles}
 use Rattle.round_engine.specs.Refusals.{first_failed, first_told, leaves_out}
 use Rattle.round_engine.specs.Refusals.{lines_refused}
-use Rattle.round_engine.specs.Saves.{AreSaved, beside_at_end, GoesBy, saves_told}
+use Rattle.round_engine.specs.Saves.{AreSaved, beside_at_end, saves_told}
 use Rattle.round_engine.specs.Shares.{Share}
 use Rattle.round_engine.specs.Sides.{closed_in, growing_in, other_side}
 use Rattle.round_engine.specs.Standing.{files_of, AreUp, beside_of, HasSnapshot, IsMarkBefore, IsReady, LogsStand, RuntimeState}
@@ -53,8 +53,8 @@ use Rattle.round_engine.proofs.RoundKept.{first_told_none, nothing_kept, store_t
 use Rattle.round_engine.proofs.RoundKept.{gleans_told, growing_kept, joined_up, keeper_told, keeps_lines, kept_above, kept_closed}
 use Rattle.round_engine.proofs.RoundKept.{kept_closed_at, kept_counted, kept_durable, kept_room, kept_side}
 use Rattle.round_engine.proofs.RoundKept.{kept_snapshot, kept_sound, lines_limit, mid_first}
-use Rattle.round_engine.proofs.RoundKept.{mark_at, mid_beside, mid_side, quiet_kept, quiet_snaps_kept, reads_kept}
-use Rattle.round_engine.proofs.RoundKept.{refused_as, rise_lines}
+use Rattle.round_engine.proofs.RoundKept.{mark_at, mid_beside, quiet_kept, quiet_snaps_kept, reads_kept}
+use Rattle.round_engine.proofs.RoundKept.{placed_lines, refused_as, rise_lines}
 use Rattle.round_engine.proofs.RoundKept.{rose_kept}
 use Rattle.round_engine.proofs.Turned.{keeps_onto}
 use Rattle.round_engine.proofs.Whole.{AreShown, SeenIn, below_8}
@@ -257,9 +257,8 @@ module _ {D : Type 0} {tells : D → Option (List ℕ)} {clock : D → ℕ} {ima
     now_many = ap length growing_is ∙ between_many stands ready some start_many idle all;
     keeps = keeps_out;
     saves = saves_out;
-    placed = λ k saved places at told.
-        let one = all.keeper.by_place.by k saved at in
-        (one.0, one.1, subst (λ s. GoesBy s one.0 saved) (mid_side stands ready some start_many idle all) one.2);
+    placed = λ k saved places at told. placed_lines stands ready some start_many idle all (epoch_joined ran)
+        (omega (arith, joined_up (comes_to_advance ran) all.kept.stands.clock.epoch)) k saved at;
     last = λ w lines log was is at there bank bank_now.
         subst (λ x. LastStep tells clock image_at faults old.stands.clock.epoch all.worked.clock.epoch lines x was is)
         (down_same w lines log at there)
@@ -284,6 +283,7 @@ module _ {D : Type 0} {tells : D → Option (List ℕ)} {clock : D → ℕ} {ima
     conflicts = ap (λ (r : RuntimeState). r.stands.conflicts) new_is;
     slots = ap (λ (r : RuntimeState). r.stands.slots) new_is;
     mine = ap (λ (r : RuntimeState). r.stands.mine) new_is;
+    drops = ap (λ (r : RuntimeState). r.stands.drops) new_is;
     decls = ap (λ (r : RuntimeState). r.stands.decls) new_is;
     state = ap (λ (r : RuntimeState). r.stands.state) new_is;
     durable = durable_is ∙ sym (none_made (leaves_join_out ran) _ _ _ leaves_so);

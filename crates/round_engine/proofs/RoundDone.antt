@@ -4,7 +4,7 @@ use Rattle.std.proofs.Common.{suc, List, [], length, map, Bool, true, false, Opt
 use Rattle.std.specs.Prelude.{get_or, is_some, option_to_list, slice_get, Ok}
 use Rattle.std.specs.Option.{option_map}
 use Rattle.std.specs.List.{AllByRecursion, Contains}
-use Rattle.std.proofs.lemmas.List.{length-map}
+use Rattle.std.proofs.lemmas.List.{append-nil, length-map}
 use Rattle.std.proofs.lemmas.Option.{same_Some}
 use Rattle.lists.specs.Each.{all_at}
 use Rattle.lists.specs.Elements.{in_none}
@@ -14,17 +14,17 @@ use Rattle.outside.specs.declared.device.Device.TheVariants as devices
 use Rattle.log_writer.specs.declared.vault.Vault.{Vault}
 use Rattle.serial_model.specs.declared.number.Commit.{Commit}
 use Rattle.serial_model.specs.declared.op.Op.{Op}
-use Rattle.script_grammar.specs.Script.{Round, keeper_lines, lines_of_worker}
+use Rattle.script_grammar.specs.Script.{Round, keeper_lines, lines_of_worker, worker_lines}
 use Rattle.wire_form.specs.declared.clock.Mark.{Mark}
 use Rattle.log_writer.specs.Points.{sequence_of}
 use Rattle.log_writer.specs.declared.saved.Saved.{Saved}
 use Rattle.joint_crashes.specs.Images.{epoch_of}
 use Rattle.joint_crashes.specs.VaultReads.{RoseIn}
-use Rattle.tx_script.specs.Run.{AdvancesTo, LogFailed, LogFiles, LogFull, LogRefusal, Ran}
+use Rattle.tx_script.specs.Run.{AdvancesTo, Dropped, LogFailed, LogFiles, LogFull, LogRefusal, Ran}
 use Rattle.tx_script.specs.Causes.{AllCaused, AnswersCaused, AreMarksOf, KeeperAt, LogsCaused, keeper_at_end, keeper_before}
 use Rattle.tx_script.specs.Causes.{last_sequence, log_limit as file_limit, log_of, longest_line, some_counted}
 use Rattle.tx_script.specs.CausedBeside.{CausedBeside, SavesSee}
-use Rattle.tx_script.specs.Conflicts.{WorkersMet}
+use Rattle.tx_script.specs.Conflicts.{WorkersMet, met_for}
 use Rattle.tx_script.specs.Draws.{commit_count}
 use Rattle.tx_script.specs.Readied.{AllReadied}
 use Rattle.tx_script.specs.Seen.{AllInOrder}
@@ -39,6 +39,8 @@ use Rattle.shared_rounds.specs.SharedState.{are_arrays}
 use Rattle.shared_rounds.specs.Shares.{BeginsAt, shown_epochs}
 use Rattle.round_engine.specs.Changes.{AreLogged}
 use Rattle.round_engine.specs.Crashes.{CarriesCrashes}
+use Rattle.engine_pages.specs.declared.view.Dropped.{Dropped as Counts}
+use Rattle.round_engine.specs.Drops.{counts_of, drops_if}
 use Rattle.round_engine.specs.Ends.{comes_to_advance, comes_to_save, durable_of, end_of, epoch_joined, swaps, where_true}
 use Rattle.round_engine.specs.Gleans.{RoundGleans}
 use Rattle.round_engine.specs.Histories.{HasGathered}
@@ -46,7 +48,7 @@ use Rattle.round_engine.specs.Keeping.{IsSavedBySeen, KeepsSaves, epochs_in, kee
 use Rattle.round_engine.specs.Phases.{RunsAll}
 use Rattle.round_engine.specs.Unbegun.{RoomAlone}
 use Rattle.round_engine.specs.RanRound.{AreRoundMarks, LeavesVault, Rounds, SwapsFiles}
-use Rattle.round_engine.specs.Saves.{AreSaved, AreShownAt, GoesBy, saves_told}
+use Rattle.round_engine.specs.Saves.{AreSaved, AreShownAt, beside_at_save, GoesBy, saves_told}
 use Rattle.round_engine.specs.Shares.{IsShare, Share, logged_in}
 use Rattle.round_engine.specs.Sides.{closed_in, growing_in, is_odd}
 use Rattle.round_engine.specs.Standing.{beside_of, files_of, IsMarkBefore, IsReady, RuntimeState, Standing, StandsOn}
@@ -58,6 +60,7 @@ use Rattle.round_engine.proofs.Alone.{all_alone}
 use Rattle.round_engine.proofs.Beside.{SameSaves}
 use Rattle.round_engine.proofs.CrashesLeft.{with_crashes}
 use Rattle.round_engine.proofs.Devices.{are_down, at_first, bank_in, banks_in, down_at, IsBeside, others_in, save_in}
+use Rattle.round_engine.proofs.Dropped.{told_counted, untold_counted}
 use Rattle.round_engine.proofs.Ended.{devices_down}
 use Rattle.round_engine.proofs.JoinEnds.{before_later}
 use Rattle.round_engine.proofs.LinesLeft.{LastStep, logs_total, logs_up, shown_get, shown_in, shown_some, shown_told}
@@ -158,6 +161,7 @@ ran_of tries round old start kept logs shares failed others gleans damaged place
     tries = tries;
     refused = map (λ (p : Share). p.tries_refused) shares;
     gleans = gleans;
+    drops = drops_if old.stands.slots report.keeper;
     devices = devices_down old.side (are_down logs) (is_some failed) others;
     damaged = damaged;
   };
@@ -238,7 +242,8 @@ module _ {D : Type 0} (tells : D → Option (List ℕ)) (clock : D → ℕ) (ima
         (beside_of old) report.keeper (stored ++ option_to_list failed)
     pub placed : (k : ℕ) (saved : Saved) (places : List ℕ) → slice_get (stored ++ option_to_list failed) k ≡ Some saved
         → slice_get all.places k ≡ Some places → (seen : List Mark) × (slice_get all.seen k ≡ Some seen)
-        × GoesBy old.side seen saved
+        × GoesBy old.stands.clock.epoch (epoch_joined (ran_with logs failed others))
+        (beside_at_save (beside_of old) report.keeper k) seen saved
     pub last : (w : ℕ) (lines log : LogState) (was is : D) → slice_get all.mid.logs w ≡ Some lines
         → slice_get logs w ≡ Some log → slice_get (growing_in old.side all.between) w ≡ Some was
         → slice_get (growing_in old.side now) w ≡ Some is
@@ -259,6 +264,7 @@ module _ {D : Type 0} (tells : D → Option (List ℕ)) (clock : D → ℕ) (ima
     pub conflicts : new.stands.conflicts ≡ all.kept.stands.conflicts
     pub slots : new.stands.slots ≡ all.kept.stands.slots
     pub mine : new.stands.mine ≡ all.kept.stands.mine
+    pub drops : new.stands.drops ≡ all.kept.stands.drops
     pub decls : new.stands.decls ≡ all.kept.stands.decls
     pub state : new.stands.state ≡ all.kept.stands.state
     pub durable : report.durable ≡ durable_of (ran_with logs failed others)
@@ -336,11 +342,26 @@ module _ {D : Type 0} {tells : D → Option (List ℕ)} {clock : D → ℕ} {ima
   kept_stands : all.kept.stands ≡ record all.worked {
     clock = record all.worked.clock { epoch = all.kept.stands.clock.epoch };
     pages = all.kept.stands.pages;
+    drops = all.kept.stands.drops;
   }
   kept_stands = all.keeper.stands ∙ ap (λ (r : RuntimeState). record r.stands {
     clock = record r.stands.clock { epoch = all.kept.stands.clock.epoch };
     pages = all.kept.stands.pages;
+    drops = all.kept.stands.drops;
   }) all.alone
+
+  -- its counts of drops got what is told
+  kept_drops : all.kept.stands.drops ≡ old.stands.drops ++ map counts_of (drops_if old.stands.slots report.keeper)
+  kept_drops = all.keeper.dropped
+      ∙ ap (λ (d : List Counts). d ++ map counts_of (drops_if all.mid.stands.slots report.keeper))
+      (ap (λ (r : RuntimeState). r.stands.drops) all.alone)
+      ∙ ap (λ (n : ℕ). old.stands.drops ++ map counts_of (drops_if n report.keeper))
+      (ap (λ (r : RuntimeState). r.stands.slots) all.alone ∙ same_slots all.lines.over.runs)
+
+  -- so pages were dropped beside the workers' lines only where some drop is told
+  some_dropped : (all.worked.drops ≡ old.stands.drops → ⊥) → drops_if old.stands.slots report.keeper ≡ [] → ⊥
+  some_dropped more none = more (all.drops ∙ kept_drops
+      ∙ ap (λ (l : List Dropped). old.stands.drops ++ map counts_of l) none ∙ append-nil old.stands.drops)
 
   -- where the maintenance thread began
   pub keeper_start : keeper_on all.mid false ≡ keeper_of old.stands.clock.epoch old
@@ -404,6 +425,7 @@ module _ {D : Type 0} {tells : D → Option (List ℕ)} {clock : D → ℕ} {ima
         odd = ap (λ (r : RuntimeState). is_odd r.side) (sym all.alone);
         closed_at = ap (λ (r : RuntimeState). r.closed_at) (sym all.alone);
         room = ap (λ (r : RuntimeState). r.room) (sym all.alone);
+        slots = sym (same_slots all.lines.over.runs) ∙ ap (λ (r : RuntimeState). r.stands.slots) (sym all.alone);
         gleans_are = λ what has. has;
         damage = λ damage is. is;
         store = λ is. subst (λ b. Contains (devices_down old.side (are_down logs) b others) devices.Save) (sym (fails is))
@@ -513,6 +535,10 @@ module _ {D : Type 0} {tells : D → Option (List ℕ)} {clock : D → ℕ} {ima
           (shares_readied old.stands.decls old.stands.clock.epoch old.stands.clock.draw all.worked.clock.draw tries
           shares
           all.lines.over.runs.each);
+      drops = record {
+        told = λ some. told_counted old.stands.slots report.keeper some;
+        none = λ none. untold_counted old.stands.slots report.keeper none;
+      };
       order = subst AllInOrder (sym marks_are) in_order;
       places = all.back;
       saves = subst (λ k. SavesSee ran 0 k (keeper_lines round) report.keeper (length all.places)) keeper_start
@@ -600,9 +626,12 @@ module _ {D : Type 0} {tells : D → Option (List ℕ)} {clock : D → ℕ} {ima
                 let told = ap commit_count all.lines.told in
                 omega (arith, after, told, all.lines.over.runs.draw);
             met = record {
-              workers = subst (λ l. WorkersMet l 0 l (map (λ (share : Share). share.tries_refused) shares)) all.lines.lines
-                  all.lines.over.runs.met;
+              workers = met_for (worker_lines round) (all.worked.drops ≡ old.stands.drops → ⊥) (ran.beside.drops ≡ [] → ⊥) 0
+                  (worker_lines round) (map (λ (share : Share). share.tries_refused) shares) some_dropped
+                  (subst (λ l. WorkersMet l (all.worked.drops ≡ old.stands.drops → ⊥) 0 l
+                  (map (λ (share : Share). share.tries_refused) shares)) all.lines.lines all.lines.over.runs.met);
             };
+            dropped = ends.drops ∙ kept_drops;
             plain = λ tree.
                 let is = all.once tree in
                 record {

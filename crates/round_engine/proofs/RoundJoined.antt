@@ -40,8 +40,8 @@ use Rattle.round_engine.specs.Logs.{IsRefusedBy}
 use Rattle.round_engine.specs.Phases.{JoinsAndSwaps, RunsAll, ended_as, fails_device, made, refused_by}
 use Rattle.round_engine.specs.RanRound.{Rounds, SwapsFiles}
 use Rattle.round_engine.specs.Refusals.{end_told, leaves_out}
-use Rattle.round_engine.specs.Saves.{AreSaved, beside_at_end, GoesBy, saves_told}
-use Rattle.round_engine.proofs.Placed.{at_either}
+use Rattle.round_engine.specs.Saves.{AreSaved, beside_at_end, beside_at_save, GoesBy, saves_told}
+use Rattle.round_engine.proofs.Placed.{at_early, at_either}
 use Rattle.round_engine.proofs.RoundMarks.{stood_long}
 use Rattle.round_engine.specs.Sides.{closed_in, closed_numbers, growing_in, other_side}
 use Rattle.round_engine.specs.Standing.{beside_of, IsReady, RuntimeState, Standing, StandsOn}
@@ -69,8 +69,8 @@ use Rattle.round_engine.proofs.RoundKept.{NothingTold, first_told_none, after_wh
 use Rattle.round_engine.proofs.RoundKept.{gleans_told, growing_kept, joined_up, keeps_lines, kept_above, kept_closed}
 use Rattle.round_engine.proofs.RoundKept.{kept_closed_at, kept_counted, kept_durable, kept_first, kept_room, kept_side, kept_snapshot, kept_sound, lines_limit, mid_save}
 use Rattle.round_engine.proofs.GleanDevices.{nothing_in}
-use Rattle.round_engine.proofs.RoundKept.{mark_at, mid_beside, mid_side, none_told, over_kept, quiet_kept}
-use Rattle.round_engine.proofs.RoundKept.{quiet_snaps_kept, reads_kept, refused_as}
+use Rattle.round_engine.proofs.RoundKept.{mark_at, mid_beside, none_told, over_kept, quiet_kept}
+use Rattle.round_engine.proofs.RoundKept.{placed_lines, quiet_snaps_kept, reads_kept, refused_as}
 use Rattle.round_engine.proofs.RoundKept.{go_on, rise_on, saves_up}
 use Rattle.round_engine.proofs.RoundMarks.{firsts}
 use Rattle.round_engine.proofs.Turned.{TurnsBehind, keeps_onto, turned_files, turned_if, turned_parts, turns_behind}
@@ -380,19 +380,21 @@ module _ {D : Type 0} {tells : D → Option (List ℕ)} {clock : D → ℕ} {ima
   placed_made : (k : ℕ) (saved : Saved) (places : List ℕ)
       → slice_get ((all.keeper.stored ++ js.joins.stored) ++ option_to_list js.joins.failed) k ≡ Some saved
       → slice_get all.places k ≡ Some places
-      → (seen : List Mark) × (slice_get all.seen k ≡ Some seen) × GoesBy old.side seen saved
+      → (seen : List Mark) × (slice_get all.seen k ≡ Some seen)
+      × GoesBy old.stands.clock.epoch (epoch_joined ran) (beside_at_save (beside_of old) report.keeper k) seen saved
   unfolding facts
   placed_made k saved places at told =
       let whole : slice_get (all.keeper.stored ++ (js.joins.stored ++ option_to_list js.joins.failed)) k ≡ Some saved =
       ap (λ l. slice_get l k) (sym (append_assoc all.keeper.stored js.joins.stored
       (option_to_list js.joins.failed))) ∙ at in
-      let by = subst (λ l. AreByPlace all.mid.side all.seen l (sequence_of all.mid.save.newest)
+      let by = subst (λ l. AreByPlace all.mid.stands.clock.epoch all.kept.stands.clock.epoch
+      (beside_at_save (beside_of all.mid) report.keeper) all.seen l (sequence_of all.mid.save.newest)
       (sequence_of all.kept.save.newest))
       (ap (λ f. all.keeper.stored ++ option_to_list f) keeper_up ∙ append-nil all.keeper.stored) all.keeper.by_place in
       elim (at_either all.keeper.stored (js.joins.stored ++ option_to_list js.joins.failed) k saved whole) [
-        | inl early ↦
-            let one = by.by k saved early in
-            (one.0, one.1, subst (λ s. GoesBy s one.0 saved) (mid_side stands ready some start_many idle all) one.2)
+        | inl early ↦ placed_lines stands ready some start_many idle all (epoch_joined ran)
+            (omega (arith, joined_up (comes_to_advance ran) all.kept.stands.clock.epoch)) k saved
+            (at_early all.keeper.stored (option_to_list all.keeper.failed) k saved early)
         | inr late ↦ absurd (omega (
           arith,
           at_below all.places k places told,
@@ -568,6 +570,8 @@ module _ {D : Type 0} {tells : D → Option (List ℕ)} {clock : D → ℕ} {ima
     slots = ap (λ (s : Standing). s.slots) (new_stands
         ∙ ap (λ (s : Standing). record s { ended = is_some report.end }) js.joins.stands);
     mine = ap (λ (s : Standing). s.mine) (new_stands
+        ∙ ap (λ (s : Standing). record s { ended = is_some report.end }) js.joins.stands);
+    drops = ap (λ (s : Standing). s.drops) (new_stands
         ∙ ap (λ (s : Standing). record s { ended = is_some report.end }) js.joins.stands);
     decls = ap (λ (s : Standing). s.decls) (new_stands ∙ ap (λ (s : Standing). record s { ended = is_some report.end }) js.joins.stands);
     state = ap (λ (s : Standing). s.state) (new_stands ∙ ap (λ (s : Standing). record s { ended = is_some report.end }) js.joins.stands);

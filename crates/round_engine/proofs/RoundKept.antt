@@ -41,7 +41,7 @@ use Rattle.round_engine.specs.Keeping.{last_epoch_of, refusal_told}
 use Rattle.round_engine.specs.Phases.{RunsAll, as_begun}
 use Rattle.round_engine.specs.Refusals.{damage_in, device_in, first_failed, first_full, first_told}
 use Rattle.round_engine.specs.Refusals.{memory_in}
-use Rattle.round_engine.specs.Saves.{AreSavedIn, beside_at_end}
+use Rattle.round_engine.specs.Saves.{AreSavedIn, beside_at_end, beside_at_save, GoesBy}
 use Rattle.round_engine.specs.Shares.{Share}
 use Rattle.round_engine.specs.Sides.{closed_in, growing_in}
 use Rattle.round_engine.specs.Standing.{AreClosed, beside_of, HasSnapshot, IsMarkBefore, IsReady, LogsStand, RuntimeState}
@@ -67,6 +67,7 @@ use Rattle.round_engine.proofs.RoundDone.{in_order, keeper_start, map_same, map_
 use Rattle.round_engine.proofs.RoundDone.{mid_decls}
 use Rattle.round_engine.proofs.RoundDone.{mid_epoch, ran_with, same_saves, seen_shown, start_up, worked_up}
 use Rattle.round_engine.proofs.RoundMarks.{IsAtLeast, begins_low, begins_some, first_at, first_of, firsts, stood_on}
+use Rattle.round_engine.proofs.Placed.{goes_wider}
 use Rattle.round_engine.proofs.Saved.{IsOver, lines_weaker, over_begin, over_end}
 use Rattle.round_engine.proofs.SharesRun.{same_decls}
 use Rattle.round_engine.proofs.Whole.{AreShown, below_8}
@@ -561,6 +562,19 @@ module _ {D : Type 0} {tells : D → Option (List ℕ)} {clock : D → ℕ} {ima
   -- what was kept by the lines, since the begin
   pub keeps_lines : KeepsSaves tells clock image_at faults all.keeper.stored all.keeper.failed old all.kept before all.after
   keeps_lines = keeps_from (same_saves stands ready some start_many idle all) mid_save mid_store all.keeper.keeps
+
+  -- what they saved went by what they saw, with what counted beside then
+  pub placed_lines : (high : ℕ) → all.kept.stands.clock.epoch ≤ high → (k : ℕ) (saved : Saved)
+      → slice_get (all.keeper.stored ++ option_to_list all.keeper.failed) k ≡ Some saved
+      → (seen : List Mark) × (slice_get all.seen k ≡ Some seen)
+      × GoesBy old.stands.clock.epoch high (beside_at_save (beside_of old) report.keeper k) seen saved
+  placed_lines high within k saved at =
+      let one = all.keeper.by_place.by k saved at in (
+        one.0,
+        one.1,
+        goes_wider (subst (λ b. GoesBy all.mid.stands.clock.epoch all.kept.stands.clock.epoch
+            (beside_at_save b report.keeper k) one.0 saved) mid_beside one.2) (omega (arith, mid_first)) within,
+      )
 
   -- how the maintenance thread's lines saved
   pub by_lines : (Seen : ℕ → List Mark → Type 0)

@@ -136,6 +136,7 @@ module _ {D : Type 0} {tells : D → Option (List ℕ)} {clock : D → ℕ} {ima
       tries = tries;
       refused = map (λ (p : Share). p.tries_refused) part.stops.shares;
       gleans = [];
+      drops = [];
       devices = devices_down old.side (are_down mid.logs) false [];
       damaged = None;
     };
@@ -474,6 +475,7 @@ module _ {D : Type 0} {tells : D → Option (List ℕ)} {clock : D → ℕ} {ima
                   shares runs.each;
               places = tt;
               saves = refl;
+              drops = record { told = λ some. refl; none = λ none. refl };
             };
             conflicts = runs.conflicts;
             lines_are = λ w below. shares_lines old.stands.decls old.stands.clock.epoch old.stands.clock.draw

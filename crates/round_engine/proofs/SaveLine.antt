@@ -24,7 +24,8 @@ use Rattle.round_engine.specs.Keeping.{save_refusal, SeenAmong, StepsSave}
 use Rattle.round_engine.specs.Sides.{closed_in, growing_in}
 use Rattle.round_engine.specs.Standing.{beside_of, RuntimeState}
 use Rattle.round_engine.proofs.KeepingSaves.{keeps_saves, with_save}
-use Rattle.round_engine.specs.Saves.{GoesBy}
+use Rattle.round_engine.specs.Saves.{beside_at_save, GoesBy}
+use Rattle.round_engine.proofs.Dropped.{nothing_dropped}
 use Rattle.round_engine.proofs.Placed.{place_limit, place_one}
 use Rattle.round_engine.proofs.PlainLine.{gleans_none, IsPlain, leaves_none, needs_none, plain_line, TellsNone, Ungleaned}
 
@@ -90,12 +91,12 @@ module _ {D : Type 0} {tells : D → Option (List ℕ)} {clock : D → ℕ} {ima
     }
 
     -- it was saved by these marks
-    goes_with : (result : Result ℕ SaveFault) (saves : Saves result) → GoesBy r.side marks saves.saved
+    goes_with : (result : Result ℕ SaveFault) (saves : Saves result) → GoesBy r.stands.clock.epoch r.stands.clock.epoch
+        (beside_of r) marks saves.saved
     goes_with result saves = record {
       clock = r.stands.clock.epoch;
-      beside = beside_of r;
-      growing = refl;
-      workers = ready.closed.workers;
+      from = omega arith;
+      to = omega arith;
       saves = saves.by_marks;
     }
 
@@ -126,7 +127,8 @@ module _ {D : Type 0} {tells : D → Option (List ℕ)} {clock : D → ℕ} {ima
           keeps = keeps_saves r (Ok epoch) saves ready.up ready.stored;
           by_lines = (saves.saved, [], refl, by_marks (Ok epoch) saves, refl);
           by_failed = tt;
-          by_place = place_one r.side marks saves.saved (sequence_of r.save.newest) (sequence_of save.newest)
+          by_place = place_one r.stands.clock.epoch r.stands.clock.epoch
+              (beside_at_save (beside_of r) (answers.Save epoch ∷ [])) marks saves.saved (sequence_of r.save.newest) (sequence_of save.newest)
               (below_last (Ok epoch) saves (λ sequence is. absurd (let no = is in cc)))
               (goes_with (Ok epoch) saves);
           gleaned = gleans_none tells clock image_at faults (answers.Save epoch) (tells_save epoch) (ungleaned (Ok epoch) saves);
@@ -138,6 +140,7 @@ module _ {D : Type 0} {tells : D → Option (List ℕ)} {clock : D → ℕ} {ima
           );
           later = omega arith;
           stands = refl;
+          dropped = nothing_dropped r.stands.slots (answers.Save epoch ∷ []) r.stands.drops r.stands.drops refl refl;
           logs = refl;
           is_down = refl;
           count = refl;
@@ -189,7 +192,8 @@ module _ {D : Type 0} {tells : D → Option (List ℕ)} {clock : D → ℕ} {ima
           keeps = keeps_saves r (Err Device) saves ready.up ready.stored;
           by_lines = refl;
           by_failed = (by_marks (Err Device) saves, tt);
-          by_place = place_one r.side marks saves.saved (sequence_of r.save.newest) (sequence_of save.newest)
+          by_place = place_one r.stands.clock.epoch r.stands.clock.epoch
+              (beside_at_save (beside_of r) (answers.Device ∷ [])) marks saves.saved (sequence_of r.save.newest) (sequence_of save.newest)
               (below_last (Err Device) saves (λ sequence is. absurd (let no = is in cc)))
               (goes_with (Err Device) saves);
           gleaned = gleans_none tells clock image_at faults answers.Device tells_device (ungleaned (Err Device) saves);
@@ -201,6 +205,7 @@ module _ {D : Type 0} {tells : D → Option (List ℕ)} {clock : D → ℕ} {ima
           );
           later = omega arith;
           stands = refl;
+          dropped = nothing_dropped r.stands.slots (answers.Device ∷ []) r.stands.drops r.stands.drops refl refl;
           logs = refl;
           is_down = refl;
           count = refl;
@@ -232,9 +237,11 @@ module _ {D : Type 0} {tells : D → Option (List ℕ)} {clock : D → ℕ} {ima
       (sym (saves.stores.untouched (λ is. cc)).0)
       (subst (λ v. RunsKeeper tells clock image_at faults (marks ∷ []) (asks.Save ∷ []) (answers.Limit ∷ []) None r r vault v)
       (sym (saves.untied (λ is. cc)))
-      (plain_line r vault ready asks.Save answers.Limit r.stands.clock.epoch limit_plain (omega arith) refl refl
-      (λ ran. sym met.1 ∙ met.2) (marks ∷ []) (λ ran index. refl)
-      (place_limit r.side marks (sequence_of r.save.newest) (sym met.1 ∙ met.2))))
+      (plain_line r vault ready asks.Save answers.Limit r.stands.clock.epoch r.stands.drops limit_plain (omega arith) refl
+      (nothing_dropped r.stands.slots (answers.Limit ∷ []) r.stands.drops r.stands.drops refl refl) refl
+      (λ ran same. sym met.1 ∙ met.2) (marks ∷ []) (λ ran index. refl)
+      (place_limit r.stands.clock.epoch r.stands.clock.epoch (beside_at_save (beside_of r) (answers.Limit ∷ [])) marks
+      (sequence_of r.save.newest) (sym met.1 ∙ met.2))))
 
   -- A save is answered.
   pub save_line : (answer : Answer) {new : RuntimeState} {now : Vault D}

@@ -25,7 +25,7 @@ use Rattle.worker_logs.specs.SavesLaws.{closed_length, counts_saved}
 use Rattle.worker_logs.specs.declared.savepoints.Beside.{Beside}
 use Rattle.worker_logs.specs.declared.savepoints.Side.{Side}
 use Rattle.round_engine.specs.Keeping.{IsSavedBySeen}
-use Rattle.round_engine.specs.Saves.{AreSaved, AreSavedIn, AreSeen, beside_after, beside_at_end, IsSavedBy}
+use Rattle.round_engine.specs.Saves.{AreSaved, AreSavedIn, AreSeen, beside_after, beside_at_end, beside_at_save, IsSavedBy}
 use Rattle.round_engine.specs.Saves.{newest_after}
 use Rattle.round_engine.proofs.LogsLeft.{marks_more}
 use Rattle.round_engine.proofs.Places.{or_parts}
@@ -96,6 +96,13 @@ pub over_end : {side : Side} {counted : List ℕ} (said : List Answer) (b : Besi
     → IsOver side counted (beside_at_end b said)
 over_end [] b over = over
 over_end (answer ∷ said) b over = over_end said (beside_after b answer) (over_after answer over)
+
+pub over_save : {side : Side} {counted : List ℕ} (said : List Answer) (b : Beside) (k : ℕ) → IsOver side counted b
+    → IsOver side counted (beside_at_save b said k)
+over_save [] b k over = over
+over_save (answers.Save epoch ∷ said) b zero over = over
+over_save (answers.Save epoch ∷ said) b (suc k) over = over_save said b k over
+over_save (answer ∷ said) b k over = over_save said (beside_after b answer) k (over_after answer over)
 
 -- each save was over such
 pub over_lines : {side : Side} {counted : List ℕ} (By : Beside → Saved → Type 0) (said : List Answer) (b : Beside) (stored : List Saved)

@@ -24,6 +24,7 @@ with_rest r s logs down = record r {
     slots = r.stands.slots;
     pages = r.stands.pages;
     resident = r.stands.resident;
+    drops = r.stands.drops;
   };
   logs = logs;
   down = down;
@@ -218,7 +219,9 @@ module _ {D : Type 0} (tells : D → Option (List ℕ)) (clock : D → ℕ) (ima
           slots = x.slots;
           pages = new.stands.pages;
           resident = x.resident;
+          drops = new.stands.drops;
         }) runs.stands;
+        dropped = runs.dropped;
         logs = refl;
         is_down = refl;
         count = runs.count;
@@ -232,6 +235,7 @@ module _ {D : Type 0} (tells : D → Option (List ℕ)) (clock : D → ℕ) (ima
           odd = rests.odd;
           closed_at = rests.closed_at;
           room = rests.room;
+          slots = rests.slots;
           gleans_are = rests.gleans_are;
           damage = rests.damage;
           store = rests.store;

@@ -1,6 +1,6 @@
 -- What calls on the words and on the vault come to, as lines of the maintenance thread beside running workers.
-use Rattle.std.proofs.Common.{◌≡◌, ◌∙◌, ◌+◌, ◌/◌, ◌^◌, sym, ap, subst, refl, ℕ, List, [], length, Option, Some}
-use Rattle.std.proofs.Common.{None, arith, true}
+use Rattle.std.proofs.Common.{◌≡◌, ◌∙◌, ◌<◌, ◌+◌, ◌/◌, ◌^◌, ◌++◌, ◌∷◌, sym, ap, subst, refl, ℕ, zero, suc, List, []}
+use Rattle.std.proofs.Common.{length, map, None, Option, Some, arith, true}
 use Rattle.std.specs.Prelude.{is_some, slice_get, Result}
 use Rattle.lists.specs.declared.memory.OrMemory.{OrMemory}
 use Rattle.lists.specs.Elements.{at_below}
@@ -16,6 +16,7 @@ use Rattle.snapshot_store.specs.Content.{words_of}
 use Rattle.engine_pages.specs.declared.layout.Layout.{Layout}
 use Rattle.engine_pages.specs.declared.view.Role.TheVariants.{Keeper}
 use Rattle.engine_pages.specs.declared.view.View.{View}
+use Rattle.page_drops.specs.declared.calls.Dropped.{Dropped}
 use Rattle.script_grammar.specs.declared.lines.KeeperLine.{KeeperLine}
 use Rattle.script_grammar.specs.declared.lines.KeeperLine.TheVariants as asks
 use Rattle.gleaner.specs.declared.gleaning.GleanFault.{GleanFault}
@@ -25,16 +26,18 @@ use Rattle.tx_script.specs.declared.answer.Answer.TheVariants as answers
 use Rattle.worker_logs.specs.Saves.{AreDurable, SavesMarks}
 use Rattle.shared_rounds.specs.Below.{AreClaimed, HasAdvanced, HasMetAll, HasSeenEpoch, IsLastEpoch}
 use Rattle.shared_rounds.specs.Beside.{Went, went_none, went_then}
+use Rattle.shared_rounds.specs.Drops.{HasDropped}
 use Rattle.shared_rounds.specs.Published.{HasPages}
 use Rattle.round_engine.specs.Gleans.{CanPublish, Gleans}
 use Rattle.round_engine.specs.Keeping.{at_epoch, glean_answer, glean_refusal, refusal_beside, save_answer, save_refusal}
-use Rattle.round_engine.specs.Keeping.{StepsEpoch}
+use Rattle.round_engine.specs.Drops.{counts_of, drops_if}
+use Rattle.round_engine.specs.Keeping.{StepsEpoch, with_drops}
 use Rattle.round_engine.specs.SideLines.{beside_in, CanKeepBeside, HasSeenMarks, lent_at, SavesBeside, StepsBeside, stands_in_view}
 use Rattle.round_engine.specs.Standing.{RuntimeState}
 use Rattle.round_engine.specs.declared.keeper_side.Lent.{Lent}
 use Rattle.round_engine.specs.declared.report.End.{End}
 use Rattle.round_engine.proofs.Numbered.{growing_at}
-use Rattle.round_engine.proofs.SideSteps.{claimed_on, lent_later, lent_published, lent_same, past_stays, saw_marks, saw_none, went_epoch}
+use Rattle.round_engine.proofs.SideSteps.{claimed_on, free_on, lent_dropped, lent_later, lent_published, lent_same, past_stays, saw_marks, saw_none, went_epoch}
 use Rattle.round_engine.proofs.SideSteps.{went_met, went_pages}
 
 -- ---- the epoch
@@ -53,6 +56,10 @@ module _ (v w : View) (keeper : v.role ≡ Keeper) where
     pub advance_pages : w.pages ≡ v.pages
     advance_pages = ap (λ (x : View). x.pages) a.is ∙ a.seen.pages
 
+    -- and none was dropped
+    pub advance_drops : w.drops ≡ v.drops
+    advance_drops = ap (λ (x : View). x.drops) a.is ∙ a.seen.drops
+
     -- one epoch more is all that was done
     went_on : Went a.loaded w
     went_on = record {
@@ -65,7 +72,8 @@ module _ (v w : View) (keeper : v.role ≡ Keeper) where
       mine = ap (λ (x : View). x.mine) a.is;
       draws = ap (λ (x : View). x.draws) a.is;
       refused = ap (λ (x : View). x.refused) a.is;
-      touched = ap (λ (x : View). x.touched) a.is;
+      drops = subst (IsFront a.loaded.drops) (sym (ap (λ (x : View). x.drops) a.is)) (front_refl a.loaded.drops);
+      touched = λ same. ap (λ (x : View). x.touched) a.is;
       blamed = ap (λ (x : View). x.blamed) a.is;
       seen = record {
         history = subst (IsFront a.loaded.history) (sym (ap (λ (x : View). x.history) a.is)) (front_refl a.loaded.history);
@@ -75,6 +83,8 @@ module _ (v w : View) (keeper : v.role ≡ Keeper) where
       met = subst (IsFront a.loaded.met) (sym (ap (λ (x : View). x.met) a.is)) (front_refl a.loaded.met);
       claimed = claimed_on a.loaded w (ap (λ (x : View). x.layout) a.is) (ap (λ (x : View). x.pages) a.is)
           (ap (λ (x : View). x.fills) a.is);
+      free = free_on a.loaded w (ap (λ (x : View). x.grip) a.is) (ap (λ (x : View). x.ways) a.is)
+          (ap (λ (x : View). x.took) a.is) (ap (λ (x : View). x.shuts) a.is);
     }
 
     pub advance_went : Went v w
@@ -94,6 +104,9 @@ module _ (v w : View) (keeper : v.role ≡ Keeper) where
     pub limit_pages : w.pages ≡ v.pages
     limit_pages = ap (λ (x : View). x.pages) is.timed.is
 
+    pub limit_drops : w.drops ≡ v.drops
+    limit_drops = ap (λ (x : View). x.drops) is.timed.is
+
     pub limit_went : Went v w
     limit_went = record {
       role = ap (λ (x : View). x.role) is.timed.is;
@@ -106,13 +119,16 @@ module _ (v w : View) (keeper : v.role ≡ Keeper) where
       mine = ap (λ (x : View). x.mine) is.timed.is;
       draws = ap (λ (x : View). x.draws) is.timed.is;
       refused = ap (λ (x : View). x.refused) is.timed.is;
-      touched = ap (λ (x : View). x.touched) is.timed.is;
+      drops = subst (IsFront v.drops) (sym (ap (λ (x : View). x.drops) is.timed.is)) (front_refl v.drops);
+      touched = λ same. ap (λ (x : View). x.touched) is.timed.is;
       blamed = ap (λ (x : View). x.blamed) is.timed.is;
       seen = record { history = is.timed.history; decided = is.timed.decided };
       epoch = omega (arith, at);
       met = subst (IsFront v.met) (sym (ap (λ (x : View). x.met) is.timed.is)) (front_refl v.met);
       claimed = claimed_on v w (ap (λ (x : View). x.layout) is.timed.is) (ap (λ (x : View). x.pages) is.timed.is)
           (ap (λ (x : View). x.fills) is.timed.is);
+      free = free_on v w (ap (λ (x : View). x.grip) is.timed.is) (ap (λ (x : View). x.ways) is.timed.is)
+          (ap (λ (x : View). x.took) is.timed.is) (ap (λ (x : View). x.shuts) is.timed.is);
     }
 
     pub limit_saw : HasSeenMarks [] v w
@@ -153,7 +169,7 @@ module _ {D : Type 0} (tells : D → Option (List ℕ)) (clock : D → ℕ) (ima
           answer_is = answer_is;
           alone = lent_same decls new v w (ap (λ (x : View). x.epoch) met.is ∙ timed.now ∙ same)
               (ap (λ (x : View). x.layout) met.is ∙ timed.layout) (ap (λ (x : View). x.pages) met.is ∙ timed.pages)
-              ∙ alone;
+              (ap (λ (x : View). x.drops) met.is ∙ timed.drops) ∙ alone;
         };
         saw = saw_marks marks v u w keeper timed.role timed.parked eight timed.met met;
         went = went_then v u w (went_epoch v u epoch keeper timed) (went_met u w marks met);
@@ -166,16 +182,18 @@ module _ {D : Type 0} (tells : D → Option (List ℕ)) (clock : D → ℕ) (ima
   -- an advance of the epoch, on what is lent as it was
   pub epoch_line : (answer : Answer)
       → ((r : RuntimeState) → StepsEpoch answer (at_epoch r v.epoch) (at_epoch r w.epoch)) → w.pages ≡ v.pages
-      → HasSeenMarks [] v w → Went v w
+      → w.drops ≡ v.drops → HasSeenMarks [] v w → Went v w
       → StepsBeside tells clock image_at faults decls None asks.Epoch answer None old old v w before before
-  epoch_line answer steps pages saw went = record {
+  epoch_line answer steps pages drops saw went = record {
     marks = [];
     steps = (
-      subst (StepsEpoch answer (lent_at decls old v)) (lent_later decls old v w went.layout pages) (steps (lent_at decls old v)),
+      subst (StepsEpoch answer (lent_at decls old v)) (lent_later decls old v w went.layout pages drops)
+          (steps (lent_at decls old v)),
       refl,
       refl,
     );
     saw = saw;
+    dropped = tt;
     went = went;
   }
 
@@ -187,6 +205,7 @@ module _ {D : Type 0} (tells : D → Option (List ℕ)) (clock : D → ℕ) (ima
     marks = saves.marks;
     steps = (saves.steps, is);
     saw = saves.saw;
+    dropped = tt;
     went = saves.went;
   }
 
@@ -206,8 +225,37 @@ module _ {D : Type 0} (tells : D → Option (List ℕ)) (clock : D → ℕ) (ima
       refusal_is = refusal_is;
     };
     saw = saw;
+    dropped = tt;
     went = went;
   }
+
+  -- a drop, on what is lent as it was: what is answered is what the pass counted
+  pub drop_line : (tally : Dropped) (answer : Answer) (refusal : Option End)
+      → answer ≡ answers.Drop tally.dropped tally.kept → refusal ≡ None → 0 < v.layout.slots
+      → HasDropped (words_of old.store.now.pages) tally v w
+      → StepsBeside tells clock image_at faults decls None asks.Drop answer refusal old old v w before before
+  drop_line tally answer refusal answer_is refusal_is some drops =
+      subst (λ a. StepsBeside tells clock image_at faults decls None asks.Drop a refusal old old v w before before)
+      (sym answer_is) (record {
+        marks = [];
+        steps = (
+          (
+            λ (none : v.layout.slots ≡ 0). absurd (omega (arith, none, some)),
+            sym (ap (with_drops (lent_at decls old v)) (sym (drops.drops ∙ counted v.layout.slots some))
+                ∙ lent_dropped decls old v w drops.epoch drops.went.layout drops.pages),
+          ),
+          refl,
+          refusal_is,
+        );
+        saw = saw_none v w drops.met;
+        dropped = (tally, refl, refl, drops);
+        went = drops.went;
+      })
+    where
+      counted : (slots : ℕ) → 0 < slots → v.drops ++ record { dropped = tally.dropped; kept = tally.kept } ∷ []
+          ≡ v.drops ++ map counts_of (drops_if slots (answers.Drop tally.dropped tally.kept ∷ []))
+      counted zero some = absurd (omega (arith, some))
+      counted (suc n) some = refl
 
   -- a line that isn't run, behind a refusal
   pub left_line : (refusal : Option End) (line : KeeperLine) → is_some refusal ≡ true
@@ -217,6 +265,7 @@ module _ {D : Type 0} (tells : D → Option (List ℕ)) (clock : D → ℕ) (ima
     marks = [];
     steps = (refl, refl, refl, refl);
     saw = saw_none v v refl;
+    dropped = tt;
     went = went_none v;
   }
 
@@ -252,7 +301,7 @@ module _ {D : Type 0} (tells : D → Option (List ℕ)) (clock : D → ℕ) (ima
   glean_steps result beside gleans =
       subst (λ r. Gleans tells clock image_at faults (lent_at decls old v) r before now result beside)
       (lent_published decls new v w (ap (λ (x : View). x.epoch) is ∙ timed.now ∙ timed.keepers keeper)
-      (ap (λ (x : View). x.layout) is ∙ timed.layout)) gleans
+      (ap (λ (x : View). x.layout) is ∙ timed.layout) (ap (λ (x : View). x.drops) is ∙ timed.drops)) gleans
 
   pub glean_went : AreClaimed w → Went v w
   glean_went claimed = went_then v u w (went_epoch v u epoch keeper timed) (went_pages u w pages is claimed)

@@ -9,12 +9,15 @@ use Rattle.std.proofs.lemmas.Option.{same_Some}
 use Rattle.lists.specs.Elements.{in_cases, in_head, in_none, in_tail}
 use Rattle.lists.specs.Fronts.{IsFront, front_append, front_refl}
 use Rattle.log_writer.specs.declared.vault.Vault.{Vault}
+use Rattle.serial_model.specs.Decls.{AreDecls}
 use Rattle.serial_model.specs.declared.decl.Decl.{Decl}
 use Rattle.wire_form.specs.Words.{mark_word}
 use Rattle.wire_form.specs.declared.clock.Mark.{Mark}
-use Rattle.engine_pages.specs.Views.{bare_seat}
+use Rattle.drop_core.specs.declared.grip.Grip.{Grip}
+use Rattle.engine_pages.specs.Views.{IsResting, bare_seat}
 use Rattle.engine_pages.specs.Times.{past_at}
 use Rattle.engine_pages.specs.declared.layout.Layout.{Layout}
+use Rattle.engine_pages.specs.declared.view.Dropped.{Dropped as Counts}
 use Rattle.engine_pages.specs.declared.view.Met.{Met}
 use Rattle.engine_pages.specs.declared.view.Role.{Role}
 use Rattle.engine_pages.specs.declared.view.Role.TheVariants.{Keeper}
@@ -24,15 +27,15 @@ use Rattle.tx_script.specs.Seen.{NeverBack, NoneBefore, first_places}
 use Rattle.tx_script.specs.declared.answer.Answer.{Answer}
 use Rattle.script_grammar.specs.Script.{Round, keeper_lines}
 use Rattle.shared_rounds.specs.Below.{AreClaimed, HasMetAll, HasSeenEpoch, calls_for, met_at, mets_of}
-use Rattle.shared_rounds.specs.Beside.{Went, went_none, went_then}
+use Rattle.shared_rounds.specs.Beside.{HoldsNothing, Went, went_none, went_then}
 use Rattle.shared_rounds.specs.Published.{HasPages}
-use Rattle.round_engine.specs.Keeping.{at_epoch, seen_unless}
+use Rattle.round_engine.specs.Keeping.{at_epoch, seen_unless, with_drops}
 use Rattle.round_engine.specs.Sides.{growing_in}
 use Rattle.round_engine.specs.Ends.{save_limited}
 use Rattle.round_engine.specs.RoundCalls.{is_answered}
 use Rattle.round_engine.specs.SideLines.{all_met, AllMetAt, bare_stands, CanKeepBeside, CanRunBeside, HasRunBeside}
 use Rattle.round_engine.specs.SideLines.{HasSeenMarks, lent_at}
-use Rattle.round_engine.specs.SideLines.{RunsBeside, StepsBeside, stands_in_view}
+use Rattle.round_engine.specs.SideLines.{RunLinesBeside, StepsBeside, stands_in_view}
 use Rattle.round_engine.specs.Standing.{RuntimeState}
 use Rattle.round_engine.specs.declared.keeper.KeeperEnd.{KeeperEnd}
 use Rattle.round_engine.specs.declared.keeper_side.Lent.{Lent}
@@ -56,6 +59,18 @@ claimed_on v w layout pages fills c = record {
   long = λ x there. c.long x (subst (λ l. Contains l x) fills there);
 }
 
+-- the pass holds nothing still, where nothing of it changes
+pub free_on : (v w : View) → w.grip ≡ v.grip → w.ways ≡ v.ways → w.took ≡ v.took → w.shuts ≡ v.shuts → HoldsNothing v
+    → HoldsNothing w
+free_on v w grip ways took shuts f = record {
+  holds = ap (λ (g : Grip). g.holds) grip ∙ f.holds;
+  made = ap (λ (g : Grip). g.made) grip ∙ f.made;
+  taken = ap (λ (g : Grip). g.taken) grip ∙ f.taken;
+  ways = ways ∙ f.ways;
+  took = took ∙ f.took;
+  shuts = shuts ∙ f.shuts;
+}
+
 -- the clock was loaded
 pub went_epoch : (v w : View) (epoch : ℕ) → v.role ≡ Keeper → HasSeenEpoch epoch v w → Went v w
 went_epoch v w epoch keeper t = record {
@@ -68,12 +83,14 @@ went_epoch v w epoch keeper t = record {
   mine = t.mine;
   draws = t.draws;
   refused = t.refused;
-  touched = t.touched;
+  drops = subst (IsFront v.drops) (sym t.drops) (front_refl v.drops);
+  touched = λ same. t.touched;
   blamed = t.blamed;
   seen = t.seen;
   epoch = omega (arith, t.now, t.rises);
   met = subst (IsFront v.met) (sym t.met) (front_refl v.met);
   claimed = claimed_on v w t.layout t.pages t.fills;
+  free = free_on v w t.grip t.ways t.took t.shuts;
 }
 
 -- marks were met
@@ -88,12 +105,21 @@ went_met v w marks m = subst (Went v) (sym m.is) (record {
   mine = refl;
   draws = refl;
   refused = refl;
-  touched = refl;
+  drops = front_refl v.drops;
+  touched = λ same. refl;
   blamed = refl;
   seen = record { history = front_refl v.history; decided = front_refl v.decided };
   epoch = omega arith;
   met = front_append v.met (mets_of 0 marks m.places);
   claimed = λ c. record { has = c.has; long = c.long };
+  free = λ f. record {
+    holds = f.holds;
+    made = f.made;
+    taken = f.taken;
+    ways = f.ways;
+    took = f.took;
+    shuts = f.shuts;
+  };
 })
 
 -- pages were published
@@ -108,7 +134,8 @@ went_pages v w pages is claimed = record {
   mine = ap (λ (x : View). x.mine) is;
   draws = ap (λ (x : View). x.draws) is;
   refused = ap (λ (x : View). x.refused) is;
-  touched = ap (λ (x : View). x.touched) is;
+  drops = subst (IsFront v.drops) (sym (ap (λ (x : View). x.drops) is)) (front_refl v.drops);
+  touched = λ same. ap (λ (x : View). x.touched) is;
   blamed = ap (λ (x : View). x.blamed) is;
   seen = record {
     history = subst (IsFront v.history) (sym (ap (λ (x : View). x.history) is)) (front_refl v.history);
@@ -117,35 +144,50 @@ went_pages v w pages is claimed = record {
   epoch = omega (arith, ap (λ (x : View). x.epoch) is);
   met = subst (IsFront v.met) (sym (ap (λ (x : View). x.met) is)) (front_refl v.met);
   claimed = λ before. claimed;
+  free = free_on v w (ap (λ (x : View). x.grip) is) (ap (λ (x : View). x.ways) is) (ap (λ (x : View). x.took) is)
+      (ap (λ (x : View). x.shuts) is);
 }
 
--- what is lent, where the engine has this epoch, so many slots, these pages, and room for so many of them
-abbrev lent_on : List Decl → Lent → View → ℕ → ℕ → List (List ℕ) → ℕ → RuntimeState
-lent_on decls lent v epoch slots pages resident = record (lent_at decls lent v) {
-  stands = bare_stands decls epoch slots pages resident;
+-- what is lent, where the engine has this epoch, so many slots, these pages, room for so many of them, and these counts
+-- of drops
+abbrev lent_on : List Decl → Lent → View → ℕ → ℕ → List (List ℕ) → ℕ → List Counts → RuntimeState
+lent_on decls lent v epoch slots pages resident drops = record (lent_at decls lent v) {
+  stands = bare_stands decls epoch slots pages resident drops;
 }
 
 -- what is lent stands the same where the pass knows the same of its engine
 pub lent_same : (decls : List Decl) (lent : Lent) (v w : View) → w.epoch ≡ v.epoch → w.layout ≡ v.layout
-    → w.pages ≡ v.pages → lent_at decls lent w ≡ lent_at decls lent v
-lent_same decls lent v w epoch layout pages =
-    ap (λ (e : ℕ). lent_on decls lent v e w.layout.slots w.pages w.layout.resident) epoch
-    ∙ ap (λ (l : List (List ℕ)). lent_on decls lent v v.epoch w.layout.slots l w.layout.resident) pages
-    ∙ ap (λ (l : Layout). lent_on decls lent v v.epoch l.slots v.pages l.resident) layout
+    → w.pages ≡ v.pages → w.drops ≡ v.drops → lent_at decls lent w ≡ lent_at decls lent v
+lent_same decls lent v w epoch layout pages drops =
+    ap (λ (e : ℕ). lent_on decls lent v e w.layout.slots w.pages w.layout.resident w.drops) epoch
+    ∙ ap (λ (l : List (List ℕ)). lent_on decls lent v v.epoch w.layout.slots l w.layout.resident w.drops) pages
+    ∙ ap (λ (l : List Counts). lent_on decls lent v v.epoch w.layout.slots v.pages w.layout.resident l) drops
+    ∙ ap (λ (l : Layout). lent_on decls lent v v.epoch l.slots v.pages l.resident v.drops) layout
 
 -- so it does at a later epoch
 pub lent_later : (decls : List Decl) (lent : Lent) (v w : View) → w.layout ≡ v.layout → w.pages ≡ v.pages
-    → at_epoch (lent_at decls lent v) w.epoch ≡ lent_at decls lent w
-lent_later decls lent v w layout pages =
-    ap (λ (l : List (List ℕ)). lent_on decls lent v w.epoch v.layout.slots l v.layout.resident) (sym pages)
-    ∙ ap (λ (l : Layout). lent_on decls lent v w.epoch l.slots w.pages l.resident) (sym layout)
+    → w.drops ≡ v.drops → at_epoch (lent_at decls lent v) w.epoch ≡ lent_at decls lent w
+lent_later decls lent v w layout pages drops =
+    ap (λ (l : List (List ℕ)). lent_on decls lent v w.epoch v.layout.slots l v.layout.resident v.drops) (sym pages)
+    ∙ ap (λ (l : List Counts). lent_on decls lent v w.epoch v.layout.slots w.pages v.layout.resident l) (sym drops)
+    ∙ ap (λ (l : Layout). lent_on decls lent v w.epoch l.slots w.pages l.resident w.drops) (sym layout)
 
 -- and where some pages more are published
 pub lent_published : (decls : List Decl) (lent : Lent) (v w : View) → w.epoch ≡ v.epoch → w.layout ≡ v.layout
+    → w.drops ≡ v.drops
     → record (lent_at decls lent v) { stands = record (stands_in_view decls v) { pages = w.pages } } ≡ lent_at decls lent w
-lent_published decls lent v w epoch layout =
-    ap (λ (e : ℕ). lent_on decls lent v e v.layout.slots w.pages v.layout.resident) (sym epoch)
-    ∙ ap (λ (l : Layout). lent_on decls lent v w.epoch l.slots w.pages l.resident) (sym layout)
+lent_published decls lent v w epoch layout drops =
+    ap (λ (e : ℕ). lent_on decls lent v e v.layout.slots w.pages v.layout.resident v.drops) (sym epoch)
+    ∙ ap (λ (l : List Counts). lent_on decls lent v w.epoch v.layout.slots w.pages v.layout.resident l) (sym drops)
+    ∙ ap (λ (l : Layout). lent_on decls lent v w.epoch l.slots w.pages l.resident w.drops) (sym layout)
+
+-- and where drops more are counted
+pub lent_dropped : (decls : List Decl) (lent : Lent) (v w : View) → w.epoch ≡ v.epoch → w.layout ≡ v.layout
+    → w.pages ≡ v.pages → with_drops (lent_at decls lent v) w.drops ≡ lent_at decls lent w
+lent_dropped decls lent v w epoch layout pages =
+    ap (λ (e : ℕ). lent_on decls lent v e v.layout.slots v.pages v.layout.resident w.drops) (sym epoch)
+    ∙ ap (λ (l : List (List ℕ)). lent_on decls lent v w.epoch v.layout.slots l v.layout.resident w.drops) (sym pages)
+    ∙ ap (λ (l : Layout). lent_on decls lent v w.epoch l.slots w.pages l.resident w.drops) (sym layout)
 
 -- ---- marks that were met
 
@@ -364,7 +406,7 @@ module _ {D : Type 0} {tells : D → Option (List ℕ)} {clock : D → ℕ} {ima
     (decls : List Decl) (old : Lent) (v : View) (before : Vault D)
     (ready : CanKeepBeside tells clock image_at decls old v before) where
   -- no line so far
-  pub beside_begin : RunsBeside tells clock image_at faults decls [] [] None old old v v before before
+  pub beside_begin : RunLinesBeside tells clock image_at faults decls [] [] None old old v v before before
   beside_begin = record {
     seen = [];
     runs = keeper_begin (lent_at decls old v) before ready.can;
@@ -374,7 +416,7 @@ module _ {D : Type 0} {tells : D → Option (List ℕ)} {clock : D → ℕ} {ima
 
   module _ {lines : List KeeperLine} {said : List Answer} {mid : Lent} {u : View} {between : Vault D} where
     -- lines that were not refused leave what the next one needs
-    pub beside_can : RunsBeside tells clock image_at faults decls lines said None old mid v u before between
+    pub beside_can : RunLinesBeside tells clock image_at faults decls lines said None old mid v u before between
         → CanKeepBeside tells clock image_at decls mid u between
     beside_can b = record {
       apart = ap (λ s. growing_in s between) b.runs.leaves.side ∙ b.runs.leaves.over.growing ∙ ready.apart;
@@ -383,14 +425,17 @@ module _ {D : Type 0} {tells : D → Option (List ℕ)} {clock : D → ℕ} {ima
       slots = omega (arith, ready.slots, ap (λ (x : Layout). x.slots) b.went.layout);
       few = omega (arith, ready.few, ap (λ (x : Layout). x.resident) b.went.layout);
       claimed = b.went.claimed ready.claimed;
+      rests = subst IsResting (sym b.went.seat) ready.rests;
+      free = b.went.free ready.free;
+      declared = subst (λ (x : Layout). AreDecls x.decls) (sym b.went.layout) ready.declared;
     }
 
     -- A line is answered.
     pub beside_step : (refusal : Option End) (line : KeeperLine) (answer : Answer) (next : Option End) {new : Lent}
         {w : View} {now : Vault D}
-        → RunsBeside tells clock image_at faults decls lines said refusal old mid v u before between
+        → RunLinesBeside tells clock image_at faults decls lines said refusal old mid v u before between
         → StepsBeside tells clock image_at faults decls refusal line answer next mid new u w between now
-        → RunsBeside tells clock image_at faults decls (lines ++ line ∷ []) (said ++ answer ∷ []) next old new v w before
+        → RunLinesBeside tells clock image_at faults decls (lines ++ line ∷ []) (said ++ answer ∷ []) next old new v w before
         now
     beside_step refusal line answer next {w = w} b step = record {
       seen = b.seen ++ seen_unless refusal line step.marks;
@@ -405,11 +450,11 @@ pub ran_none : {D : Type 0} {tells : D → Option (List ℕ)} {clock : D → ℕ
     → CanRunBeside tells clock image_at round lent vault said room end v → keeper_lines round ≡ []
     → HasRunBeside tells clock image_at faults round lent lent vault vault said end v v
 ran_none {tells = tells} {clock} {image_at} {faults} round lent vault said room end v can none = record {
-  runs = subst (λ lines. RunsBeside tells clock image_at faults v.layout.decls lines said end.refusal lent lent v v vault
+  runs = subst (λ lines. RunLinesBeside tells clock image_at faults v.layout.decls lines said end.refusal lent lent v v vault
       vault) (sym none)
-      (subst (λ a. RunsBeside tells clock image_at faults v.layout.decls [] a end.refusal lent lent v v vault vault)
+      (subst (λ a. RunLinesBeside tells clock image_at faults v.layout.decls [] a end.refusal lent lent v v vault vault)
       (sym can.none)
-      (subst (λ e. RunsBeside tells clock image_at faults v.layout.decls [] [] e lent lent v v vault vault)
+      (subst (λ e. RunLinesBeside tells clock image_at faults v.layout.decls [] [] e lent lent v v vault vault)
       (sym can.refusal) (beside_begin v.layout.decls lent v vault can.ready)));
   limited = can.limited ∙ sym (ap (λ lines. save_limited lines said) none);
   calls = can.calls ∙ ap (calls_for is_answered 255 0) (sym can.none);

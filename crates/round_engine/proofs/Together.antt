@@ -6,6 +6,7 @@ use Rattle.std.proofs.lemmas.List.{length-map}
 use Rattle.log_writer.specs.declared.vault.Vault.{Vault}
 use Rattle.serial_model.specs.declared.decl.Decl.{Decl}
 use Rattle.script_grammar.specs.Script.{Round, keeper_lines}
+use Rattle.engine_pages.specs.declared.view.Dropped.{Dropped as Counts}
 use Rattle.engine_pages.specs.declared.view.View.{View}
 use Rattle.wire_form.specs.declared.clock.Mark.{Mark}
 use Rattle.tx_script.specs.Draws.{HasTree}
@@ -82,33 +83,36 @@ long_places v (m ∷ seen) (p ∷ places) all = (all.0.count, long_places v seen
 pub begun_so : (s : Standing) (shared : SharedState) (v : View) (decls : List Decl) → s ≡ standing s.ended shared
     → BeginsBeside shared v → v.layout.decls ≡ decls
     → (decls ≡ s.decls) × (v.epoch ≡ s.clock.epoch) × (v.layout.slots ≡ s.slots) × (v.pages ≡ s.pages)
-    × (v.layout.resident ≡ s.resident)
+    × (v.layout.resident ≡ s.resident) × (v.drops ≡ s.drops)
 begun_so s shared v decls is begins are = (
   sym are ∙ begins.decls ∙ sym (ap (λ (x : Standing). x.decls) is),
   begins.epoch ∙ sym (ap (λ (x : Standing). x.clock.epoch) is),
   begins.slots ∙ sym (ap (λ (x : Standing). x.slots) is),
   begins.pages ∙ sym (ap (λ (x : Standing). x.pages) is),
   begins.resident ∙ sym (ap (λ (x : Standing). x.resident) is),
+  begins.drops ∙ sym (ap (λ (x : Standing). x.drops) is),
 )
 
 -- a standing with these parts, which are its own
-abbrev pub with_parts : Standing → List Decl → ℕ → ℕ → List (List ℕ) → ℕ → Standing
-with_parts t decls epoch slots pages resident = record t {
+abbrev pub with_parts : Standing → List Decl → ℕ → ℕ → List (List ℕ) → ℕ → List Counts → Standing
+with_parts t decls epoch slots pages resident drops = record t {
   decls = decls;
   clock = record t.clock { epoch = epoch };
   slots = slots;
   pages = pages;
   resident = resident;
+  drops = drops;
 }
 
 parts_same : (t : Standing) (decls : List Decl) (epoch slots : ℕ) (pages : List (List ℕ)) (resident : ℕ)
-    (ds : List Decl) (e n : ℕ) (ps : List (List ℕ)) (most : ℕ)
-    → decls ≡ ds → epoch ≡ e → slots ≡ n → pages ≡ ps → resident ≡ most
-    → with_parts t decls epoch slots pages resident ≡ with_parts t ds e n ps most
-parts_same t decls epoch slots pages resident ds e n ps most a b c d f =
-    ap (λ x. with_parts t x epoch slots pages resident) a ∙ ap (λ x. with_parts t ds x slots pages resident) b
-    ∙ ap (λ x. with_parts t ds e x pages resident) c ∙ ap (λ x. with_parts t ds e n x resident) d
-    ∙ ap (λ x. with_parts t ds e n ps x) f
+    (drops : List Counts) (ds : List Decl) (e n : ℕ) (ps : List (List ℕ)) (most : ℕ) (all : List Counts)
+    → decls ≡ ds → epoch ≡ e → slots ≡ n → pages ≡ ps → resident ≡ most → drops ≡ all
+    → with_parts t decls epoch slots pages resident drops ≡ with_parts t ds e n ps most all
+parts_same t decls epoch slots pages resident drops ds e n ps most all a b c d f h =
+    ap (λ x. with_parts t x epoch slots pages resident drops) a
+    ∙ ap (λ x. with_parts t ds x slots pages resident drops) b ∙ ap (λ x. with_parts t ds e x pages resident drops) c
+    ∙ ap (λ x. with_parts t ds e n x resident drops) d ∙ ap (λ x. with_parts t ds e n ps x drops) f
+    ∙ ap (λ x. with_parts t ds e n ps most x) h
 
 -- what is lent of a runtime, as it is known on this view, with nothing else
 abbrev pub bare : RuntimeState → List Decl → View → RuntimeState
@@ -153,7 +157,7 @@ module _ {D : Type 0} {tells : D → Option (List ℕ)} {clock : D → ℕ} {ima
   lines_ran = together.lines.come
 
   begun : (decls ≡ r.stands.decls) × (v.epoch ≡ r.stands.clock.epoch) × (v.layout.slots ≡ r.stands.slots)
-      × (v.pages ≡ r.stands.pages) × (v.layout.resident ≡ r.stands.resident)
+      × (v.pages ≡ r.stands.pages) × (v.layout.resident ≡ r.stands.resident) × (v.drops ≡ r.stands.drops)
   begun = begun_so r.stands together.was v decls together.was_is b.begins refl
 
   decls_same : decls ≡ t.decls
@@ -165,16 +169,17 @@ module _ {D : Type 0} {tells : D → Option (List ℕ)} {clock : D → ℕ} {ima
   resident_same : v.layout.resident ≡ t.resident
   resident_same = begun.4 ∙ sym (ap (λ (x : Standing). x.resident) lines_ran.over.runs.only)
 
-  begun_same : with_parts t decls v.epoch v.layout.slots v.pages v.layout.resident ≡ as_begun r.stands t
-  begun_same = parts_same t decls v.epoch v.layout.slots v.pages v.layout.resident t.decls r.stands.clock.epoch t.slots
-      r.stands.pages t.resident decls_same begun.1 slots_same begun.3 resident_same
+  begun_same : with_parts t decls v.epoch v.layout.slots v.pages v.layout.resident v.drops ≡ as_begun r.stands t
+  begun_same = parts_same t decls v.epoch v.layout.slots v.pages v.layout.resident v.drops t.decls r.stands.clock.epoch
+      t.slots r.stands.pages t.resident r.stands.drops decls_same begun.1 slots_same begun.3 resident_same begun.5
 
-  ended_same : with_parts t decls w.epoch w.layout.slots w.pages w.layout.resident ≡ t
-  ended_same = parts_same t decls w.epoch w.layout.slots w.pages w.layout.resident t.decls t.clock.epoch t.slots t.pages
-      t.resident decls_same (sym b.epoch ∙ sym (ap (λ (x : Standing). x.clock.epoch) together.now_is))
+  ended_same : with_parts t decls w.epoch w.layout.slots w.pages w.layout.resident w.drops ≡ t
+  ended_same = parts_same t decls w.epoch w.layout.slots w.pages w.layout.resident w.drops t.decls t.clock.epoch t.slots
+      t.pages t.resident t.drops decls_same (sym b.epoch ∙ sym (ap (λ (x : Standing). x.clock.epoch) together.now_is))
       (ap (λ x. x.slots) b.went.layout ∙ slots_same) (sym b.pages ∙ sym (ap (λ
       (x : Standing). x.pages) together.now_is))
       (ap (λ x. x.resident) b.went.layout ∙ resident_same)
+      (sym b.drops ∙ sym (ap (λ (x : Standing). x.drops) together.now_is))
 
   -- ---- the vault
 
@@ -227,17 +232,17 @@ module _ {D : Type 0} {tells : D → Option (List ℕ)} {clock : D → ℕ} {ima
       end.refusal (record r { stands = x; logs = new.logs }) new between now) begun_same
       (subst (λ (x : RuntimeState). RunsKeeper tells clock image_at faults b.did_so.runs.seen (keeper_lines round) said
       end.refusal (record r {
-        stands = with_parts t decls v.epoch v.layout.slots v.pages v.layout.resident;
+        stands = with_parts t decls v.epoch v.layout.slots v.pages v.layout.resident v.drops;
         logs = new.logs;
       }) x between now) kept_same
       (subst (λ (x : Vault D). RunsKeeper tells clock image_at faults b.did_so.runs.seen (keeper_lines round) said
       end.refusal (record r {
-        stands = with_parts t decls v.epoch v.layout.slots v.pages v.layout.resident;
+        stands = with_parts t decls v.epoch v.layout.slots v.pages v.layout.resident v.drops;
         logs = new.logs;
       }) (with_rest (bare new decls w) t new.logs r.down) between x) after_is
       (subst (λ (x : Vault D). RunsKeeper tells clock image_at faults b.did_so.runs.seen (keeper_lines round) said
       end.refusal (record r {
-        stands = with_parts t decls v.epoch v.layout.slots v.pages v.layout.resident;
+        stands = with_parts t decls v.epoch v.layout.slots v.pages v.layout.resident v.drops;
         logs = new.logs;
       }) (with_rest (bare new decls w) t new.logs r.down) x after) whole_is made)))
     where
@@ -266,6 +271,7 @@ module _ {D : Type 0} {tells : D → Option (List ℕ)} {clock : D → ℕ} {ima
     history = λ shared. history;
     alone = refl;
     later = omega arith;
+    drops = refl;
     beside = beside_with r.side before apart now lent_out;
     seen = b.did_so.runs.seen;
     places = round_places v b.did_so.runs.saw.places;
@@ -301,6 +307,7 @@ did_less did less so together = record {
         did_so = so b.from b.to b.did_so;
         epoch = b.epoch;
         pages = b.pages;
+        drops = b.drops;
         known = b.known;
         met = b.met;
       };

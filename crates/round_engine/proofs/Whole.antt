@@ -35,7 +35,8 @@ use Rattle.round_engine.specs.Gleans.{RoundGleans}
 use Rattle.round_engine.specs.Keeping.{IsSavedBySeen, KeepsSaves}
 use Rattle.round_engine.specs.Logs.{AreClosedFiles, AreLogs, IsClosedFile, IsFirstAt, IsRefusedBy, LeavesLog}
 use Rattle.round_engine.specs.RanRound.{AreFailed, LeavesVault, LogsRan, SwapsFiles}
-use Rattle.round_engine.specs.Saves.{AreSaved, AreSeen, AreShownAt, beside_at_end, GoesBy, IsSavedBy, newest_after}
+use Rattle.round_engine.specs.Saves.{AreSaved, AreSeen, AreShownAt, beside_at_end, beside_at_save, GoesBy, IsSavedBy}
+use Rattle.round_engine.specs.Saves.{newest_after}
 use Rattle.round_engine.specs.Saves.{saves_told}
 use Rattle.round_engine.specs.Sides.{closed_in, closed_numbers, growing_in, other_side}
 use Rattle.round_engine.specs.Standing.{beside_of, RuntimeState, StandsOn}
@@ -137,7 +138,7 @@ module _ {D : Type 0} {tells : D → Option (List ℕ)} {clock : D → ℕ} {ima
     (newest : new.save.newest ≡ newest_after old.save.newest stored)
     (placed : (k : ℕ) (saved : Saved) (places : List ℕ) → slice_get (stored ++ option_to_list failed) k ≡ Some saved
     → slice_get ran.beside.seen k ≡ Some places → (seen : List Mark) × AreShownAt shown places seen
-    × GoesBy old.side seen saved)
+    × GoesBy ran.printed.begin.epoch (epoch_joined ran) (beside_at_save (beside_of old) ran.printed.answers k) seen saved)
     (shown_so : (w : ℕ) (epochs : List (Option ℕ)) → slice_get ran.beside.marks w ≡ Some epochs
     → shown_epochs (shown w) ≡ epochs)
     (above : (w : ℕ) → w < 8 → AllByRecursion (IsAbove (epoch_of old.save.newest)) (logged w))

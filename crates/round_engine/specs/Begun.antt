@@ -24,6 +24,7 @@ begins_at decls state words first = record words {
   clock = first;
   mine = [];
   conflicts = 0;
+  drops = [];
   ended = false;
 }
 

@@ -134,7 +134,7 @@ module _ {D : Type 0} (tells : D → Option (List ℕ)) (clock : D → ℕ) (ima
         × IsFront (after.counted k (closed_number old.side w)) (closed w)
     -- The moments of marks go on, whatever was known of them. Others were shown these marks of the workers, of the
     -- epochs that are told: each is one that its log had, and since its moment every image of the log file begins with
-    -- what it counts.
+    -- what it counts; at the moment itself no image has more of what is durable, unless it is the round's begin.
     pub marks : ℕ → List Mark
     pub shown : ℕ → List Stood
     pub shown_are : (w : ℕ) (epochs : List (Option ℕ)) → slice_get ran.beside.marks w ≡ Some epochs

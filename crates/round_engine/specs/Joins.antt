@@ -40,6 +40,7 @@ without_lines r failed durable = record {
     readied = [];
     seen = [];
     gleans = [];
+    drops = [];
     devices = failed;
     damaged = None;
   };

@@ -1,6 +1,6 @@
 -- What the maintenance thread's lines and the join do.
-use Rattle.std.specs.Prelude.{◌≡◌, ◌<◌, ◌≤◌, ◌+◌, ◌++◌, ℕ, Bool, true, false, List, [], ◌∷◌, fold, length, map}
-use Rattle.std.specs.Prelude.{Option, Some, None, is_some, option_to_list, slice_get, ⊤}
+use Rattle.std.specs.Prelude.{◌≡◌, ◌<◌, ◌≤◌, ◌+◌, ◌++◌, ℕ, Bool, true, false, List, [], ◌∷◌, fold, length}
+use Rattle.std.specs.Prelude.{map, Option, Some, None, is_some, option_to_list, slice_get, ⊤}
 use Rattle.std.specs.Prelude.{Result, Ok, Err}
 use Rattle.std.specs.List.{AllByRecursion, Contains, list_any}
 use Rattle.lists.specs.declared.memory.OrMemory.{OrMemory}
@@ -27,6 +27,7 @@ use Rattle.gleaner.specs.declared.gleaning.GleanFault.TheVariants as glean_fault
 use Rattle.gleaner.specs.declared.gleaning.Gleaned.{Gleaned}
 use Rattle.gleaner.specs.declared.gleaning.Gleaned.TheVariants.{Empty, Snap}
 use Rattle.joint_crashes.specs.Images.{epoch_of}
+use Rattle.engine_pages.specs.declared.view.Dropped.{Dropped as Counts}
 use Rattle.tx_script.specs.Run.{AdvancesTo, Ran}
 use Rattle.tx_script.specs.Causes.{AnswersCaused, AreMarksOf, KeeperAt, keeper_after, last_sequence, some_counted}
 use Rattle.tx_script.specs.CausedBeside.{SavesSee}
@@ -36,12 +37,13 @@ use Rattle.tx_script.specs.declared.answer.Answer.TheVariants as answers
 use Rattle.worker_logs.specs.Logs.{IsJoined, LogGoesOn, LogState}
 use Rattle.worker_logs.specs.Saves.{SavesBy, SavesMarks, growing_number, logs_marks, saved_epoch}
 use Rattle.worker_logs.specs.declared.savepoints.Beside.{Beside}
-use Rattle.worker_logs.specs.declared.savepoints.Side.{Side}
 use Rattle.worker_logs.specs.Rows.{Blames, KeepsMark, NeverFall}
+use Rattle.round_engine.specs.Drops.{counts_of, drops_if}
 use Rattle.round_engine.specs.Ends.{epoch_after, first_device, wants_memory, where_true}
 use Rattle.round_engine.specs.Gleans.{Gleans, LeaveGleans, RoundGleans}
 use Rattle.round_engine.specs.RanRound.{KeeperStored}
-use Rattle.round_engine.specs.Saves.{AreSavedIn, AreTied, beside_at_end, GoesBy, HaveEnded, newest_after, saves_told}
+use Rattle.round_engine.specs.Saves.{AreSavedIn, AreTied, beside_at_end, beside_at_save, GoesBy, HaveEnded, newest_after}
+use Rattle.round_engine.specs.Saves.{saves_told}
 use Rattle.round_engine.specs.Sides.{closed_in, growing_in, is_odd}
 use Rattle.round_engine.specs.Standing.{AreClosed, beside_of, HasSnapshot, LogsStand, RuntimeState}
 use Rattle.round_engine.specs.declared.report.End.{End}
@@ -164,8 +166,8 @@ refusal_told None (Some device) damaged said = Some (ends.Device device)
 refusal_told None None (Some damage) said = Some (ends.Damaged damage.0 damage.1)
 refusal_told None None None said = where_true (list_any wants_memory said) ends.Memory
 
--- What the causes of the answers rest on, of what was run: the marks, the log files and the pages that were let in at
--- its begin, what was found by gleans, and the devices that failed.
+-- What the causes of the answers rest on, of what was run: the marks, the log files, the pages that were let in and the
+-- slots at its begin, what was found by gleans, and the devices that failed.
 pub record RestsOn (r : RuntimeState) (seen : List (List Mark)) (gleans : List (Option ℕ)) (failed : Option Saved)
     (broken : List TheDevice) (damaged : Option (TheDevice × ℕ)) (ran : Ran) : Type 0 where
   pub marks : AllByRecursion (λ (marks : List Mark). AreMarksOf ran.beside.marks (epochs_in marks)) seen
@@ -174,6 +176,7 @@ pub record RestsOn (r : RuntimeState) (seen : List (List Mark)) (gleans : List (
   pub room : ran.beside.room ≡ r.room
   pub gleans_are : (what : Option ℕ) → Contains gleans what → Contains ran.beside.gleans what
   pub damage : (damage : TheDevice × ℕ) → damaged ≡ Some damage → ran.beside.damaged ≡ Some damage
+  pub slots : ran.beside.slots ≡ r.stands.slots
   pub store : is_some failed ≡ true → Contains ran.beside.devices devices.Save
   pub device : (device : TheDevice) → Contains broken device → Contains ran.beside.devices device
 
@@ -189,11 +192,13 @@ abbrev pub AreSeenFrom : Ran → ℕ → List (List Mark) → Type 0
 AreSeenFrom ran index [] = ⊤
 AreSeenFrom ran index (marks ∷ more) = IsSeenAt ran index marks × AreSeenFrom ran (index + 1) more
 
--- What was stored went by the marks that were seen, one after another, each by its own; the newest had the one sequence
--- before, and has the other one behind. Only where the last sequence was met more was seen than stored.
-pub record AreByPlace (side : Side) (seen : List (List Mark)) (begun : List Saved) (was is : ℕ) : Type 0 where
+-- What was stored went by the marks that were seen, one after another, each by its own, with what counted beside then,
+-- at an epoch of the clock from the first to the last of these; the newest had the one sequence before, and has the other
+-- one behind. Only where the last sequence was met more was seen than stored.
+pub record AreByPlace (first last : ℕ) (beside : ℕ → Beside) (seen : List (List Mark)) (begun : List Saved) (was is : ℕ)
+    : Type 0 where
   pub by : (k : ℕ) (saved : Saved) → slice_get begun k ≡ Some saved
-      → (marks : List Mark) × (slice_get seen k ≡ Some marks) × GoesBy side marks saved
+      → (marks : List Mark) × (slice_get seen k ≡ Some marks) × GoesBy first last (beside k) marks saved
   pub left : (k : ℕ) (saved : Saved) → slice_get begun k ≡ Some saved → was + k < last_sequence
   pub all : is < last_sequence → length seen ≡ length begun
 
@@ -220,8 +225,8 @@ pub record NeedCounted (r : RuntimeState) (said : List Answer) (gleans : List (O
   pub device : (device : TheDevice) → Contains broken device → some_counted r.counted ≡ true
 
 -- The lines of the maintenance thread were run and answered, each with its cause. They touch neither the logs nor the
--- engine but for its epoch and the pages that are published to it. Each save that was run saw these marks, in their
--- order.
+-- engine but for its epoch, the pages that are published to it, and its counts of drops, which get an entry for each
+-- drop that is told, and no others. Each save that was run saw these marks, in their order.
 pub record RunsKeeper {D : Type 0} (tells : D → Option (List ℕ)) (clock : D → ℕ) (image_at : D → ℕ → List ℕ → Type 0)
     (faults : D → ℕ) (seen : List (List Mark)) (lines : List KeeperLine) (said : List Answer) (refusal : Option End)
     (old new : RuntimeState) (before now : Vault D) : Type 0 where
@@ -235,8 +240,8 @@ pub record RunsKeeper {D : Type 0} (tells : D → Option (List ℕ)) (clock : D 
       (beside_of old) said stored
   pub by_failed : AllByRecursion (IsSavedBySeen (SeenAmong seen old.stands.clock.epoch new.stands.clock.epoch)
       (beside_at_end (beside_of old) said)) (option_to_list failed)
-  pub by_place : AreByPlace old.side seen (stored ++ option_to_list failed) (sequence_of old.save.newest)
-      (sequence_of new.save.newest)
+  pub by_place : AreByPlace old.stands.clock.epoch new.stands.clock.epoch (beside_at_save (beside_of old) said) seen
+      (stored ++ option_to_list failed) (sequence_of old.save.newest) (sequence_of new.save.newest)
   pub gleaned : RoundGleans tells said gleans damaged old new before now
   pub leaves : LeaveGleans tells clock image_at faults said broken old new before now
   pub needs : NeedCounted old said gleans broken damaged
@@ -248,7 +253,9 @@ pub record RunsKeeper {D : Type 0} (tells : D → Option (List ℕ)) (clock : D 
   pub stands : new.stands ≡ record old.stands {
     clock = record old.stands.clock { epoch = new.stands.clock.epoch };
     pages = new.stands.pages;
+    drops = new.stands.drops;
   }
+  pub dropped : new.stands.drops ≡ old.stands.drops ++ map counts_of (drops_if old.stands.slots said)
   pub logs : new.logs ≡ old.logs
   pub is_down : new.down ≡ old.down
   pub count : length said ≡ length lines
@@ -327,6 +334,19 @@ StepsEpoch (answers.Epoch epoch) old new = (old.stands.clock.epoch < last_epoch)
 StepsEpoch answers.Limit old new = (old.stands.clock.epoch ≡ last_epoch) × (new ≡ old)
 StepsEpoch _ old new = ⊥
 
+-- the runtime with these counts of drops
+abbrev pub with_drops : RuntimeState → List Counts → RuntimeState
+with_drops r drops = record r { stands = record r.stands { drops = drops } }
+
+-- A drop by a line of the maintenance thread. What is answered is what it added to the counts of drops; without a slot
+-- there was nothing to drop.
+abbrev pub StepsDrop : Answer → RuntimeState → RuntimeState → Type 0
+StepsDrop (answers.Drop dropped kept) old new =
+    (old.stands.slots ≡ 0 → (dropped ≡ 0) × (kept ≡ 0))
+    × (new ≡ with_drops old (old.stands.drops
+    ++ map counts_of (drops_if old.stands.slots (answers.Drop dropped kept ∷ []))))
+StepsDrop _ old new = ⊥
+
 module _ {D : Type 0} (tells : D → Option (List ℕ)) (clock : D → ℕ) (image_at : D → ℕ → List ℕ → Type 0)
     (faults : D → ℕ) where
   -- A line of the maintenance thread is answered, which refuses the lines behind it or doesn't. A save goes by these
@@ -339,7 +359,8 @@ module _ {D : Type 0} (tells : D → Option (List ℕ)) (clock : D → ℕ) (ima
       StepsSave tells clock image_at faults marks answer old new before now × (refusal ≡ save_refusal answer)
   StepsLine marks asks.Glean answer refusal old new before now =
       StepsGlean tells clock image_at faults answer refusal old new before now
-  StepsLine marks asks.Drop answer refusal old new before now = ⊥
+  StepsLine marks asks.Drop answer refusal old new before now =
+      StepsDrop answer old new × (now ≡ before) × (refusal ≡ None)
 
   -- Behind a refusal a line isn't run.
   abbrev pub StepsKeeper : List Mark → Option End → KeeperLine → Answer → Option End → RuntimeState → RuntimeState

@@ -6,7 +6,7 @@ use Rattle.std.proofs.Common.{List, [], Option, Some, None, arith, length, take,
 use Rattle.std.specs.Prelude.{◌==◌, is_some}
 use Rattle.std.specs.Option.{option_map}
 use Rattle.std.specs.List.{AllByRecursion, list_all}
-use Rattle.std.proofs.lemmas.Bool.{cases_eq}
+use Rattle.std.proofs.lemmas.Bool.{cases_eq, cases_lt}
 use Rattle.std.proofs.lemmas.List.{length-append, length-map}
 use Rattle.lists.specs.Fronts.{IsFront, front_refl, front_take, front_then, front_within}
 use Rattle.outside.specs.Fronts.{AllBegin, begins_less}
@@ -29,7 +29,8 @@ use Rattle.snapshot_store.specs.Store.{IsWhole as IsWholePage, bytes_of_page, by
 use Rattle.recovery_core.specs.Catalogues.{HasPages}
 use Rattle.checkpoints.specs.Files.{has_files}
 use Rattle.joint_crashes.specs.Images.{Images, count_of, counted_of}
-use Rattle.joint_crashes.specs.JointCrash.{IsJointCrash, IsSince, KeepsCrashes, Moments}
+use Rattle.joint_crashes.specs.Causal.{AreSince, Since}
+use Rattle.joint_crashes.specs.JointCrash.{IsJointCrash, IsSince, KeepsCrashes, Moments, Parts}
 use Rattle.joint_crashes.specs.JointCrash.{parts_of}
 use Rattle.recovery_core.specs.Recoverable.{IsRecoverable, Reading, ReadsBy, ReadsSaved}
 use Rattle.recovery_core.specs.RecoverableLaws.{one_pages, page_in_front, same_reading}
@@ -54,8 +55,18 @@ use Rattle.round_engine.specs.Crashes.{KnowsBefore, StaysReady}
 use Rattle.round_engine.specs.Logs.{AreClosedFiles, AreLogs}
 use Rattle.round_engine.specs.Standing.{RuntimeState}
 
+-- the clock of a device, where there is one
+abbrev clock_at : {D : Type 0} → (D → ℕ) → ℕ → Option D → ℕ
+clock_at clock from None = from
+clock_at clock from (Some bank) = clock bank
+
+-- each savepoint counts of a log file from the moment on at which this one's clock stands now
+abbrev pub from_now : {D : Type 0} → (D → ℕ) → Parts D → Since
+from_now clock parts k n = clock_at clock 0 (parts.banks n)
+
 -- What is known of a runtime over empty logs, since these moments: its savepoints up to its newest stand for the epoch
--- and the state of a reading, with its snapshots; and a stop now that finds one of them finds what it counts.
+-- and the state of a reading, with its snapshots; and a stop now that finds one of them finds what it counts. The moments
+-- of marks begin: each savepoint counts of each log file from now on.
 pub record KnownAtFirst {D : Type 0} (tells : D → Option (List ℕ)) (clock : D → ℕ) (image_at : D → ℕ → List ℕ → Type 0)
     (from : Moments) (was : Reading) (epoch : ℕ) (state : State) (low : ℕ) (r : RuntimeState) (vault : Vault D)
     : Type 0 where
@@ -65,13 +76,10 @@ pub record KnownAtFirst {D : Type 0} (tells : D → Option (List ℕ)) (clock : 
   pub newest_is : story.point (sequence_of r.save.newest) ≡ r.save.newest
   pub stands : (k : ℕ) (images : Images) → low ≤ k → k ≤ sequence_of r.save.newest
       → StandsFor clock image_at story (parts_of vault) images k → StandsAsRead was images epoch state
+  pub since : AreSince clock image_at story (from_now clock (parts_of vault)) from low (sequence_of r.save.newest)
+      (parts_of vault)
 
 -- ---- what was recovered is one of the crashes
-
--- the clock of a device, where there is one
-clock_at : {D : Type 0} → (D → ℕ) → ℕ → Option D → ℕ
-clock_at clock from None = from
-clock_at clock from (Some bank) = clock bank
 
 -- the moments that are now
 moments_now : {D : Type 0} → (D → ℕ) → Moments → Vault D → Moments
@@ -400,6 +408,25 @@ module _ {D : Type 0} {tells : D → Option (List ℕ)} {clock : D → ℕ} {ima
         keeps = so.keeps;
       }
 
+  -- each log file is counted from now on
+  since_first : AreSince clock image_at story (from_now clock (parts_of vault)) from low last (parts_of vault)
+  since_first n bank there =
+      let opened = goes.opened n bank there in
+      record {
+        come = λ k at_least at_most. subst (λ o. clock_at clock 0 o ≤ clock bank) (sym there) (omega arith);
+        past = λ k at_least at_most began after cut older. subst (λ o. began < clock_at clock 0 o) (sym there)
+            (opened.past began after cut);
+        kept = λ k m at_least at_most since_from since_mark come uncut.
+            let late : clock bank ≤ m = subst (λ o. clock_at clock 0 o ≤ m) there since_mark in
+            let is : clock bank ≡ m = omega (arith, late, come) in
+            subst (λ j. AllBegin (image_at bank j) (story.counted k n)) is
+            (begins_less (image_at bank (clock bank)) (story.counted k n) [] opened.now
+            (opened.counts k at_least at_most (λ began after cut. elim (cases_lt k after) [
+              | inl newer ↦ absurd (omega (arith, uncut began after cut newer, opened.past began after cut, late))
+              | inr older ↦ older
+            ])));
+      }
+
   -- ---- what is known
 
   -- So it is of a runtime that begins so, with empty logs.
@@ -441,6 +468,7 @@ module _ {D : Type 0} {tells : D → Option (List ℕ)} {clock : D → ℕ} {ima
         };
         newest_is = goes.newest_is;
         stands = stands_cut;
+        since = since_first;
       })
 
 -- The same from what a settling tells and leaves, of a vault that had rested since these moments, with no records; and

@@ -5,6 +5,7 @@ pub mod Begun
 pub mod Changes
 pub mod Logs
 pub mod Saves
+pub mod Drops
 pub mod Ends
 pub mod Gleans
 pub mod Swaps

@@ -56,12 +56,13 @@ abbrev pub fails_device : Option End → Bool
 fails_device None = false
 fails_device (Some end) = names_device end
 
--- where the maintenance thread began: the engine as the workers' lines leave it, but for the clock's epoch and the
--- pages, which its own lines change alone
+-- where the maintenance thread began: the engine as the workers' lines leave it, but for the clock's epoch, the pages
+-- and the counts of drops, which its own lines change alone
 abbrev pub as_begun : Standing → Standing → Standing
 as_begun s worked = record worked {
   clock = record worked.clock { epoch = s.clock.epoch };
   pages = s.pages;
+  drops = s.drops;
 }
 
 -- The swap stands behind a save that was made.
@@ -136,6 +137,7 @@ module _ {D : Type 0} (tells : D → Option (List ℕ)) (clock : D → ℕ) (ima
     pub history : SharesWords old.stands → KeepsHistory round ran.outcomes old.stands worked
     pub alone : mid ≡ record old { stands = as_begun old.stands worked; logs = mid.logs }
     pub later : worked.clock.epoch ≤ kept.stands.clock.epoch
+    pub drops : worked.drops ≡ kept.stands.drops
     pub beside : SameButGrowing old.side before between
     pub seen : List (List Mark)
     pub places : List (List ℕ)
@@ -170,6 +172,7 @@ module _ {D : Type 0} (tells : D → Option (List ℕ)) (clock : D → ℕ) (ima
     pub history : SharesWords old.stands → KeepsHistory round report.outcomes old.stands worked
     pub alone : mid ≡ record old { stands = as_begun old.stands worked; logs = mid.logs }
     pub later : worked.clock.epoch ≤ kept.stands.clock.epoch
+    pub drops : worked.drops ≡ kept.stands.drops
     pub room : RoomAlone before lent
     pub beside : SameButGrowing old.side lent between
     pub seen : List (List Mark)

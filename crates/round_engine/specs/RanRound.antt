@@ -41,6 +41,7 @@ use Rattle.tx_script.specs.declared.outcome.Outcome.{Outcome}
 use Rattle.tx_script.specs.declared.outcome.Outcome.TheVariants.{Unrun}
 use Rattle.round_engine.specs.Changes.{AreLogged}
 use Rattle.round_engine.specs.Crashes.{CarriesCrashes}
+use Rattle.round_engine.specs.Drops.{counts_of}
 use Rattle.round_engine.specs.Ends.{comes_to_advance, comes_to_save, comes_to_swap, durable_of, end_of, epoch_joined}
 use Rattle.round_engine.specs.Ends.{swaps}
 use Rattle.round_engine.specs.Gleans.{RoundGleans}
@@ -48,7 +49,7 @@ use Rattle.round_engine.specs.Histories.{KeepsHistory}
 use Rattle.round_engine.specs.Logs.{AreClosedFiles, AreLogs, IsRefusedBy, LeavesLog}
 use Rattle.round_engine.specs.LineEngines.{SharesWords}
 use Rattle.round_engine.specs.Saves.{ArePages, AreSaved, beside_at_end, GoesOnWith, IsSavedBy, newest_after}
-use Rattle.round_engine.specs.Saves.{AreShownAt, AreTied, GoesBy, HaveEnded, saves_told}
+use Rattle.round_engine.specs.Saves.{AreShownAt, AreTied, beside_at_save, GoesBy, HaveEnded, saves_told}
 use Rattle.round_engine.specs.Sides.{closed_numbers, other_side}
 use Rattle.round_engine.specs.Shares.{all_conflicts}
 use Rattle.round_engine.specs.Standing.{beside_of, files_of, RuntimeState, StandsOn}
@@ -148,10 +149,12 @@ module _ {D : Type 0} (tells : D → Option (List ℕ)) (clock : D → ℕ) (ima
         (shown worker) epochs bank_was bank log
     pub saved : AreSaved (IsSavedBy ran.printed.begin.epoch (epoch_joined ran) marks) (beside_of old)
         ran.printed.answers (stored ++ option_to_list failed)
-    -- what a save stored went by the marks at the places that it saw
+    -- What a save by a line began to store went by the marks at the places that it saw, at such an epoch, with what
+    -- counted beside then. So what `saved` says of it is known of these marks.
     pub placed : (k : ℕ) (saved : Saved) (places : List ℕ) → slice_get (stored ++ option_to_list failed) k ≡ Some saved
         → slice_get ran.beside.seen k ≡ Some places
-        → (seen : List Mark) × AreShownAt shown places seen × GoesBy old.side seen saved
+        → (seen : List Mark) × AreShownAt shown places seen × GoesBy ran.printed.begin.epoch (epoch_joined ran)
+        (beside_at_save (beside_of old) ran.printed.answers k) seen saved
     pub counts_here : CountsOf old.side commits gone was closed old.save.newest
         → CountsOf old.side (λ w. commits w ++ logged w) gone durable closed new.save.newest
     pub counts : CountsOf old.side commits gone was closed old.save.newest
@@ -239,9 +242,10 @@ module _ {D : Type 0} (tells : D → Option (List ℕ)) (clock : D → ℕ) (ima
 
 -- A round was run, each line being tried so often at most, and joined. Each number was drawn for a commit, or for a try
 -- that was refused behind its draw. A try in conflict at a record met a line of another worker of the round, at a key
--- that it touches and that one may change; a line that found no slot may change some key. Where nothing ends the run,
--- its last epoch is durable. Where a tree is declared no line is in another's way; on words that threads share the
--- commits are those which came to their history. The runtime is down just where a device failed.
+-- that it touches and that one may change, or pages were dropped in the round; a line that found no slot may change some
+-- key. The engine's counts of drops get those of the round, and nothing else. Where nothing ends the run, its last epoch
+-- is durable. Where a tree is declared no line is in another's way; on words that threads share the commits are those
+-- which came to their history. The runtime is down just where a device failed.
 pub record RanRound (tries : ℕ) (round : Round) (old new : RuntimeState) (report : Report) : Type 0 where
   pub ran : Ran
   pub logged : ℕ → List Commit
@@ -250,6 +254,7 @@ pub record RanRound (tries : ℕ) (round : Round) (old new : RuntimeState) (repo
   pub lines : RunsRoundLines round old new ran logged
   pub counted : DrawsAreCounted ran
   pub met : AreMet ran round
+  pub dropped : new.stands.drops ≡ old.stands.drops ++ map counts_of ran.beside.drops
   pub plain : HasTree old.stands.decls → RunsPlainly ran
   pub history : SharesWords old.stands → KeepsHistory round ran.printed.outcomes old.stands new.stands
   pub durable : ran.printed.durable ≡ durable_of ran

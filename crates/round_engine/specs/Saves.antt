@@ -1,5 +1,5 @@
 -- What the saves of a round store.
-use Rattle.std.specs.Prelude.{◌≡◌, ◌≤◌, ◌+◌, ◌++◌, ℕ, List, [], ◌∷◌, fold, length, replicate, take}
+use Rattle.std.specs.Prelude.{◌≡◌, ◌≤◌, ◌+◌, ◌++◌, ℕ, zero, suc, List, [], ◌∷◌, fold, length, replicate, take}
 use Rattle.std.specs.Prelude.{Option, Some, option_to_list, slice_get}
 use Rattle.std.specs.List.{AllByRecursion, Contains}
 use Rattle.log_writer.specs.declared.records.Tie.{Tie}
@@ -10,7 +10,6 @@ use Rattle.snapshot_store.specs.Store.{bytes_of_pages}
 use Rattle.worker_logs.specs.Saves.{SavesBy}
 use Rattle.worker_logs.specs.Shown.{Stood}
 use Rattle.worker_logs.specs.declared.savepoints.Beside.{Beside}
-use Rattle.worker_logs.specs.declared.savepoints.Side.{Side}
 use Rattle.log_writer.specs.Points.{point_of, sequence_of}
 use Rattle.log_writer.specs.Records.{AddsTies}
 use Rattle.log_writer.specs.declared.saved.Saved.{Saved}
@@ -28,12 +27,11 @@ abbrev pub IsSavedBy : ℕ → ℕ → (ℕ → List Mark) → Beside → Saved 
 IsSavedBy first last marks beside saved = (clock : ℕ) × (first ≤ clock) × (clock ≤ last) × (seen : List Mark)
     × AreSeen marks seen × SavesBy clock seen beside saved
 
--- it is saved by these marks, while the log files of this side grow
-pub record GoesBy (side : Side) (marks : List Mark) (saved : Saved) : Type 0 where
+-- it is saved by these marks, with this beside, at an epoch of the clock from the first to the last of these
+pub record GoesBy (first last : ℕ) (beside : Beside) (marks : List Mark) (saved : Saved) : Type 0 where
   pub clock : ℕ
-  pub beside : Beside
-  pub growing : beside.growing ≡ side
-  pub workers : length beside.closed ≡ 8
+  pub from : first ≤ clock
+  pub to : clock ≤ last
   pub saves : SavesBy clock marks beside saved
 
 -- of each worker the mark that stands at this place among those that others were shown of it
@@ -52,6 +50,13 @@ beside_after b _ = b
 -- and behind all answers
 abbrev pub beside_at_end : Beside → List Answer → Beside
 beside_at_end b said = fold beside_after b said
+
+-- what counted beside as the save of this number was answered, or behind all answers where these tell no more saves
+abbrev pub beside_at_save : Beside → List Answer → ℕ → Beside
+beside_at_save b [] k = b
+beside_at_save b (answers.Save epoch ∷ more) zero = b
+beside_at_save b (answers.Save epoch ∷ more) (suc k) = beside_at_save b more k
+beside_at_save b (answer ∷ more) k = beside_at_save (beside_after b answer) more k
 
 -- The saves that these answers tell, each stored with what counted beside as it was answered.
 abbrev pub AreSavedIn : (Beside → Saved → Type 0) → Beside → List Answer → List Saved → Type 0

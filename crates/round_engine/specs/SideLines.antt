@@ -16,23 +16,29 @@ use Rattle.gleaner.specs.declared.gleaning.GleanFault.{GleanFault}
 use Rattle.gleaner.specs.declared.gleaning.Gleaned.{Gleaned}
 use Rattle.log_writer.specs.Points.{SaveState}
 use Rattle.log_writer.specs.declared.vault.Vault.{Vault}
+use Rattle.serial_model.specs.Decls.{AreDecls}
 use Rattle.serial_model.specs.declared.decl.Decl.{Decl}
 use Rattle.wire_form.specs.Words.{IsMark}
 use Rattle.wire_form.specs.declared.clock.Mark.{Mark}
-use Rattle.engine_pages.specs.Views.{bare_seat}
+use Rattle.engine_pages.specs.Views.{IsResting, bare_seat}
+use Rattle.engine_pages.specs.declared.view.Dropped.{Dropped as Counts}
 use Rattle.engine_pages.specs.declared.view.Met.{Met}
 use Rattle.engine_pages.specs.declared.view.View.{View}
 use Rattle.script_grammar.specs.Script.{Round, keeper_lines}
+use Rattle.page_drops.specs.declared.calls.Dropped.{Dropped}
 use Rattle.script_grammar.specs.declared.lines.KeeperLine.{KeeperLine}
+use Rattle.script_grammar.specs.declared.lines.KeeperLine.TheVariants as asks
 use Rattle.tx_script.specs.Run.{CanRun}
 use Rattle.tx_script.specs.Seen.{NeverBack, first_places}
 use Rattle.tx_script.specs.declared.answer.Answer.{Answer}
+use Rattle.tx_script.specs.declared.answer.Answer.TheVariants as answers
 use Rattle.worker_logs.specs.Logs.{fresh_log}
 use Rattle.worker_logs.specs.Shown.{Stood}
 use Rattle.worker_logs.specs.declared.savepoints.Beside.{Beside}
 use Rattle.worker_logs.specs.declared.savepoints.Side.{Side}
 use Rattle.shared_rounds.specs.Below.{AreClaimed, calls_for, calls_in, mets_of}
-use Rattle.shared_rounds.specs.Beside.{Went}
+use Rattle.shared_rounds.specs.Beside.{HoldsNothing, Went}
+use Rattle.shared_rounds.specs.Drops.{HasDropped}
 use Rattle.round_engine.specs.Ends.{save_limited}
 use Rattle.round_engine.specs.Keeping.{CanKeep, RunsKeeper, seen_unless, StepsKeeper, StepsSave}
 use Rattle.round_engine.specs.RoundCalls.{is_answered}
@@ -43,10 +49,10 @@ use Rattle.round_engine.specs.declared.keeper.KeeperEnd.{KeeperEnd}
 use Rattle.round_engine.specs.declared.report.End.{End}
 use Rattle.round_engine.specs.declared.keeper_side.Lent.{Lent}
 
--- an engine of words with these storages, so many slots and these pages, at an epoch of the clock, as one of which
--- nothing else is known
-abbrev pub bare_stands : List Decl → ℕ → ℕ → List (List ℕ) → ℕ → Standing
-bare_stands decls epoch slots pages resident = record {
+-- an engine of words with these storages, so many slots, these pages and these counts of drops, at an epoch of the
+-- clock, as one of which nothing else is known
+abbrev pub bare_stands : List Decl → ℕ → ℕ → List (List ℕ) → ℕ → List Counts → Standing
+bare_stands decls epoch slots pages resident drops = record {
   decls = decls;
   state = empty;
   opening = [];
@@ -56,12 +62,13 @@ bare_stands decls epoch slots pages resident = record {
   slots = slots;
   pages = pages;
   resident = resident;
+  drops = drops;
   ended = false;
 }
 
 -- what the pass of the maintenance thread knows of its engine
 abbrev pub stands_in_view : List Decl → View → Standing
-stands_in_view decls v = bare_stands decls v.epoch v.layout.slots v.pages v.layout.resident
+stands_in_view decls v = bare_stands decls v.epoch v.layout.slots v.pages v.layout.resident v.drops
 
 -- What is lent of a runtime with these storages, where its pass knows this of the engine, as a runtime that has nothing
 -- else. No line of the maintenance thread looks at the rest.
@@ -177,6 +184,9 @@ module _ {D : Type 0} (tells : D → Option (List ℕ)) (clock : D → ℕ) (ima
     pub slots : 0 < v.layout.slots
     pub few : v.layout.resident ≤ 65536
     pub claimed : AreClaimed v
+    pub rests : IsResting v.seat
+    pub free : HoldsNothing v
+    pub declared : AreDecls v.layout.decls
 
   -- What all lines of a round want of what is lent, with room for so many answers: none was run yet.
   pub record CanRunBeside (round : Round) (lent : Lent) (vault : Vault D) (said : List Answer) (room : ℕ)
@@ -190,6 +200,13 @@ module _ {D : Type 0} (tells : D → Option (List ℕ)) (clock : D → ℕ) (ima
     pub refusal : end.refusal ≡ None
     pub limited : end.limited ≡ false
     pub calls : calls_in end.calls ≡ []
+
+-- A drop that was run went over the newest snapshot's roots of these pages, and what is answered is what it came to.
+-- Nothing is said here of other lines.
+abbrev pub DropsBeside : Option End → KeeperLine → Answer → List (List ℕ) → View → View → Type 0
+DropsBeside None asks.Drop (answers.Drop dropped kept) pages v w =
+    (tally : Dropped) × (tally.dropped ≡ dropped) × (tally.kept ≡ kept) × HasDropped pages tally v w
+DropsBeside refusal line answer pages v w = ⊤
 
 module _ {D : Type 0} (tells : D → Option (List ℕ)) (clock : D → ℕ) (image_at : D → ℕ → List ℕ → Type 0)
     (faults : D → ℕ) where
@@ -209,10 +226,11 @@ module _ {D : Type 0} (tells : D → Option (List ℕ)) (clock : D → ℕ) (ima
     pub steps : StepsKeeper tells clock image_at faults marks refusal line answer next (lent_at decls old v)
         (lent_at decls new w) before now
     pub saw : HasSeenMarks (seen_unless refusal line marks) v w
+    pub dropped : DropsBeside refusal line answer (words_of old.store.now.pages) v w
     pub went : Went v w
 
   -- Lines were run, one after another.
-  pub record RunsBeside (decls : List Decl) (lines : List KeeperLine) (said : List Answer) (refusal : Option End)
+  pub record RunLinesBeside (decls : List Decl) (lines : List KeeperLine) (said : List Answer) (refusal : Option End)
       (old new : Lent) (v w : View) (before now : Vault D) : Type 0 where
     pub seen : List (List Mark)
     pub runs : RunsKeeper tells clock image_at faults seen lines said refusal (lent_at decls old v)
@@ -223,6 +241,6 @@ module _ {D : Type 0} (tells : D → Option (List ℕ)) (clock : D → ℕ) (ima
   -- They were run: what was answered, what was refused, and what the gate was told.
   pub record HasRunBeside (round : Round) (old new : Lent) (before now : Vault D) (said : List Answer) (end : KeeperEnd)
       (v w : View) : Type 0 where
-    pub runs : RunsBeside v.layout.decls (keeper_lines round) said end.refusal old new v w before now
+    pub runs : RunLinesBeside v.layout.decls (keeper_lines round) said end.refusal old new v w before now
     pub limited : end.limited ≡ save_limited (keeper_lines round) said
     pub calls : calls_in end.calls ≡ calls_for is_answered 255 0 said

@@ -201,6 +201,8 @@ impl Engine {
             × IfOk result (λ ran. AreLastOf marks logs.new.items) }
         ensures epoch { self.new.clock.epoch ≡ self.old.clock.epoch }
         ensures pages { self.new.pages ≡ self.old.pages }
+        ensures drops { self.new.drops ≡ self.old.drops }
+        ensures map { self.new.slots ≡ 0 }
         ensures once { IfOk result (λ ran. DrewOnce self.old self.new ran.outcomes) }
         ensures calls { IfOk result (λ ran. AreAllTold 0 ran.outcomes ran.ends.items) }
     {
@@ -219,7 +221,7 @@ impl Engine {
     /// Runs all workers' lines on words that threads share, each of them so often at most, over their logs and log
     /// files, and beside them what the maintenance thread has to do. In room that was made for them they want no
     /// memory.
-    pub(crate) fn run_together<
+    pub(crate) fn run_shared<
         R: Threads + Sync,
         D: Disk + Send + Drop,
         G: LineGate + Sync,

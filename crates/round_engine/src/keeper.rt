@@ -2,12 +2,14 @@
 ghost use Rattle.std.specs.Prelude.{◌≡◌, ◌≤◌, ◌<◌, ◌+◌, ◌||◌, [], None, false, length, vec_capacity, ◌++◌, ◌∷◌};
 ghost use Rattle.std.specs.Prelude.{ℕ, List};
 ghost use Rattle.tx_script.specs.declared.answer.Answer.{Answer};
-ghost use Rattle.script_grammar.specs.Script.{IsAsked, keeper_lines};
+ghost use Rattle.tx_script.specs.declared.answer.Answer.TheVariants as answers;
+ghost use Rattle.script_grammar.specs.Script.{keeper_lines};
 ghost use Rattle.tx_script.specs.Run.{CanRun};
 ghost use Rattle.shared_rounds.specs.Below.{Before, IsTold, calls_for, calls_in, calls_of};
 ghost use Rattle.worker_logs.specs.Saves.{SavesMarks, logs_marks};
 ghost use Rattle.round_engine.specs.Ends.{save_limited};
-ghost use Rattle.round_engine.specs.Keeping.{CanKeep, RunsBehind, StepsEpoch, StepsGlean, StepsKeeper, StepsLine};
+ghost use Rattle.round_engine.specs.Keeping.{CanKeep, RunsBehind, StepsDrop, StepsEpoch, StepsGlean, StepsKeeper};
+ghost use Rattle.round_engine.specs.Keeping.{StepsLine};
 ghost use Rattle.round_engine.specs.Keeping.{StepsSave, glean_answer, glean_refusal, is_limited, refusal_beside};
 ghost use Rattle.round_engine.specs.Keeping.{save_answer, save_refusal};
 ghost use Rattle.round_engine.specs.RoundCalls.{is_answered};
@@ -19,7 +21,7 @@ use gleaner::{GleanFault, Gleaned, Gleaning};
 use lists::OrMemory;
 use log_writer::{SaveFault, Vault};
 use outside::{Device, Disk};
-use shared_rounds::{GateCalls, LineGate};
+use shared_rounds::{Dropped, GateCalls, LineGate};
 use std::alloc::Global;
 use std::sync::Wait;
 use std::thread::Threads;
@@ -56,7 +58,7 @@ impl KeeperEnd {
 }
 
 /// Runs the lines of the maintenance thread, each between two calls of the gate, and adds their answers. Behind a
-/// refused one none is run.
+/// refused one none is run. The lines were run on the map, so no page is in memory.
 pub(crate) fn run_keeper<R: Threads + Wait + Sync, D: Disk + Send, G: LineGate>(
     rt: &R,
     alloc: Global,
@@ -69,6 +71,7 @@ pub(crate) fn run_keeper<R: Threads + Wait + Sync, D: Disk + Send, G: LineGate>(
     requires lines { CanRun runtime.old.stands.decls round.now }
     requires none { answers.old.items ≡ [] }
     requires answer_room { length (keeper_lines round.now) ≤ vec_capacity answers.old }
+    requires map { runtime.old.stands.slots ≡ 0 }
     requires ready { CanKeep D.tells D.clock D.image_at runtime.old vault.old }
     requires tie_room { length (keeper_lines round.now) ≤ vault.old.ties.room }
     ensures runs { RunsBehind D.tells D.clock D.image_at D.faults (keeper_lines round.now) answers.new.items
@@ -103,7 +106,7 @@ fn answer_line<R: Threads + Wait + Sync, D: Disk + Send, G: LineGate>(
     count: u32,
     end: &mut KeeperEnd,
 ) -> Answer
-    requires can { IsAsked line }
+    requires map { runtime.old.stands.slots ≡ 0 }
     requires ready { end.old.refusal ≡ None → CanKeep D.tells D.clock D.image_at runtime.old vault.old }
     requires tie_room { 1 ≤ vault.old.ties.room }
     requires calls { end.old.refusal ≡ None → calls_in end.old.calls ≡ calls_of 255 count }
@@ -146,7 +149,7 @@ fn run_line<R: Threads + Wait + Sync, D: Disk + Send>(
     line: KeeperLine,
     calls: &GateCalls,
 ) -> (Answer, Option<End>)
-    requires can { IsAsked line }
+    requires map { runtime.old.stands.slots ≡ 0 }
     requires begun { (count : ℕ) × (calls_in calls.now ≡ calls_of 255 count ++ Before 255 count ∷ []) }
     requires ready { CanKeep D.tells D.clock D.image_at runtime.old vault.old }
     requires tie_room { 1 ≤ vault.old.ties.room }
@@ -158,7 +161,7 @@ fn run_line<R: Threads + Wait + Sync, D: Disk + Send>(
         KeeperLine::Epoch => (advance_line(runtime), None),
         KeeperLine::Save => save_line(runtime, vault),
         KeeperLine::Glean => glean_line(rt, alloc, runtime, vault),
-        KeeperLine::Drop => unreachable!(),
+        KeeperLine::Drop => (drop_nothing(runtime), None),
     }
 }
 
@@ -171,6 +174,18 @@ fn advance_line(runtime: &mut Runtime) -> Answer
             epoch: runtime.engine.clock().epoch,
         },
         Err(_) => Answer::Limit,
+    }
+}
+
+// Answers a drop where no page is in memory.
+fn drop_nothing(runtime: &Runtime) -> Answer
+    requires map { runtime.now.stands.slots ≡ 0 }
+    ensures { StepsDrop result runtime.now runtime.now }
+{
+    let _ = runtime;
+    Answer::Drop {
+        dropped: 0,
+        kept: 0,
     }
 }
 
@@ -211,6 +226,18 @@ fn glean_line<R: Threads + Wait + Sync, D: Disk + Send>(
         runtime.old runtime.new vault.old vault.new }
 {
     told_of_glean(glean_closed(rt, alloc, runtime, vault))
+}
+
+/// What is told of a drop.
+pub(crate) fn told_of_drop(drops: Dropped) -> (Answer, Option<End>)
+    ensures answer { result.0 ≡ answers.Drop drops.dropped drops.kept }
+    ensures refusal { result.1 ≡ None }
+{
+    let answer = Answer::Drop {
+        dropped: drops.dropped,
+        kept: drops.kept,
+    };
+    (answer, None)
 }
 
 /// What is told of a glean: the answer, and the refusal behind which no line is run.

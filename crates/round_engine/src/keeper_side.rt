@@ -5,7 +5,7 @@ ghost use Rattle.serial_model.specs.declared.decl.Decl.{Decl as TheDecl};
 ghost use Rattle.engine_pages.specs.Passes.{IsPassOf, view};
 ghost use Rattle.engine_pages.specs.declared.view.Role.TheVariants.{Keeper};
 ghost use Rattle.tx_script.specs.declared.answer.Answer.{Answer as TheAnswer};
-ghost use Rattle.script_grammar.specs.Script.{IsAsked, keeper_lines};
+ghost use Rattle.script_grammar.specs.Script.{keeper_lines};
 ghost use Rattle.tx_script.specs.Run.{CanRun};
 ghost use Rattle.shared_rounds.specs.Below.{AreClaimed, Before, IsTold, calls_for, calls_in, calls_of};
 ghost use Rattle.shared_rounds.specs.Beside.{Went};
@@ -15,14 +15,14 @@ ghost use Rattle.round_engine.specs.Ends.{save_limited};
 ghost use Rattle.round_engine.specs.Keeping.{StepsEpoch, at_epoch, is_limited, save_refusal};
 ghost use Rattle.round_engine.specs.RoundCalls.{is_answered};
 ghost use Rattle.round_engine.specs.Gleans.{CanPublish, Gleans, has_made, pages_after};
-ghost use Rattle.round_engine.specs.SideLines.{CanKeepBeside, HasSeenMarks, RunsBeside, SavesBeside, StepsBeside};
+ghost use Rattle.round_engine.specs.SideLines.{CanKeepBeside, HasSeenMarks, RunLinesBeside, SavesBeside, StepsBeside};
 ghost use Rattle.round_engine.specs.SideLines.{AreSameLoans, CanGleanOver, HasGleanedOver, beside_in, closed_in_lent};
 ghost use Rattle.round_engine.specs.SideLines.{lent_at, stands_in_view};
 ghost use Rattle.round_engine.specs.Standing.{RuntimeState};
 
 use crate::End;
 use crate::gleans::{counted_behind, has_made, newest_in};
-use crate::keeper::{KEEPER, KeeperEnd, met_limit, told_of_glean, told_of_save};
+use crate::keeper::{KEEPER, KeeperEnd, met_limit, told_of_drop, told_of_glean, told_of_save};
 use crate::sides::is_odd;
 use engine_pages::{Engine, Pass};
 use gleaner::{Closed, GleanFault, Gleaned, Gleaning, Newest};
@@ -31,7 +31,8 @@ use log_writer::{Save, Vault};
 use outside::Disk;
 use serial_model::Decl;
 use shared_rounds::{
-    Beside as RunsBesideWorkers, GateCalls, LineGate, advance, load_epoch, marks, publish_new,
+    Beside as RunsBesideWorkers, GateCalls, LineGate, advance, drop_pages, load_epoch, marks,
+    publish_new,
 };
 use snapshot_store::SnapStore;
 use std::alloc::Global;
@@ -116,7 +117,7 @@ impl<
     }
 
     fn run(&mut self, engine: &Engine, keeper: &mut Pass, decls: &[Decl]) {
-        self.end = run_beside(
+        self.end = run_keeper_beside(
             self.rt,
             self.alloc,
             engine,
@@ -134,7 +135,7 @@ impl<
 
 /// Runs the lines of the maintenance thread on its pass, each between two calls of the gate, and adds their answers.
 /// Behind a refused one none is run.
-pub(crate) fn run_beside<
+pub(crate) fn run_keeper_beside<
     R,
     D: Disk,
     G: LineGate,
@@ -178,7 +179,7 @@ pub(crate) fn run_beside<
         → HasGleanedOver D.tells D.clock D.image_at D.faults grows storages.now last counted.now most
         pages.now pages_after.now disks.now disks_after.now answer.answer answer.beside }
     ensures of { IsPassOf engine.now keeper.new }
-    ensures runs { RunsBeside D.tells D.clock D.image_at D.faults decls.now (keeper_lines round.now)
+    ensures runs { RunLinesBeside D.tells D.clock D.image_at D.faults decls.now (keeper_lines round.now)
         answers.new.items result.refusal lent.old lent.new (view keeper.old) (view keeper.new)
         vault.old vault.new }
     ensures limited { result.limited ≡ save_limited (keeper_lines round.now) answers.new.items }
@@ -232,7 +233,6 @@ fn answer_beside<
     requires of { IsPassOf engine.now keeper.old }
     requires keeper { (view keeper.old).role ≡ Keeper }
     requires made { (view keeper.old).made ≢ [] }
-    requires can { IsAsked line }
     requires ready { end.old.refusal ≡ None
         → CanKeepBeside D.tells D.clock D.image_at decls.now lent.old (view keeper.old) vault.old }
     requires tie_room { 1 ≤ vault.old.ties.room }
@@ -298,7 +298,6 @@ fn line_beside<
     requires of { IsPassOf engine.now keeper.old }
     requires keeper { (view keeper.old).role ≡ Keeper }
     requires made { (view keeper.old).made ≢ [] }
-    requires can { IsAsked line }
     requires begun { (count : ℕ) × (calls_in calls.now ≡ calls_of 255 count ++ Before 255 count ∷ []) }
     requires ready { CanKeepBeside D.tells D.clock D.image_at decls.now lent.old (view keeper.old) vault.old }
     requires tie_room { 1 ≤ vault.old.ties.room }
@@ -321,7 +320,7 @@ fn line_beside<
         KeeperLine::Glean => {
             told_of_glean(glean_beside(rt, alloc, engine, keeper, decls, lent, vault, glean))
         }
-        KeeperLine::Drop => unreachable!(),
+        KeeperLine::Drop => told_of_drop(drop_pages(engine, keeper, lent.store)),
     }
 }
 
@@ -334,6 +333,7 @@ fn advance_beside(engine: &Engine, keeper: &mut Pass) -> Answer
     ensures steps { (r : RuntimeState) → StepsEpoch result (at_epoch r (view keeper.old).epoch)
         (at_epoch r (view keeper.new).epoch) }
     ensures pages { (view keeper.new).pages ≡ (view keeper.old).pages }
+    ensures drops { (view keeper.new).drops ≡ (view keeper.old).drops }
     ensures saw { HasSeenMarks [] (view keeper.old) (view keeper.new) }
     ensures went { Went (view keeper.old) (view keeper.new) }
 {

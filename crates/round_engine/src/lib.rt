@@ -5,16 +5,18 @@
 //! - [`round`]: one outcome for each line and one answer for each line of the maintenance thread, each with its cause;
 //!   the commits, in order of number, are a serial run from the standing before to the one after, and the logs have
 //!   what they changed; each number was drawn for a commit or for a try that was refused behind its draw; a try in
-//!   conflict at a record met a line of another worker of the round; on words the commits are those of their history;
-//!   the join makes the round's last epoch durable or ends the run, with the first refusal (`rounds`, by `RanRound`).
-//!   On words a save of the maintenance thread goes by the marks that stood as it loaded them, none before one that an
-//!   earlier save of the round loaded (`beside`, by `CausedBeside`); and each mark that is shown to others has a moment
-//!   of its log file's clock from which on every image of the file has what it counts (`since` of `LeavesLog`). A line
-//!   is left out only where its worker's log refused one earlier in the round (`rounds`, by `LeavesLinesOut`). Of the
-//!   vault, each log file grew by its worker's lines and its marks count what is durable; the savepoints stored are
-//!   those that are told (`rounds`, by `LeavesVault`). After want of memory all is as it was (`IsUnbegun`), as always
-//!   where lines run on words (`unbegun`); or a front of the workers' lines was run on the map, nothing was stored, and
-//!   the run has ended (`rounds`, by `StopsIn`).
+//!   conflict at a record met a line of another worker of the round, or pages were dropped in it (`met`); a drop
+//!   answers what the engine counts of it (`dropped`); on words the commits are those of their history; the join makes
+//!   the round's last epoch durable or ends the run, with the first refusal (`rounds`, by `RanRound`). On words a save
+//!   of the maintenance thread goes by the marks that stood as it loaded them, none before one that an earlier save of
+//!   the round loaded (`beside`, by `CausedBeside`); and each mark that is shown to others has a moment of its log
+//!   file's clock from which on every image of the file has what it counts, and, unless it is the round's begin, at
+//!   which none has more of what is durable (`since` of `LeavesLog`). A line is left out only where its worker's log
+//!   refused one earlier in the round (`rounds`, by `LeavesLinesOut`). Of the vault, each log file grew by its worker's
+//!   lines and its marks count what is durable; the savepoints stored are those that are told (`rounds`, by
+//!   `LeavesVault`). After want of memory all is as it was (`IsUnbegun`), as always where lines run on words
+//!   (`unbegun`); or a front of the workers' lines was run on the map, nothing was stored, and the run has ended
+//!   (`rounds`, by `StopsIn`).
 //! - [`join_round`]: the same of a round without lines (`joins`, by `Joins`).
 //! - [`Runtime::is_down`]: behind a round or a join just where a device failed (`down` of `RanRound` and `Joins`), and
 //!   where memory was wanted within a round (`down` of `StopsIn`).

@@ -364,7 +364,7 @@ fn run_apart<R: Threads + Wait + Sync, D: Disk + Send + Drop, G: LineGate + Sync
         glean,
         end: KeeperEnd::none(),
     };
-    let ran = engine.run_together(rt, logs, growing, rooms, round, tries, gate, &mut keeper);
+    let ran = engine.run_shared(rt, logs, growing, rooms, round, tries, gate, &mut keeper);
     let end = keeper.end;
     (ran, end)
 }
@@ -457,6 +457,8 @@ fn run_lent<D: Disk + Drop, G: LineGate>(
         × IfOk result (λ ran. AreLastOf marks runtime.new.logs) }
     ensures epoch { runtime.new.stands.clock.epoch ≡ runtime.old.stands.clock.epoch }
     ensures pages { runtime.new.stands.pages ≡ runtime.old.stands.pages }
+    ensures drops { runtime.new.stands.drops ≡ runtime.old.stands.drops }
+    ensures map { runtime.new.stands.slots ≡ 0 }
     ensures once { IfOk result (λ ran. DrewOnce runtime.old.stands runtime.new.stands ran.outcomes) }
     ensures calls { IfOk result (λ ran. AreAllTold 0 ran.outcomes ran.ends.items) }
     ensures runtime { runtime.new ≡ record runtime.old { stands = runtime.new.stands; logs = runtime.new.logs } }

@@ -32,6 +32,7 @@ unused l = record {
   slots = l.slots;
   pages = l.pages;
   resident = l.resident;
+  drops = [];
 }
 
 pub new-requires-clause-can : goal.new-requires-clause-can

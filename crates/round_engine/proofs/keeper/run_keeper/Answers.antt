@@ -10,9 +10,10 @@ use Rattle.round_engine.specs.Ends.{save_limited}
 use Rattle.round_engine.specs.RoundCalls.{is_answered}
 use Rattle.shared_rounds.specs.Below.{calls_for, calls_in, told_none}
 use Rattle.round_engine.specs.Keeping.{is_limited, RunsBehind}
+use Rattle.round_engine.specs.Standing.{Standing}
 use Rattle.round_engine.specs.declared.report.End.{End}
 use Rattle.round_engine.proofs.KeeperSteps.{behind_begin, behind_can, behind_step, limited_on}
-use Rattle.round_engine.proofs.Loops.{asked_there, keeper_at, keeper_not, keepers_fewer}
+use Rattle.round_engine.proofs.Loops.{keeper_at, keeper_not, keepers_fewer}
 use Rattle.round_engine.proofs.keeper.run_keeper.Goals as goal
 use Rattle.round_engine.proofs.keeper.run_keeper.Goals.{in-Some, in_default}
 
@@ -121,7 +122,6 @@ returns g c =
       calls = inv.called.calls_are;
     }
 
-pub answer_line-answer-requires-clause-can : goal.answer_line-answer-requires-clause-can
-answer_line-answer-requires-clause-can g c κs within =
-    asked_there c.args.runtime.now.stands.decls c.args.round.now.lines c.loop-index.index c.in-Some.line c.in-Some.ensures
-    c.requires.lines.lines
+pub answer_line-answer-requires-clause-map : goal.answer_line-answer-requires-clause-map
+answer_line-answer-requires-clause-map g c κs within =
+    ap (λ (s : Standing). s.slots) c.loop-index.invariant.runs.runs.stands ∙ c.requires.map

@@ -1,7 +1,7 @@
 -- What an advance of the clock tells.
 use Rattle.engine_pages.specs.Passes.{view}
-use Rattle.round_engine.proofs.SideCalls.{advance_pages, advance_saw, advance_steps, advance_went, limit_pages, limit_saw}
-use Rattle.round_engine.proofs.SideCalls.{limit_steps, limit_went}
+use Rattle.round_engine.proofs.SideCalls.{advance_drops, advance_pages, advance_saw, advance_steps, advance_went}
+use Rattle.round_engine.proofs.SideCalls.{limit_drops, limit_pages, limit_saw, limit_steps, limit_went}
 use Rattle.round_engine.proofs.keeper_side.advance_beside.Goals as goal
 
 pub returns-in-Ok-clause-steps : goal.returns-in-Ok-clause-steps
@@ -34,4 +34,12 @@ returns-in-Ok-clause-pages c = advance_pages (view c.args.keeper.now) (view c.ad
 
 pub returns-in-Err-clause-pages : goal.returns-in-Err-clause-pages
 returns-in-Err-clause-pages c = limit_pages (view c.args.keeper.now) (view c.advance.new.keeper) c.requires.keeper
+    c.in-Err.field-0.clock c.in-Err.ensures.limit
+
+pub returns-in-Ok-clause-drops : goal.returns-in-Ok-clause-drops
+returns-in-Ok-clause-drops c = advance_drops (view c.args.keeper.now) (view c.advance.new.keeper) c.requires.keeper
+    c.in-Ok.epoch c.in-Ok.ensures.advances
+
+pub returns-in-Err-clause-drops : goal.returns-in-Err-clause-drops
+returns-in-Err-clause-drops c = limit_drops (view c.args.keeper.now) (view c.advance.new.keeper) c.requires.keeper
     c.in-Err.field-0.clock c.in-Err.ensures.limit

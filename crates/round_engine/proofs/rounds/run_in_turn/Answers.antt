@@ -33,8 +33,12 @@ run_keeper-keeper-requires-clause-ready g c κs within =
     let lent = c.in_ok-ran.ensures in
     let come = lent.runs 1 (omega arith) in
     can_keep c.requires.up c.requires.whole c.requires.ready c.requires.passed come.2.come
-    (begun_alone c.args.runtime.now c.run_lent.new.runtime lent.epoch lent.pages lent.runtime) (room_none c.args.vault.now)
+    (begun_alone c.args.runtime.now c.run_lent.new.runtime lent.epoch lent.pages lent.drops lent.runtime)
+    (room_none c.args.vault.now)
     lent.vault
+
+pub run_keeper-keeper-requires-clause-map : goal.run_keeper-keeper-requires-clause-map
+run_keeper-keeper-requires-clause-map g c κs within = c.in_ok-ran.ensures.map
 
 pub returns-clause-runs : goal.returns-clause-runs
 returns-clause-runs g c tries some =
@@ -43,7 +47,7 @@ returns-clause-runs g c tries some =
     in_turn_ran c.args.runtime.now c.run_lent.new.runtime c.run_keeper-keeper.new.runtime c.args.vault.now
     c.run_lent.new.vault c.run_keeper-keeper.new.vault c.in_ok-ran.ran c.run_keeper-keeper.new.answers.items
     c.run_keeper-keeper.result.refusal come.0 come.1 c.requires.plain come.2.come c.requires.ready.workers
-    come.3 lent.epoch lent.pages lent.once lent.runtime lent.vault c.run_keeper-keeper.ensures.runs
+    come.3 lent.epoch lent.pages lent.drops lent.map lent.once lent.runtime lent.vault c.run_keeper-keeper.ensures.runs
 
 pub returns-clause-calls : goal.returns-clause-calls
 returns-clause-calls g c = (c.in_ok-ran.ensures.calls, c.run_keeper-keeper.ensures.calls)

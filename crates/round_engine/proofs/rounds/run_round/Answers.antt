@@ -77,6 +77,7 @@ returns-clause-phases g c =
       history = ran.history;
       alone = ran.alone;
       later = ran.later;
+      drops = ran.drops;
       room = room_none c.args.vault.now;
       beside = ran.beside;
       seen = ran.seen;

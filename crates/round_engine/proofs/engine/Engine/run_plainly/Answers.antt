@@ -40,6 +40,8 @@ returns g c =
       );
       epoch = ran.epoch ∙ ap (λ (s : Standing). s.clock.epoch) old;
       pages = ran.pages ∙ ap (λ (s : Standing). s.pages) old;
+      drops = ran.drops ∙ ap (λ (s : Standing). s.drops) old;
+      map = ran.no_slots;
       once = plain_once_alone c.in-Plain.engine c.run_workers.new.engine c.args.self.now c.self.inside.ended
           c.run_workers.result old ran.once;
       calls = ran.calls;

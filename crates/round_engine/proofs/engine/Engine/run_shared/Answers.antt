@@ -8,7 +8,7 @@ use Rattle.shared_rounds.specs.Standing.{Standing}
 use Rattle.round_engine.specs.Histories.{KeepsHistory}
 use Rattle.round_engine.specs.LineEngines.{SharesWords}
 use Rattle.round_engine.proofs.LineEngines.{no_tree, plain_goes, plain_stands, shared_stands}
-use Rattle.round_engine.proofs.engine.Engine.run_together.Goals as goal
+use Rattle.round_engine.proofs.engine.Engine.run_shared.Goals as goal
 
 -- the plain map doesn't run them
 pub unreachable-requires : goal.unreachable-requires

@@ -11,13 +11,13 @@ use Rattle.round_engine.specs.Ends.{save_limited}
 use Rattle.round_engine.specs.RoundCalls.{is_answered}
 use Rattle.shared_rounds.specs.Below.{calls_in, told_none}
 use Rattle.round_engine.specs.Keeping.{is_limited}
-use Rattle.round_engine.specs.SideLines.{RunsBeside}
+use Rattle.round_engine.specs.SideLines.{RunLinesBeside}
 use Rattle.round_engine.specs.declared.report.End.{End}
 use Rattle.round_engine.proofs.KeeperSteps.{limited_on}
-use Rattle.round_engine.proofs.Loops.{asked_there, keeper_at, keeper_not, keepers_fewer}
+use Rattle.round_engine.proofs.Loops.{keeper_at, keeper_not, keepers_fewer}
 use Rattle.round_engine.proofs.SideSteps.{beside_begin, beside_can, beside_step}
-use Rattle.round_engine.proofs.keeper_side.run_beside.Goals as goal
-use Rattle.round_engine.proofs.keeper_side.run_beside.Goals.{in-Some, in_default}
+use Rattle.round_engine.proofs.keeper_side.run_keeper_beside.Goals as goal
+use Rattle.round_engine.proofs.keeper_side.run_keeper_beside.Goals.{in-Some, in_default}
 
 pub loop-index-init : goal.loop-index-init
 loop-index-init g c = record {
@@ -43,7 +43,7 @@ answer_beside-answer-requires-clause-made g c none =
 pub answer_beside-answer-requires-clause-ready : goal.answer_beside-answer-requires-clause-ready
 answer_beside-answer-requires-clause-ready g c none =
     beside_can c.args.decls.now c.args.lent.now (view c.args.keeper.now) c.args.vault.now c.requires.ready
-    (subst (λ (e : Option End). RunsBeside g.D.Disk.tells g.D.Disk.clock g.D.Disk.image_at g.D.Disk.faults c.args.decls.now
+    (subst (λ (e : Option End). RunLinesBeside g.D.Disk.tells g.D.Disk.clock g.D.Disk.image_at g.D.Disk.faults c.args.decls.now
     (filter_map keeper_line_of (take c.loop-index.index c.args.round.now.lines)) c.loop-index.answers.items e
     c.args.lent.now c.loop-index.lent (view c.args.keeper.now) (view c.loop-index.keeper) c.args.vault.now
     c.loop-index.vault) none c.loop-index.invariant.runs)
@@ -57,11 +57,6 @@ answer_beside-answer-requires-clause-tie_room g c =
       c.requires.tie_room,
       keepers_fewer c.args.round.now.lines c.loop-index.index c.in-Some.line c.in-Some.ensures,
     )
-
-pub answer_beside-answer-requires-clause-can : goal.answer_beside-answer-requires-clause-can
-answer_beside-answer-requires-clause-can g c =
-    asked_there c.args.decls.now c.args.round.now.lines c.loop-index.index c.in-Some.line c.in-Some.ensures
-    c.requires.lines.lines
 
 pub push_reserved-requires : goal.push_reserved-requires
 push_reserved-requires g c =
@@ -89,7 +84,7 @@ loop-index-preserved g c =
           let at = keeper_at c.args.round.now.lines c.loop-index.index w.in-Some.line w.in-Some.ensures in
           rw (w.keeper-is, w.lent-is, w.vault-is, w.answers-is, w.end-is, w.count-is, w.push_reserved.ensures.items) (record {
             of = next.ensures.of;
-            runs = subst (λ (ls : List KeeperLine). RunsBeside g.D.Disk.tells g.D.Disk.clock g.D.Disk.image_at g.D.Disk.faults
+            runs = subst (λ (ls : List KeeperLine). RunLinesBeside g.D.Disk.tells g.D.Disk.clock g.D.Disk.image_at g.D.Disk.faults
                 c.args.decls.now ls (c.loop-index.answers.items ++ next.result ∷ []) next.new.end.refusal c.args.lent.now
                 next.new.lent (view c.args.keeper.now) (view next.new.keeper) c.args.vault.now next.new.vault) (sym at) one;
             limited = next.ensures.limited ∙ ap (λ b. b || is_limited w.in-Some.line next.result) inv.limited
@@ -108,7 +103,7 @@ loop-index-preserved g c =
           let not = keeper_not c.args.round.now.lines c.loop-index.index w.in_default.ensures in
           rw (w.keeper-is, w.lent-is, w.vault-is, w.answers-is, w.end-is, w.count-is) (record {
             of = inv.of;
-            runs = subst (λ (ls : List KeeperLine). RunsBeside g.D.Disk.tells g.D.Disk.clock g.D.Disk.image_at g.D.Disk.faults
+            runs = subst (λ (ls : List KeeperLine). RunLinesBeside g.D.Disk.tells g.D.Disk.clock g.D.Disk.image_at g.D.Disk.faults
                 c.args.decls.now ls c.loop-index.answers.items c.loop-index.end.refusal c.args.lent.now c.loop-index.lent
                 (view c.args.keeper.now) (view c.loop-index.keeper) c.args.vault.now c.loop-index.vault) (sym not) inv.runs;
             limited = inv.limited
@@ -127,7 +122,7 @@ returns g c =
     (omega (arith, c.loop-index-test.false, c.len-index-end.ensures)) in
     record {
       of = inv.of;
-      runs = subst (λ ls. RunsBeside g.D.Disk.tells g.D.Disk.clock g.D.Disk.image_at g.D.Disk.faults c.args.decls.now
+      runs = subst (λ ls. RunLinesBeside g.D.Disk.tells g.D.Disk.clock g.D.Disk.image_at g.D.Disk.faults c.args.decls.now
           (filter_map keeper_line_of ls) c.loop-index.answers.items c.loop-index.end.refusal c.args.lent.now
           c.loop-index.lent (view c.args.keeper.now) (view c.loop-index.keeper) c.args.vault.now c.loop-index.vault) all
           inv.runs;

@@ -70,8 +70,9 @@ abbrev pub HaveSlots : ℕ → List Decl → State → List Ran → Type 0
 HaveSlots slots decls s rans = (storages : List Decl) × SameDecls decls storages
     × (are_arrays storages s ≡ true → AllByRecursion (λ ran. ran.beside.slots ≡ slots) rans)
 
--- in the first of these rounds each try in conflict at a record met a line of another worker of its round; of one in
--- conflict at a pointer or a slot nobody is told; and a line that found no slot may change some key
+-- in the first of these rounds each try in conflict at a record met a line of another worker of its round, or pages were
+-- dropped in the round; of one in conflict at a pointer or a slot nobody is told; and a line that found no slot may change
+-- some key
 abbrev pub AllMet : List Ran → List Round → Type 0
 AllMet [] rounds = ⊤
 AllMet (ran ∷ rans) (round ∷ rounds) = AreMet ran round × AllMet rans rounds
@@ -81,9 +82,10 @@ AllMet (ran ∷ rans) [] = ⊥
 -- of the savepoints, the marks of the workers, how often a line may be tried, and how many slots there are, which these
 -- causes speak of. Each number of a round was drawn for one of its commits, or for a try that was refused behind its
 -- draw. A try in conflict at a record met a line of another worker of its round, at a key that it touches and that one
--- may change; of one in conflict at a pointer or a slot nobody is told. A line that found no slot may change some key.
--- Where a tree is declared nobody is in a line's way. Saves that may run beside the workers name the least of the
--- clock's epoch less 1 and of the marks that they saw.
+-- may change, or touches a key there in a round in which pages were dropped; of one in conflict at a pointer or a slot
+-- nobody is told. A line that found no slot may change some key. Where a tree is declared nobody is in a line's way.
+-- Saves that may run beside the workers name the least of the clock's epoch less 1 and of the marks that they saw; drops
+-- of pages answer what the maintenance thread counted of them.
 pub record AreRoundsCaused (slots tries : ℕ) (decls : List Decl) (rounds : List Round) (opening : Opening)
     (rans : List Ran) : Type 0 where
   pub caused : AllByRecursion AllCaused rans

@@ -52,8 +52,8 @@ A script declares arrays (array ID SIZE) and trees (tree ID), and then has a lin
   d S K       removes key K of a tree   s S A B   reads the first 16 keys of a tree from A to B
 
 A line join ends a round, which is durable then; so does the end of the script. In a round k epoch ends the epoch,
-k save makes durable what has ended, and k glean makes a snapshot of what was durable as the log files last changed
-sides.
+k save makes durable what has ended, k glean makes a snapshot of what was durable as the log files last changed sides,
+and k drop takes out of memory the pages that the newest snapshot has.
 
 The last line of what is printed, and the status:
 

@@ -65,8 +65,8 @@ fn meaning(kind: FaultKind) -> &'static str {
     match kind {
         FaultKind::TooLong => "TooLong: a line has at most 1024 bytes",
         FaultKind::Word => {
-            "Word: a line is array ID SIZE, tree ID, a worker's as 0 w 1 2 7; r 1 2, k epoch, k save, k glean or \
-             join, with one space between words"
+            "Word: a line is array ID SIZE, tree ID, a worker's as 0 w 1 2 7; r 1 2, k epoch, k save, k glean, \
+             k drop or join, with one space between words"
         }
         FaultKind::Number => {
             "Number: numbers are 0 to 18446744073709551615, in digits without a leading zero"

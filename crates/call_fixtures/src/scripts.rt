@@ -94,8 +94,12 @@ run # tree 2|0 d 2 0 1| # 1 # script 2 Word|
 run # array 1 4|k glean # 0 # k.0 none|durable 1|
 run # array 1 4|0 w 1 0 1|join|k glean|k glean # 0 # 0.0 ok 1:1|durable 1|k.0 snap 1 new 2|k.1 none|durable 2|
 run --brief # array 1 4|0 w 1 0 1|join|k glean # 0 # commits 1|total 1|durable 2|
+run # k drop| # 0 # k.0 drop 0 kept 0|durable 1|
+run # array 1 4|k drop|k drop # 0 # k.0 drop 0 kept 0|k.1 drop 0 kept 0|durable 1|
+run --brief # array 1 4|0 w 1 0 1|join|k glean|k drop # 0 # commits 1|total 1|durable 2|
 run # k gleans| # 1 # script 1 Word|
-run # k drop| # 1 # script 1 Word|
+run # k drops| # 1 # script 1 Word|
+run # k drop 1| # 1 # script 1 Word|
 run # k epoch | # 1 # script 1 Word|
 run # k save 1| # 1 # script 1 Word|
 run # k| # 1 # script 1 Word|

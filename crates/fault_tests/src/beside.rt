@@ -1,4 +1,5 @@
-// Saves, epochs and snapshots beside the lines of eight workers, over devices of which one stops at each of its calls.
+// Saves, epochs, snapshots and drops beside the lines of eight workers, over devices of which one stops at each of its
+// calls.
 ghost use Rattle.outside.specs.Disk.{IfTold, Only};
 
 use super::stops::{fused_vault, stopped};
@@ -12,7 +13,7 @@ const MOST_CALLS: u64 = 200;
 const OTHERS: [&str; 2] = ["save", "snaps"];
 
 // The maintenance thread's lines of each round.
-const KEPT: &str = "k epoch\nk save\nk glean\nk epoch\nk save\n";
+const KEPT: &str = "k epoch\nk save\nk glean\nk drop\nk epoch\nk save\nk drop\n";
 
 // Line I of worker W adds W + 1 to the value of key I modulo 4.
 fn add_lines(alloc: Global, script: &mut String, count: u32) -> Result<(), AllocError> {
@@ -202,7 +203,7 @@ fn check_device<R: Threads + Wait + Sync + AllocGlobal>(
 #[test]
 fn a_device_stops_beside_running_lines(rt: HostRuntime) -> Result<(), Fail> {
     let first = fresh_vault(rt.alloc())?;
-    let script = script_of(rt.alloc(), 2, 3)?;
+    let script = script_of(rt.alloc(), 3, 2)?;
     for device in &OTHERS {
         check_device(&rt, &first, script.as_bytes(), device)?;
     }

@@ -14,10 +14,11 @@ struct Run {
     saved: &'static [&'static str],
 }
 
-// Two workers, whose log files change sides behind each snapshot.
+// Two workers, whose log files change sides behind each snapshot, and whose page is dropped where it may be.
 const OVER_NOTHING: Run = Run {
     before: None,
-    script: "array 1 4|0 w 1 2 7|1 w 1 3 5|join|0 a 1 2 1|k glean|join|1 w 1 0 9|k glean|k save|join|0 t 1 3 5|",
+    script: "array 1 4|0 w 1 2 7|1 w 1 3 5|join|0 a 1 2 1|k glean|join|k drop|1 w 1 0 9|k glean|k save|k drop|join|\
+0 t 1 3 5|",
     saved: &[
         "epoch 0|",
         "epoch 0|",
@@ -32,7 +33,7 @@ const OVER_NOTHING: Run = Run {
 // Log entries become a snapshot as it begins.
 const OVER_ENTRIES: Run = Run {
     before: Some("array 1 4|0 w 1 2 7|1 w 1 3 5|"),
-    script: "array 1 4|1 a 1 2 1|join|0 w 1 0 9|k glean|join|k glean|1 w 1 3 6|",
+    script: "array 1 4|1 a 1 2 1|join|0 w 1 0 9|k glean|k drop|join|k glean|k drop|1 w 1 3 6|",
     saved: &[
         "",
         "",

@@ -16,10 +16,10 @@ struct Runs {
     saved: &'static [(&'static str, &'static str)],
 }
 
-// A write, a snapshot, an empty round, and a read.
+// A write, a snapshot for which the page is dropped, an empty round, and a read.
 const OVER_NOTHING: Runs = Runs {
     before: None,
-    script: "array 1 4|0 w 1 2 7|join|k glean|join|join|0 r 1 2|",
+    script: "array 1 4|0 w 1 2 7|join|k glean|k drop|join|join|0 r 1 2|",
     first: 0,
     settled: 1,
     saved: &[
@@ -35,7 +35,7 @@ const OVER_NOTHING: Runs = Runs {
 // Over log entries, of which a snapshot is made first: two snapshots more, beside writes.
 const OVER_ENTRIES: Runs = Runs {
     before: Some("array 1 4|0 w 1 2 5|1 w 1 0 1|"),
-    script: "array 1 4|0 w 1 2 7|join|0 w 1 2 8|k glean|join|1 w 1 2 9|k glean|",
+    script: "array 1 4|0 w 1 2 7|join|0 w 1 2 8|k glean|k drop|join|1 w 1 2 9|k glean|",
     first: 2,
     settled: 3,
     saved: &[

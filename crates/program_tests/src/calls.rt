@@ -1,5 +1,5 @@
 // Whole calls: their words, scripts, statuses and texts.
-use super::{brief, gleans, kept_runs, listings, slots, *};
+use super::{brief, drops, gleans, kept_runs, listings, slots, *};
 
 // A save device of another length, with and without a script, and in brief.
 const A_SHORT_SAVE: &str = "\
@@ -11,7 +11,7 @@ run --brief # array 1 4|0 w 1 2 7| # 6 # damaged save 0|
 const LAST: u64 = (1 << 63) - 1;
 
 // Calls one after another over one vault: each begins where those before it ended.
-const CALLS: [(First, &str); 30] = [
+const CALLS: [(First, &str); 38] = [
     (First::Kept(0, 0, 0, 0), kept_runs::AFTER_RUNS_THAT_READ),
     (First::Kept(0, 0, 0, 0), kept_runs::AFTER_A_RUN_THAT_WROTE),
     (First::Kept(0, 0, 0, 0), kept_runs::AFTER_A_RUN_OVER_A_TREE),
@@ -60,6 +60,14 @@ const CALLS: [(First, &str); 30] = [
     (First::Fresh, slots::TWO_LEVELS),
     (First::Fresh, slots::THREE_LEVELS),
     (First::Fresh, slots::SEVERAL_ARRAYS),
+    (First::Fresh, drops::DROPPED),
+    (First::Fresh, drops::KEPT),
+    (First::Fresh, drops::WITHOUT_A_SNAPSHOT),
+    (First::Fresh, drops::OF_TWO_LEVELS),
+    (First::Fresh, drops::OF_THREE_LEVELS),
+    (First::Fresh, drops::OF_SEVERAL_ARRAYS),
+    (First::Fresh, drops::BESIDE_A_TREE),
+    (First::Fresh, drops::GIVEN_AGAIN),
 ];
 
 fn check_first<R: Threads + Wait + Sync + AllocGlobal>(

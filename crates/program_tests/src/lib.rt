@@ -11,6 +11,8 @@ mod brief;
 #[cfg(test)]
 mod calls;
 #[cfg(test)]
+mod drops;
+#[cfg(test)]
 mod dumps;
 #[cfg(test)]
 mod examples;

@@ -151,6 +151,18 @@ fn a_worker_in_a_line_holds_its_epoch_back(rt: HostRuntime) -> Result<(), Fail> 
     )
 }
 
+// A snapshot is made and its page dropped between two lines of a worker: the second one puts a copy in anew.
+#[test]
+fn a_drop_goes_by_between_two_lines(rt: HostRuntime) -> Result<(), Fail> {
+    check_held(
+        &rt,
+        &[((255, 0), (ENDS, 0, 0)), ((0, 1), (ENDS, 255, 1))],
+        "array 1 4|1 w 1 2 7|join|0 r 1 2|0 a 1 2 1; r 1 2|k glean|k drop|join|k drop|",
+        "1.0 ok 1:1|durable 1|0.0 ok 2:2 7|0.1 ok 2:3 8|k.0 snap 1 new 2|k.1 drop 1 kept 0|durable 2|k.0 drop 0 kept 1|\
+durable 3|",
+    )
+}
+
 // The next of some numbers.
 fn next(seed: &mut u64) -> u64 {
     *seed = seed
@@ -159,40 +171,67 @@ fn next(seed: &mut u64) -> u64 {
     *seed >> 33
 }
 
-const KEEPER_LINES: [&str; 4] = ["k epoch", "k save", "k glean", "k save"];
+const KEEPER_LINES: [&str; 8] = [
+    "k epoch", "k save", "k glean", "k drop", "k drop", "k save", "k glean", "k drop",
+];
+
+// How many values the array has, in 65 leaves below three other pages.
+const VALUES: u64 = 2080;
+
+const PAGES: u32 = 68;
+
+// A line of the maintenance thread, or of a worker that adds to one of 96 values from this one on, and reads anywhere.
+fn mixed_line(alloc: Global, seed: &mut u64, first: u64) -> Result<String, AllocError> {
+    let pick = next(seed);
+    if pick % 16 == 0 {
+        return String::from_str(alloc, KEEPER_LINES[pick as usize / 16 % 8]);
+    }
+    let one = first.wrapping_add(next(seed) % 96) % VALUES;
+    let two = next(seed) % VALUES;
+    format!(in alloc; "{} a 1 {one} {}; r 1 {two}", pick % 8, pick % 9)
+}
+
+// Adds so many such lines to a script.
+fn add_mixed(
+    alloc: Global,
+    script: &mut String,
+    seed: &mut u64,
+    first: u64,
+    count: u32,
+) -> Result<(), AllocError> {
+    for _ in 0..count {
+        let line = mixed_line(alloc, seed, first)?;
+        script.push_str(line.as_str())?;
+        script.push('\n')?;
+    }
+    Ok(())
+}
 
 // A script of so many rounds of so many lines of eight workers, with lines of the maintenance thread at random places.
+// Each round adds to values of three or four leaves, two leaves on from those of the round before.
 fn mixed(alloc: Global, seed: u64, rounds: u32, count: u32) -> Result<String, AllocError> {
     let mut seed = seed;
-    let mut script = String::from_str(alloc, "array 1 64\n")?;
+    let mut script = format!(in alloc; "array 1 {VALUES}\n")?;
     for round in 0..rounds {
         if round > 0 {
             script.push_str("join\n")?;
         }
-        for _ in 0..count {
-            let pick = next(&mut seed);
-            let line = if pick % 16 == 0 {
-                String::from_str(alloc, KEEPER_LINES[pick as usize / 16 % 4])?
-            } else {
-                let (one, two) = (next(&mut seed) % 64, next(&mut seed) % 64);
-                format!(in alloc; "{} a 1 {one} {}; r 1 {two}", pick % 8, pick % 9)?
-            };
-            script.push_str(line.as_str())?;
-            script.push('\n')?;
-        }
+        let first = u64::from(round).wrapping_mul(64);
+        add_mixed(alloc, &mut script, &mut seed, first, count)?;
     }
     Ok(script)
 }
 
-// Where the clock and the saves stand between two lines of the maintenance thread.
+// Where the clock and the saves stand between two lines of the maintenance thread, and how many pages were dropped.
 #[derive(Clone, Copy)]
 struct KeptSoFar {
     epoch: u32,
     saved: u32,
+    dropped: u32,
 }
 
 // Checks a line of the maintenance thread: the epoch rises by one, and a saved one is before the clock's, and never
-// falls.
+// falls; a drop meets no page twice.
 fn check_keeper(line: &str, so_far: &mut KeptSoFar) -> Result<(), Fail> {
     let mut words = line.split_whitespace();
     let _place = words.next();
@@ -206,6 +245,11 @@ fn check_keeper(line: &str, so_far: &mut KeptSoFar) -> Result<(), Fail> {
         "save" => {
             is_so(line, so_far.saved <= number && number < so_far.epoch)?;
             so_far.saved = number;
+        }
+        "drop" => {
+            let kept = words.nth(1).unwrap_or("").parse::<u32>()?;
+            is_so(line, number.wrapping_add(kept) <= PAGES)?;
+            so_far.dropped = so_far.dropped.wrapping_add(number);
         }
         "snap" | "none" => {}
         _ => return Err(Fail::from(line)),
@@ -226,6 +270,7 @@ fn check_mixed<R: AllocGlobal>(
         if line.starts_with("k.") {
             check_keeper(line, so_far)?;
         } else {
+            is_so(line, line.contains(" ok "))?;
             workers.push(*line)?;
         }
     }
@@ -239,7 +284,7 @@ fn run_mixed<R: Threads + Wait + Sync + AllocGlobal>(rt: &R, bytes: &[u8]) -> Re
         return Err(Fail::from("no script"));
     };
     let mut vault = fresh_vault(alloc)?;
-    let asked = "run --tries 1000000 --slots 64";
+    let asked = "run --tries 1000000 --slots 256";
     let (status, told) = answer_by(rt, &mut vault, asked, bytes, &OpenGate)?;
     is_so(asked, status == 0)?;
     let kept = check_all(rt, &script, str::from_utf8(&told)?)?;
@@ -250,7 +295,11 @@ fn run_mixed<R: Threads + Wait + Sync + AllocGlobal>(rt: &R, bytes: &[u8]) -> Re
 fn check_all<R: AllocGlobal>(rt: &R, script: &Script, told: &str) -> Result<Vec<u8>, Fail> {
     let alloc = rt.alloc();
     let mut plain = Plain::new(alloc, script.decls())?;
-    let mut so_far = KeptSoFar { epoch: 1, saved: 0 };
+    let mut so_far = KeptSoFar {
+        epoch: 1,
+        saved: 0,
+        dropped: 0,
+    };
     let mut lines = told.lines();
     for index in 0..script.rounds() {
         let round = script.round(index);
@@ -264,10 +313,11 @@ fn check_all<R: AllocGlobal>(rt: &R, script: &Script, told: &str) -> Result<Vec<
         so_far.saved = so_far.epoch;
         so_far.epoch = so_far.epoch.wrapping_add(1);
     }
+    is_so("pages were dropped", so_far.dropped > 0)?;
     text_of(alloc, &plain, so_far.saved)
 }
 
-// Saves, epochs and snapshots at random places among a hundred thousand lines of eight workers.
+// Saves, epochs, snapshots and drops at random places among a hundred thousand lines of eight workers.
 #[test]
 fn keeper_lines_run_at_any_time(rt: HostRuntime) -> Result<(), Fail> {
     for seed in 1..6u64 {
@@ -275,4 +325,40 @@ fn keeper_lines_run_at_any_time(rt: HostRuntime) -> Result<(), Fail> {
         run_mixed(&rt, script.as_bytes())?;
     }
     Ok(())
+}
+
+// So many values, of 25 leaves. With those of the round before and the pages above all of them they are 53 pages, and
+// each worker may hold one more that it puts in.
+const PART: u64 = 800;
+
+// Adds 10,000 lines to a script, which add to the values of a part of their own.
+fn add_part(alloc: Global, script: &mut String, part: u64) -> Result<(), AllocError> {
+    for line in 0..10_000u64 {
+        let key = part.wrapping_mul(PART).wrapping_add(line % PART);
+        let text = format!(in alloc; "{} a 1 {key} 1\n", line % 8)?;
+        script.push_str(text.as_str())?;
+    }
+    Ok(())
+}
+
+// A script of so many rounds of such lines. Beside them a snapshot is made of the round before, and its pages dropped.
+fn onward(alloc: Global, rounds: u64) -> Result<String, AllocError> {
+    let mut script = String::from_str(alloc, "array 1 131072\n")?;
+    for round in 0..rounds {
+        add_part(alloc, &mut script, round)?;
+        script.push_str("k glean\nk drop\njoin\n")?;
+    }
+    Ok(script)
+}
+
+const ALL_COMMITTED: &[u8] = b"commits 260000\ntotal 260000\ndurable 26\n";
+
+// Ten times more values are written than the pages in 64 slots have, and no line is without a slot.
+#[test]
+fn slots_are_given_again_within_a_run(rt: HostRuntime) -> Result<(), Fail> {
+    let script = onward(rt.alloc(), 26)?;
+    let mut vault = fresh_vault(rt.alloc())?;
+    let asked = "run --brief --tries 1000000 --slots 64";
+    let (status, told) = answer_by(&rt, &mut vault, asked, script.as_bytes(), &OpenGate)?;
+    is_answer(asked, (status, &told), (0, ALL_COMMITTED))
 }

@@ -3,3 +3,4 @@ mod HandLaws
 mod KeyLaws
 mod OpeningLaws
 mod SeatLaws
+mod DropLaws

@@ -13,6 +13,7 @@ use Rattle.engine_pages.specs.declared.view.View.{View}
 use Rattle.engine_pages.specs.Passes.{view, IsPassOf, Pass}
 use Rattle.engine_pages.specs.Views.{bare_seat, opening_view, IsResting}
 use Rattle.page_opening.specs.Making.{CanMake}
+use Rattle.page_drops.specs.Calls.{IsBare}
 use Rattle.txn_tests.specs.declared.worker.Plan.{Plan}
 use Rattle.txn_tests.specs.Standing.{blank, declared, CanSeat, IsPlan, IsSize}
 use Rattle.txn_tests.proofs.EmptyLaws.{no_leads, root_stands}
@@ -62,10 +63,26 @@ rests first zero worker = record { kept = refl; locks = refl; stage = refl }
 rests first (suc n) zero = record { kept = refl; locks = refl; stage = refl }
 rests first (suc n) (suc worker) = rests first n worker
 
+-- and the keeper holds nothing
+bare_opening : (l : Layout) → IsBare (opening_view l)
+bare_opening l = record {
+  keeper = refl;
+  idle = refl;
+  holds = refl;
+  made = refl;
+  taken = refl;
+  locks = refl;
+  took = refl;
+  parts = refl;
+  shuts = refl;
+}
+
 pub first_seats : (p : Plan) (e : Engine) (keeper : Pass) (l : Layout) → IsPlan p → l ≡ blank p → IsPassOf e keeper
     → view keeper ≡ opening_view l → CanSeat p.size e 0 keeper
 first_seats p e keeper l plan same of is = record {
   keeps = record { of = of; role = ap (λ (v : View). v.role) is };
+  bare = subst IsBare (sym is) (bare_opening l);
+  ways = ap (λ (v : View). v.ways) is;
   sized = plan.size;
   decls = ap (λ (v : View). v.layout.decls) is ∙ ap (λ (x : Layout). x.decls) same;
   locks = ap (λ (v : View). v.seat.locks) is;

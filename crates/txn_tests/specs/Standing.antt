@@ -20,6 +20,7 @@ use Rattle.engine_pages.specs.Passes.{view, IsPassOf, Pass}
 use Rattle.engine_pages.specs.Pointers.{WaysAgree}
 use Rattle.engine_pages.specs.Views.{bare_seat, IsResting}
 use Rattle.page_commit.specs.Below.{worker_of}
+use Rattle.page_drops.specs.Calls.{IsBare}
 use Rattle.page_records.specs.Locks.{took_at, CanOpenAnew}
 use Rattle.page_commit.specs.Live.{HasHolds, IsLive, IsOver}
 use Rattle.page_commit.specs.Places.{spot_at, IsKeyAt}
@@ -126,18 +127,29 @@ pub record IsKeeper (e : Engine) (keeper : Pass) : Type 0 where
   pub of : IsPassOf e keeper
   pub role : (view keeper).role ≡ roles.Keeper
 
+-- The same, where it holds nothing, so that it may drop pages of the one array.
+pub record IsDropper (e : Engine) (keeper : Pass) : Type 0 where
+  pub keeps : IsKeeper e keeper
+  pub bare : IsBare (view keeper)
+  pub ways : (view keeper).ways ≡ []
+  pub size : ℕ
+  pub sized : IsSize size
+  pub decls : (view keeper).layout.decls ≡ declared size
+
 -- The workers from this one on are not seated yet, and the array has so many values.
 pub record CanSeat (size : ℕ) (e : Engine) (next : ℕ) (keeper : Pass) : Type 0 where
   pub keeps : IsKeeper e keeper
+  pub bare : IsBare (view keeper)
+  pub ways : (view keeper).ways ≡ []
   pub sized : IsSize size
   pub decls : (view keeper).layout.decls ≡ declared size
   pub locks : (view keeper).seat.locks ≡ []
   pub apart : (worker : ℕ) → next ≤ worker → times worker (view keeper).made ≡ 0
   pub parked : (worker : ℕ) → worker < 8 → IsResting (get_or (view keeper).parked worker bare_seat)
 
--- the keeper's pass and the workers are of this engine
+-- the keeper's pass, which may drop pages, and the workers are of this engine
 pub record AreWorkers (e : Engine) (keeper : Pass) (workers : List Worker) : Type 0 where
-  pub keeps : IsKeeper e keeper
+  pub keeps : IsDropper e keeper
   pub each : AllByRecursion (Stands e) workers
 
 -- ---- hands

@@ -7,6 +7,7 @@ ghost use Rattle.txn_tests.specs.Standing.{declared, Stands};
 use crate::one_key::{lock_first, open_first, put_first};
 use crate::{Phase, Worker};
 use engine_pages::{Engine, RefusalCause};
+use page_drops::Kept;
 use serial_model::{Change, Key, Verdict};
 use std::thread::yield_now;
 
@@ -27,6 +28,8 @@ pub enum Call {
     Put(u64),
     /// Opens key 0.
     Open,
+    /// The keeper takes the pages out of memory that are what the newest snapshot has.
+    Drop,
 }
 
 #[derive(Clone, Copy, Debug, PartialEq, Eq)]
@@ -37,6 +40,8 @@ pub enum Answer {
     Over,
     /// The draw of a commit.
     Draw(u64),
+    /// How many pages were dropped and kept, and why the first was kept.
+    Dropped(u32, u32, Option<Kept>),
     No(RefusalCause),
     /// Key 0 is locked, or was written, or its page could not be made. The transaction is over.
     Locked,

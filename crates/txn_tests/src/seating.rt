@@ -1,12 +1,13 @@
 // Passes of a new engine.
 ghost use Rattle.std.specs.Prelude.{◌≡◌, ◌+◌, ◌<◌, IfOk};
-ghost use Rattle.txn_tests.specs.Standing.{blank, CanSeat, HandStands, IsPlan, Stands};
+ghost use Rattle.txn_tests.specs.Standing.{blank, CanSeat, HandStands, IsDropper, IsPlan, Stands};
 
 use crate::{Hand, Phase, Plan, Slot, Worker};
 use engine_pages::{Engine, Pass, Start};
 use engine_seats::seat;
 use lists::{Memory, Sequence};
 use page_commit::Txn;
+use page_drops::{Dropped, drop_all};
 use page_opening::make;
 use serial_model::{Changes, Decl, Number};
 use std::alloc::Global;
@@ -83,4 +84,12 @@ pub(crate) fn hand_next(engine: &Engine, keeper: &mut Pass, number: u8, size: u3
         given: 0,
         lost: 0,
     }
+}
+
+/// Takes the pages that are what the newest snapshot has, which has none of the array, out of memory.
+pub(crate) fn drop_pages(engine: &Engine, keeper: &mut Pass) -> Dropped
+    requires { IsDropper engine.now keeper.old }
+    ensures { IsDropper engine.now keeper.new }
+{
+    drop_all(engine, keeper, &[0])
 }

@@ -5,7 +5,7 @@ ghost use Rattle.page_commit.specs.Live.{IsOver};
 ghost use Rattle.txn_tests.specs.Standing.{IsKeeper, Stands};
 
 use crate::plays::{further, repeat};
-use crate::seating::{bounded, new_engine, seat_next};
+use crate::seating::{bounded, drop_pages, new_engine, seat_next};
 use crate::{Answer, Call, Phase, Plan, Work, Worker};
 use engine_pages::{Engine, Pass};
 use engine_seats::{audit, end};
@@ -50,12 +50,20 @@ impl Workers {
         })
     }
 
-    /// Makes the call of a worker.
+    /// Makes the call of a worker, or the keeper's, whoever is asked.
     pub fn play(&mut self, worker: usize, call: Call) -> Answer {
+        if let Call::Drop = call {
+            return self.drop_pages();
+        }
         if worker >= self.workers.len() {
             return Answer::Wrong;
         }
         self.workers[worker].play(&self.engine, call)
+    }
+
+    fn drop_pages(&mut self) -> Answer {
+        let found = drop_pages(&self.engine, &mut self.keeper);
+        Answer::Dropped(found.dropped, found.kept, found.first)
     }
 
     /// A worker does the work so many times.

@@ -1,9 +1,9 @@
 #!/usr/bin/env python3
 """Kills the program again and again: while it makes the files of a database, and asks that the next call finds a fresh
-one; and amid a run of many rounds, of which each third one makes a snapshot, and asks that the database then has a
-saved epoch that covers each one that was told durable, with exactly its commits, and that its newest snapshot has
-exactly those of its epoch. The same of runs of several workers and of runs over a tree; and of one database whose runs
-are killed one after another, each as it settles what the one before it left, or in its rounds.
+one; and amid a run of many rounds, of which each third one makes a snapshot and drops pages, and asks that the database
+then has a saved epoch that covers each one that was told durable, with exactly its commits, and that its newest
+snapshot has exactly those of its epoch. The same of runs of several workers and of runs over a tree; and of one
+database whose runs are killed one after another, each as it settles what the one before it left, or in its rounds.
 
 Usage: bench/kill.py PROGRAM [TIMES], where PROGRAM is the built program, crates/foedus/out/foedus. TIMES is 400 if it is
 left out; the further kinds of runs are killed a quarter as often each.
@@ -20,6 +20,7 @@ FILES = 18
 LONGEST_MAKING = 0.012  # seconds, somewhat more than the making takes
 ROUNDS = 1000
 LONGEST_RUN = 1.0  # seconds
+KEPT = "k glean\nk drop\n"
 
 
 def kill_within(begun, longest):
@@ -56,7 +57,7 @@ KINDS = {
 def script(kind):
     """Rounds of which each adds 1 to some values: so each epoch has itself as these values, also behind other runs."""
     declared, lines, _ = KINDS[kind]
-    rounds = [f"{lines}{'k glean' if number % 3 == 0 else ''}\njoin\n" for number in range(ROUNDS)]
+    rounds = [f"{lines}{KEPT if number % 3 == 0 else ''}join\n" for number in range(ROUNDS)]
     return declared + "".join(rounds)
 
 

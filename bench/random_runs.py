@@ -3,8 +3,10 @@
 has one outcome; the commits, in order of their numbers, give each reply and each verdict one after another; epochs,
 savepoints and snapshots are those that the rounds and their lines of the maintenance thread ask for; a dump and each
 snapshot have the state through their epoch. Of one worker's lines it also says which are `full` or in `conflict`, by
-the pages that the lines before put into slots. Some runs are killed at a random moment: what is kept then is the state
-through an epoch that covers what was told durable. Three to six runs in a row use one database.
+the pages that the lines before put into slots and that drops took out. A drop keeps each page that a value was written
+in, or below, since the newest snapshot; without lines beside it no other one. Some runs are killed at a random moment:
+what is kept then is the state through an epoch that covers what was told durable. Three to six runs in a row use one
+database.
 
 Usage: bench/random_runs.py PROGRAM [CHAINS [SEED [LINES]]], where PROGRAM is the built program,
 crates/foedus/out/foedus. CHAINS, 20 if it is left out, is how many databases are made; LINES, 150 if it is left out,
@@ -117,15 +119,22 @@ class Run:
         self.hot = draw.choice([None, None, 1, 3, 40])
         self.near = draw.choice([1, 1, 33])
         longest = draw.choice([1, 5, longest // 4 + 1, longest])
+        self.is_calm = draw.random() < 0.5  # then no line runs beside a drop
         self.rounds = [self.round(draw, longest) for _ in range(draw.choice([1, 2, 3, 6]))]
         while len(self.rounds) > 1 and not (any(self.rounds[-1][0].values()) or self.rounds[-1][1]):
             self.rounds.pop()  # the end right behind a join begins no round
+        drops = [any(lines.values()) for lines, keeper in self.rounds if "drop" in keeper]
+        self.has_drops = bool(drops)
+        self.is_lone = len(self.workers) == 1 and not any(drops)  # then its lines have one outcome
 
     def round(self, draw, longest):
         lines = {worker: [self.line(draw) for _ in range(draw.randrange(longest + 1))] for worker in self.workers}
-        keeper = [draw.choice(["glean", "glean", "epoch", "save"]) for _ in range(draw.choice([0, 0, 1, 1, 2, 4]))]
+        keeper = [draw.choice(["glean", "glean", "epoch", "save", "drop", "drop"])
+                  for _ in range(draw.choice([0, 0, 1, 1, 2, 4]))]
         if self.adds:
-            keeper = [line for line in keeper if line == "glean"]
+            keeper = [line for line in keeper if line in ("glean", "drop")]
+        if self.is_calm and "drop" in keeper:
+            lines = {worker: [] for worker in self.workers}
         return lines, keeper
 
     def line(self, draw):
@@ -193,8 +202,8 @@ class Replay:
         self.clock, self.draws, self.saved = kept.epoch + 1, 0, kept.epoch
         self.state, self.commits, self.told = dict(kept.state), 0, 0
         self.active, self.closed, self.closed_at = set(), None, kept.epoch
-        self.pages = Pages(run.sizes, run.slots) if len(run.workers) == 1 else None
-        self.written = set()
+        self.pages = Pages(run.sizes, run.slots) if run.is_lone else None
+        self.written, self.last = set(), {}
 
     def round(self, number, text):
         """Replays a round, whose lines are the next ones of the text, up to its durable line."""
@@ -211,7 +220,7 @@ class Replay:
                     commits.append(((int(came[4]), int(came[5])), worker, place, ops, came[3], replies))
         begun = self.clock
         for place, line in enumerate(keeper):
-            self.keeper(line, next(text, ""), f"k.{place} ")
+            self.keeper(line, next(text, ""), f"k.{place} ", lines)
         self.ordered(commits, begun)
         if self.pages:
             self.lone(lines[self.run.workers[0]], {place: what for _, place, _, what in refused})
@@ -246,10 +255,11 @@ class Replay:
             demand((verdict, replies) == wanted[:2], worker, place, number, verdict, replies, "not", wanted[:2])
             self.state.update(wanted[2])
             changed.update(wanted[2])
+            self.last.update(dict.fromkeys(wanted[2], number))
         self.commits += len(commits)
         self.between(commits, epoch)
         self.written.update(changed)
-        used = self.kept.pages_of(self.written) - 1
+        used = len(self.unlike()) if self.run.has_drops else self.kept.pages_of(self.written) - 1
         demand(used <= self.run.slots, used, "pages were written in", self.run.slots, "slots")
         return changed
 
@@ -279,10 +289,31 @@ class Replay:
         """No line is full while there are slots for all pages that were asked for, and for one more of each worker."""
         asked = {page for lines, _ in self.run.rounds for line in lines.values() for ops in line for op in ops
                  if op[0] != "r" for page in path(op[1], self.run.sizes[op[1]], op[2])}
+        held = 50 if self.run.has_drops else 2  # a worker may hold slots of pages that were dropped meanwhile
+        most = len(asked) + held * len(self.run.workers)
         for worker, place, _, what in refused:
-            demand(what != "full" or len(asked) + 2 * len(self.run.workers) > self.run.slots, worker, place, "is full")
+            demand(what != "full" or most > self.run.slots, worker, place, "is full")
 
-    def keeper(self, line, told, head):
+    def ways(self, keys):
+        return {page for storage, key in keys for page in path(storage, self.run.sizes[storage], key)}
+
+    def unlike(self):
+        """The pages that aren't what the newest snapshot has, for a value in them or below them."""
+        return self.ways(key for key, number in self.last.items() if number[0] > self.kept.snaps[-1][0])
+
+    def drop(self, told, head, lines):
+        """Each page is met once, and kept where it is unlike. Lines beside it may make others unlike meanwhile."""
+        came = re.fullmatch(re.escape(head) + r"drop (\d+) kept (\d+)", told)
+        demand(came, told)
+        dropped, kept, unlike = int(came[1]), int(came[2]), self.unlike()
+        asked = {(op[1], op[2]) for mine in lines.values() for ops in mine for op in ops if op[0] != "r"}
+        demand(len(unlike) <= kept <= len(unlike | self.ways(asked)), told, len(unlike))
+        demand(asked or dropped + kept <= self.run.slots, told)
+        if self.pages:
+            demand(dropped == len(self.pages.there) - kept, told, len(self.pages.there))
+            self.pages.there = unlike
+
+    def keeper(self, line, told, head, lines):
         if line == "epoch":
             self.clock += 1
             demand(told == f"{head}epoch {self.clock}", told)
@@ -290,6 +321,8 @@ class Replay:
             came = re.fullmatch(re.escape(head) + r"save (\d+)", told)
             demand(came and self.saved <= int(came[1]) < self.clock, told, self.saved, self.clock)
             self.saved = int(came[1])
+        elif line == "drop":
+            self.drop(told, head, lines)
         elif not self.closed:
             demand(told == f"{head}none", told)
         else:
@@ -344,7 +377,7 @@ def whole_run(folder, kept, run):
     """A run that nobody ends, and the same in brief over a copy where one worker's lines have one outcome."""
     brief = f"{folder}/brief"
     shutil.rmtree(brief, ignore_errors=True)
-    if len(run.workers) == 1:
+    if run.is_lone:
         os.mkdir(brief)
         if os.path.isdir(f"{folder}/vault"):
             shutil.copytree(f"{folder}/vault", f"{brief}/vault")

@@ -18,13 +18,14 @@ import time
 
 ROUNDS = 600
 DECLARED = "array 1 200\n"
+KEPT = "k glean\nk drop\n"
 # Each round adds 1 to keys of their own leaves, by three workers; so each epoch has itself as these values.
 KEYS = [(0, 0), (1, 40), (7, 199)]
 
 
 def script(rounds=ROUNDS):
     lines = "".join(f"{worker} a 1 {key} 1; r 1 {key}\n" for worker, key in KEYS)
-    return DECLARED + "".join(f"{lines}{'k glean' if number % 5 == 4 else ''}\njoin\n" for number in range(rounds))
+    return DECLARED + "".join(f"{lines}{KEPT if number % 5 == 4 else ''}join\n" for number in range(rounds))
 
 
 def call(folder, *words, given="", **more):

@@ -162,6 +162,7 @@ module _ {D : Type 0} {tells : D → Option (List ℕ)} {clock : D → ℕ} {ima
       limit = refl;
       mark = inl refl;
       counts = inl refl;
+      flushed = inl refl;
       later = omega arith;
       quiet = λ is. refl;
       device = λ is. absurd (let no = is in cc);

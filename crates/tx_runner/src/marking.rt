@@ -1,5 +1,5 @@
 // Workers' marks.
-ghost use Rattle.std.specs.Prelude.{◌≡◌, ◌≤◌, ◌<◌, ◌-◌, ◌^◌, Some, None, length};
+ghost use Rattle.std.specs.Prelude.{◌≡◌, ◌≤◌, ◌<◌, ◌-◌, ◌^◌, [], Some, None, length};
 ghost use Rattle.serial_model.specs.Numbers.{last_epoch};
 ghost use Rattle.wire_form.specs.Words.{IsMark, mark_word};
 ghost use Rattle.commit_core.specs.CoreState.{last_marked};
@@ -14,27 +14,29 @@ ghost use Rattle.tx_runner.specs.Epochs.{HasMetAll, IsMarkedUpTo};
 
 use engine_pages::{Engine, Pass};
 use engine_seats::load_mark;
+use log_writer::Journal;
 use serial_model::WORKERS;
 use wire_form::Mark;
 
 /// Marks that all commits of this worker up to the epoch before this one of the clock, which the pass has seen, lie in
-/// so many bytes of its log file.
-pub fn mark(engine: &Engine, pass: &mut Pass, worker: u8, clock: u32, length: u64)
+/// what is durable of its log file. No line of them waits.
+pub fn mark(engine: &Engine, pass: &mut Pass, worker: u8, clock: u32, journal: &Journal)
     requires of { IsPassOf engine.now pass.old }
     requires over { IsOver (view pass.old) }
     requires worker { ((view pass.old).role ≡ Worker worker) × (worker < 8) }
     requires clock { (1 ≤ clock) × (clock ≤ (view pass.old).epoch) × (clock - 1 ≤ last_epoch) }
     requires rises { last_marked (view pass.old).seat.marks ≤ clock - 1 }
-    requires length { length < 2 ^ 40 }
+    requires flushed { journal.now.lines ≡ [] }
     ensures of { IsPassOf engine.now pass.new }
     ensures marks { view pass.new
-        ≡ marked (record { epoch = Some (clock - 1); length = length }) (view pass.old) }
+        ≡ marked (record { epoch = Some (clock - 1); length = journal.now.durable }) (view pass.old) }
+    ensures counted { journal.now.durable < 2 ^ 40 }
     ensures up { IsMarkedUpTo clock (view pass.new) }
     ensures over { IsOver (view pass.new) }
 {
     let mark = commit_core::Mark {
         epoch: Some(clock - 1),
-        length,
+        length: journal.durable(),
     };
     engine_seats::mark(engine, pass, worker, mark);
 }

@@ -1,10 +1,11 @@
 -- Calls of a log, one after another, and what is known to be shown of its mark.
-use Rattle.std.proofs.Common.{◌≡◌, ◌<◌, ◌≤◌, ◌^◌, ◌-◌, ◌++◌, ◌∷◌, inl, inr, refl, sym, ◌∙◌, ap, subst, ℕ, List, []}
+use Rattle.std.proofs.Common.{◌≡◌, ◌<◌, ◌≤◌, ◌^◌, ◌-◌, ◌++◌, ◌∷◌, inl, inr, refl, sym, ◌∙◌, ap, ap₂, subst, ℕ, List, []}
 use Rattle.std.proofs.Common.{Option, Some, None, arith, drop, length}
-use Rattle.std.specs.Prelude.{◌≢◌, ◌⊎◌, Bool, Contains, false, true, is_some, IfSome, OnOk, Result, Ok, Err}
+use Rattle.std.specs.Prelude.{◌≢◌, ◌⊎◌, Bool, Contains, false, true, is_some, OnOk, Result, Ok, Err}
 use Rattle.std.proofs.lemmas.List.Elements.{Contains-append_left}
 use Rattle.lists.specs.Fronts.{IsFront, front_rest}
 use Rattle.serial_model.specs.Numbers.{last_epoch}
+use Rattle.wire_form.specs.Words.{IsMark}
 use Rattle.wire_form.specs.declared.clock.Mark.{Mark}
 use Rattle.commit_core.specs.CoreState.{last_marked}
 use Rattle.commit_core.specs.declared.attempt.Attempt.{Attempt}
@@ -115,10 +116,51 @@ first_done (Err (Down count)) moves not_full same up = absurd (let no = sym ((mo
 first_done (Err (Limit size)) moves not_full same up = absurd (not_full size refl)
 
 -- and its mark then
-pub first_marked : {T : Type 0} (at : ℕ) (result : Result T LogFault) (new : LogState) → refusal result ≡ None
-    → OnOk result (IsJoined at new) → new.mark.epoch ≡ Some (at - 1)
-first_marked at (Ok done) new none joined = ap (λ (m : Mark). m.epoch) joined.marked
-first_marked at (Err fault) new none joined = absurd cc
+pub first_joined : {T : Type 0} (at : ℕ) (result : Result T LogFault) (new : LogState) → refusal result ≡ None
+    → OnOk result (IsJoined at new) → IsJoined at new
+first_joined at (Ok done) new none joined = joined
+first_joined at (Err fault) new none joined = absurd cc
+
+-- a mark by its parts
+abbrev mark_with : ℕ → Option ℕ → Mark
+mark_with size epoch = record { length = size; epoch = epoch }
+
+-- A call leaves the mark that was shown, or all that is durable is marked then, and no line waits.
+pub moved_joined : {D : Type 0} {tells : D → Option (List ℕ)} {clock : D → ℕ} {image_at : D → ℕ → List ℕ → Type 0}
+    {faults : D → ℕ} {before now : D} {old new : LogState} (at : ℕ) (shown : Mark) {fault : Option LogFault}
+    → MovesLog tells clock image_at faults (at - 1) old new before now fault → shown ≡ old.mark
+    → (new.mark ≡ shown) ⊎ IsJoined at new
+moved_joined at shown moves is = elim moves.mark [
+  | inl same ↦ inl (same ∙ sym is)
+  | inr named ↦ elim moves.counts [
+    | inl same ↦ inl (same ∙ sym is)
+    | inr all ↦ elim moves.flushed [
+      | inl same ↦ inl (same ∙ sym is)
+      | inr none ↦ inr record {
+        flushed = none;
+        marked = ap₂ (λ (n : ℕ) (e : Option ℕ). mark_with n e) all named;
+      }
+    ]
+  ]
+]
+
+-- a mark that isn't the one that is shown counts all that is durable
+pub joined_anew : (at : ℕ) (log : LogState) (shown now : Mark) → (log.mark ≡ shown) ⊎ IsJoined at log → now ≡ log.mark
+    → now ≢ shown → IsJoined at log
+joined_anew at log shown now (inl same) is other = absurd (other (is ∙ same))
+joined_anew at log shown now (inr joined) is other = joined
+
+-- and it is set on the words
+pub joined_shown : (at : ℕ) (log : LogState) (shown now : Mark) (v w : View) → IsJoined at log → now ≡ log.mark
+    → now ≢ shown → at ≤ last_epoch → log.journal.durable < 2 ^ 40 → v.epoch ≡ at
+    → w ≡ marked (record { epoch = Some (at - 1); length = log.journal.durable }) v → ShowsMark shown log.mark v w
+joined_shown at log shown now v w joined is other few counted saw set = inr (
+  subst IsMark (sym joined.marked) (record { length = counted; epoch = omega (arith, few) }),
+  ap (λ (m : Mark). m.epoch) joined.marked
+      ∙ ap (λ (n : ℕ). Some (n - 1)) (sym saw ∙ sym (ap (λ (x : View). x.epoch) set)),
+  ap (λ (x : View). x.seat.marks) set ∙ ap (λ (m : Mark). v.seat.marks ++ core_mark m ∷ []) (sym joined.marked),
+  λ same. other (is ∙ same),
+)
 
 -- what stands in the first of some numbers that were drawn stands in all
 in_front : (xs ys : List Attempt) (a : Attempt) → IsFront xs ys → Contains xs a → Contains ys a
@@ -164,14 +206,15 @@ readies_so {tells = tells} {clock = clock} {image_at = image_at} {faults = fault
 
 -- As a round begins the log's new mark was set on the words.
 pub first_shown : {D : Type 0} {tells : D → Option (List ℕ)} {clock : D → ℕ} {image_at : D → ℕ → List ℕ → Type 0}
-    {faults : D → ℕ} {before now : D} {old new : LogState} (epoch : ℕ) (v w x : View) (set : Mark)
+    {faults : D → ℕ} {before now : D} {old new : LogState} (epoch : ℕ) (v w x : View)
     {fault : Option LogFault} → HasSeenEpoch epoch v w
-    → x ≡ marked (record { epoch = Some (epoch - 1); length = set.length }) w → IsOver x → fault ≡ None
-    → MovesLog tells clock image_at faults (epoch - 1) old new before now fault → set ≡ new.mark
-    → new.mark.epoch ≡ Some (epoch - 1) → new.mark.length < 2 ^ 40 → new.journal ≡ old.journal → now ≡ before
+    → x ≡ marked (record { epoch = Some (epoch - 1); length = new.journal.durable }) w → IsOver x → fault ≡ None
+    → MovesLog tells clock image_at faults (epoch - 1) old new before now fault → IsJoined epoch new
+    → new.journal.durable < 2 ^ 40 → new.journal ≡ old.journal → now ≡ before
     → ShowsFirst tells clock image_at faults v x old new before now
 first_shown {tells = tells} {clock = clock} {image_at = image_at} {faults = faults} {before = before} {now = now}
-    {old = old} {new = new} epoch v w x set seen is over none moves same named counted journal bank =
+    {old = old} {new = new} epoch v w x seen is over none moves joined counted journal bank =
+    let named : new.mark.epoch ≡ Some (epoch - 1) = ap (λ (m : Mark). m.epoch) joined.marked in
     let at : x.epoch ≡ epoch = ap (λ (y : View). y.epoch) is ∙ seen.now in record {
       goes = record {
         seen = subst (HasSeen v) (sym is) (record { history = seen.seen.history; decided = seen.seen.decided });
@@ -188,16 +231,13 @@ first_shown {tells = tells} {clock = clock} {image_at = image_at} {faults = faul
       some = let above = seen.marked in omega (arith, above, at);
       moves = subst (λ n. MovesLog tells clock image_at faults (n - 1) old new before now None) (sym at)
           (subst (MovesLog tells clock image_at faults (epoch - 1) old new before now) none moves);
-      small = record {
-        length = counted;
-        epoch = subst (λ (e : Option ℕ). IfSome e (λ n. n ≤ last_epoch)) (sym named)
-            (let few = seen.few in omega (arith, few));
-      };
+      small = subst IsMark (sym joined.marked)
+          (record { length = counted; epoch = let few = seen.few in omega (arith, few) });
       epoch = named ∙ ap (λ n. Some (n - 1)) (sym at);
       marks = ap (λ (y : View). y.seat.marks) is
-          ∙ ap (λ (s : Seat). s.marks ++ record { epoch = Some (epoch - 1); length = set.length } ∷ []) seen.seat
-          ∙ ap (λ (e : Option ℕ). v.seat.marks ++ record { epoch = e; length = set.length } ∷ []) (sym named)
-          ∙ ap (λ (m : Mark). v.seat.marks ++ record { epoch = new.mark.epoch; length = m.length } ∷ []) same;
+          ∙ ap (λ (s : Seat). s.marks ++ record { epoch = Some (epoch - 1); length = new.journal.durable } ∷ []) seen.seat
+          ∙ ap (λ (m : Mark). v.seat.marks ++ core_mark m ∷ []) (sym joined.marked);
+      joined = subst (λ n. IsJoined n new) (sym at) joined;
       journal = journal;
       bank = bank;
     }

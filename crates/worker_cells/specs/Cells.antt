@@ -22,7 +22,7 @@ use Rattle.tx_script.specs.Readied.{ReadiedUpTo}
 use Rattle.tx_script.specs.Seen.{AreMarksInOrder}
 use Rattle.tx_script.specs.declared.outcome.Outcome.{Outcome}
 use Rattle.tx_script.specs.declared.outcome.Outcome.TheVariants.{Unrun}
-use Rattle.worker_logs.specs.Logs.{LogState}
+use Rattle.worker_logs.specs.Logs.{IsJoined, LogState}
 use Rattle.worker_logs.specs.Moves.{MovesLog}
 use Rattle.worker_logs.specs.Rows.{Blames, IsFull, IsLogUp, KeepsMarkIn, LogTakes, TakesCommit, full_after}
 use Rattle.worker_logs.specs.Shown.{LogShows, Stood}
@@ -146,8 +146,8 @@ module _ {D : Type 0} (tells : D → Option (List ℕ)) (clock : D → ℕ) (ima
     (faults : D → ℕ) where
   -- ---- between lines
 
-  -- As a round begins: all that is durable was marked, of the epoch before the one that the pass saw, and the mark was
-  -- set on the words. Nothing else of the log has changed, and nothing of its log file.
+  -- As a round begins: all that is durable was marked, of the epoch before the one that the pass saw, as no line waits,
+  -- and the mark was set on the words. Nothing else of the log has changed, and nothing of its log file.
   pub record ShowsFirst (v w : View) (old new : LogState) (before now : D) : Type 0 where
     pub goes : Goes v w
     pub over : IsOver w
@@ -156,6 +156,7 @@ module _ {D : Type 0} (tells : D → Option (List ℕ)) (clock : D → ℕ) (ima
     pub moves : MovesLog tells clock image_at faults (w.epoch - 1) old new before now None
     pub small : IsMark new.mark
     pub epoch : new.mark.epoch ≡ Some (w.epoch - 1)
+    pub joined : IsJoined w.epoch new
     pub marks : w.seat.marks ≡ v.seat.marks ++ core_mark new.mark ∷ []
     pub journal : new.journal ≡ old.journal
     pub bank : now ≡ before

@@ -6,6 +6,7 @@ ghost use Rattle.commit_core.specs.CoreState.{last_marked};
 ghost use Rattle.engine_pages.specs.declared.view.Role.TheVariants.{Worker};
 ghost use Rattle.engine_pages.specs.Passes.{IsPassOf, view};
 ghost use Rattle.tx_runner.specs.Below.{IsOver};
+ghost use Rattle.worker_logs.specs.Logs.{IsJoined};
 ghost use Rattle.worker_logs.specs.Moves.{refusal};
 ghost use Rattle.worker_logs.specs.Rows.{IsLogUp};
 ghost use Rattle.worker_cells.specs.Cells.{IsMarkedBelow, IsTied, Readies, ReadiesSome, ShowsFirst, ShowsMark};
@@ -38,8 +39,7 @@ pub fn show_first<D: Disk>(
 {
     let clock = load_epoch(engine, pass);
     let _marked = log.flush_and_mark(bank, clock);
-    let now = log.mark();
-    mark(engine, pass, worker, clock, now.length);
+    mark(engine, pass, worker, clock, log.journal());
 }
 
 /// Makes the log ready for a line: its mark, which stands on the words too, is of the epoch before the clock's.
@@ -67,8 +67,7 @@ pub(crate) fn make_ready<D: Disk>(
     let clock = load_epoch(engine, pass);
     let shown = log.mark();
     let ready = log.prepare(bank, clock);
-    let now = log.mark();
-    show_mark(engine, pass, worker, clock, shown, now);
+    show_mark(engine, pass, worker, clock, shown, log);
     ready
 }
 
@@ -93,30 +92,29 @@ pub(crate) fn flush_last<D: Disk>(
     let clock = load_epoch(engine, pass);
     let shown = log.mark();
     let marked = log.flush_and_mark(bank, clock);
-    let now = log.mark();
-    show_mark(engine, pass, worker, clock, shown, now);
+    show_mark(engine, pass, worker, clock, shown, log);
     marked.is_err()
 }
 
 // Sets the log's mark on the words, unless it is the one that stands there: a mark that stays costs no store.
-fn show_mark(engine: &Engine, pass: &mut Pass, worker: u8, clock: u32, shown: Mark, now: Mark)
+fn show_mark(engine: &Engine, pass: &mut Pass, worker: u8, clock: u32, shown: Mark, log: &WorkerLog)
     requires of { IsPassOf engine.now pass.old }
     requires over { IsOver (view pass.old) }
     requires worker { ((view pass.old).role ≡ Worker worker) × (worker < 8) }
     requires clock { ((view pass.old).epoch ≡ clock) × (clock ≤ last_epoch) }
     requires below { last_marked (view pass.old).seat.marks < clock }
-    requires moved { (now ≡ shown) ⊎ (now.epoch ≡ Some (clock - 1)) }
-    requires length { now.length < 2 ^ 40 }
+    requires moved { (log.now.mark ≡ shown) ⊎ IsJoined clock log.now }
     ensures of { IsPassOf engine.now pass.new }
     ensures goes { Goes (view pass.old) (view pass.new) }
     ensures over { IsOver (view pass.new) }
     ensures epoch { (view pass.new).epoch ≡ clock }
-    ensures shows { ShowsMark shown now (view pass.old) (view pass.new) }
+    ensures shows { ShowsMark shown log.now.mark (view pass.old) (view pass.new) }
     ensures last { (view pass.new).last ≡ (view pass.old).last }
     ensures steps { (view pass.old).steps ≤ (view pass.new).steps }
 {
+    let now = log.mark();
     if now == shown {
         return;
     }
-    mark(engine, pass, worker, clock, now.length);
+    mark(engine, pass, worker, clock, log.journal());
 }

@@ -124,6 +124,7 @@ module _ {D : Type 0} {tells : D → Option (List ℕ)} {clock : D → ℕ} {ima
     limit = flushed.limit;
     mark = inr (ap (λ (m : Mark). m.epoch) mark);
     counts = inr (ap (λ (m : Mark). m.length) mark);
+    flushed = inr flushed.empty;
     later = flushes.refused.later;
     quiet = λ other. flushes.refused.quiet;
     device = λ is. absurd cc;
@@ -150,6 +151,7 @@ module _ {D : Type 0} {tells : D → Option (List ℕ)} {clock : D → ℕ} {ima
     limit = flushed.limit;
     mark = inl mark;
     counts = inl mark;
+    flushed = inl mark;
     later = flushes.refused.later;
     quiet = λ other. flushes.refused.quiet;
     device = λ is. absurd cc;
@@ -174,6 +176,7 @@ module _ {D : Type 0} {tells : D → Option (List ℕ)} {clock : D → ℕ} {ima
     limit = flushes.kept.limit;
     mark = inl mark;
     counts = inl mark;
+    flushed = inl mark;
     later = flushes.refused.later;
     quiet = λ other. ap faults
         (flushes.refused.untouched (λ is. other (let same : fault ≡ Device = cc in ap Some same))).1;
@@ -200,6 +203,7 @@ module _ {D : Type 0} {tells : D → Option (List ℕ)} {clock : D → ℕ} {ima
     limit = refl;
     mark = inl refl;
     counts = inl refl;
+    flushed = inl refl;
     later = omega arith;
     quiet = λ other. refl;
     device = λ is. absurd cc;
@@ -208,12 +212,12 @@ module _ {D : Type 0} {tells : D → Option (List ℕ)} {clock : D → ℕ} {ima
     stays_up = λ other. refl;
   })
 
-  -- a call that was done, and then another one, which made no more durable
+  -- a call that was done, and then another one, which left the journal as it was
   pub moves_then : {a b c : LogState} {before mid now : D} {epoch : ℕ} {fault : Option LogFault}
       → MovesLog tells clock image_at faults epoch a b before mid None
-      → MovesLog tells clock image_at faults epoch b c mid now fault → c.journal.durable ≡ b.journal.durable
+      → MovesLog tells clock image_at faults epoch b c mid now fault → c.journal ≡ b.journal
       → MovesLog tells clock image_at faults epoch a c before now fault
-  moves_then {a = a} {b = b} {c = c} {before = before} {mid = mid} {now = now} {epoch = epoch} first next size =
+  moves_then {a = a} {b = b} {c = c} {before = before} {mid = mid} {now = now} {epoch = epoch} first next stays =
       let quiet : faults mid ≡ faults before = first.quiet (λ is. cc) in
       let up : b.journal.down ≡ a.journal.down = first.stays_up (λ is. cc) in
       record {
@@ -241,7 +245,14 @@ module _ {D : Type 0} {tells : D → Option (List ℕ)} {clock : D → ℕ} {ima
           | inr all ↦ inr all
           | inl same ↦ elim first.counts [
             | inl kept ↦ inl (same ∙ kept)
-            | inr all ↦ inr (ap (λ (m : Mark). m.length) same ∙ all ∙ sym size)
+            | inr all ↦ inr (ap (λ (m : Mark). m.length) same ∙ all ∙ sym (ap (λ (j : JournalState). j.durable) stays))
+          ]
+        ];
+        flushed = elim next.flushed [
+          | inr none ↦ inr none
+          | inl same ↦ elim first.flushed [
+            | inl kept ↦ inl (same ∙ kept)
+            | inr none ↦ inr (ap (λ (j : JournalState). j.lines) stays ∙ none)
           ]
         ];
         later = omega (arith, first.later, next.later);

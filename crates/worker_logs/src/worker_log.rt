@@ -1,6 +1,6 @@
 // A worker's log: the journal of its growing log file, and the mark that says what of it counts.
 ghost use Rattle.std.specs.Prelude.{◌≡◌, ◌≢◌, ◌↔◌, ◌+◌, ◌-◌, ◌^◌, ◌<◌, ◌≤◌, ℕ, [], ◌++◌, false, Err, IfOk, OnOk, OnErr};
-ghost use Rattle.log_writer.specs.Journal.{free, end_of, Reaches};
+ghost use Rattle.log_writer.specs.Journal.{free, end_of, DurableGrows, Reaches};
 ghost use Rattle.wire_form.specs.LogLine.{IsLoggable, IsLogLine, line_bytes};
 ghost use Rattle.worker_logs.specs.Logs.{fresh_log, idle_log, reset_log, IsJoined, IsUpTo};
 ghost use Rattle.worker_logs.specs.Moves.{MovesLog, refusal};
@@ -55,15 +55,25 @@ impl WorkerLog {
         self.mark
     }
 
+    /// The lines that wait for the growing log file, and how much of it is durable.
+    pub fn journal(&self) -> &Journal
+        ensures journal { result.now ≡ self.now.journal }
+    {
+        &self.journal
+    }
+
     /// Makes the lines that wait durable, and then marks them at the clock's epoch less 1: a mark that was set before
     /// its flush would let a savepoint count bytes that never reached the device, and one of the clock's own epoch
-    /// would leave out its commits that are still to come.
+    /// would leave out its commits that are still to come. Behind `Ok` every image of the log file begins with what the
+    /// mark counts, and no line waits.
     pub fn flush_and_mark<D: Disk>(&mut self, bank: &mut D, clock: u32) -> Result<(), LogFault>
         requires reaches { Reaches D.tells bank.old self.old.journal }
         requires clock { 1 ≤ clock }
         ensures moves { MovesLog D.tells D.clock D.image_at D.faults (clock - 1)
             self.old self.new bank.old bank.new (refusal result) }
         ensures marked { OnOk result (IsJoined clock self.new) }
+        ensures begins { OnOk result (DurableGrows D.tells D.clock D.image_at
+            self.old.journal self.new.journal bank.old bank.new) }
         ensures kept { OnErr result (self.new.mark ≡ self.old.mark) }
         ensures not_full { (length : ℕ) → result ≢ Err (LogFault.Limit length) }
         ensures nothing { self.old.journal.lines ≡ []

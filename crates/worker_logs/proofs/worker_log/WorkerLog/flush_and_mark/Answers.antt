@@ -8,6 +8,9 @@ returns-in-Ok-clause-moves g c = rw (sym c.self.view_is)
     (moves_marked g.met.D.Disk.reads c.in-Ok.length (c.args.clock - 1) c.in-Ok.ensures.flushes c.in-Ok.ensures.flushed
     c.in-Ok.ensures.written (ap (λ n. mark_at n (c.args.clock - 1)) c.in-Ok.ensures.length.0))
 
+pub returns-in-Ok-clause-begins : goal.returns-in-Ok-clause-begins
+returns-in-Ok-clause-begins g c = rw (sym c.self.view_is) c.in-Ok.ensures.flushes.durable
+
 pub returns-in-Err-clause-moves : goal.returns-in-Err-clause-moves
 returns-in-Err-clause-moves g c = rw (sym c.self.view_is)
     (moves_refused g.met.D.Disk.reads c.in-Err.fault (c.args.clock - 1) c.in-Err.ensures.flushes refl)

@@ -11,4 +11,4 @@ returns-clause-moves g c =
     let empty = c.in_ok-flush_and_mark.ensures.marked.flushed in
     let same = c.room-2.ensures.quick (omega (arith, ap length empty)) in
     moves_then c.in_ok-flush_and_mark.ensures.moves (c.room-2.ensures.moves (c.args.clock - 1))
-    (ap (λ (log : LogState). log.journal.durable) same.0)
+    (ap (λ (log : LogState). log.journal) same.0)

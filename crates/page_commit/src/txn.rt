@@ -60,6 +60,7 @@ impl Txn {
 
     /// The value at the key of an array: what the transaction wrote last, else what it first read. A key that it has
     /// not met before is read, and kept.
+    #[inline(always)]
     pub fn read(&mut self, engine: &Engine, pass: &mut Pass, key: Key) -> Result<u64, RefusalCause>
         requires of { IsPassOf engine.now pass.old }
         requires live { IsLive self.old.sets (view pass.old) }

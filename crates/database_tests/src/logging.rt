@@ -5,6 +5,7 @@ ghost use Rattle.log_writer.specs.Journal.{Reaches};
 ghost use Rattle.log_writer.specs.Save.{IsStored};
 ghost use Rattle.worker_logs.specs.Saves.{IsBeside};
 
+use crate::checks::is_so;
 use crate::disks::disk;
 use log_writer::{LogFault, Records, Save, Vault};
 use outside::{Disk, MemDisk};
@@ -274,11 +275,8 @@ fn what_a_save_counts(rt: HostRuntime) -> Result<(), Fail> {
             count: 3,
             lengths: counted,
         };
-        assert_eq!(rt;
-            stored(alloc, &workers, &beside(growing, closed))?,
-            Some((epoch, point)),
-            "at {workers:?}"
-        );
+        let found = stored(alloc, &workers, &beside(growing, closed))?;
+        is_so("what a save counts", found == Some((epoch, point)))?;
     }
     Ok(())
 }

@@ -2,6 +2,7 @@
 ghost use Rattle.std.specs.Prelude.{IfOk};
 ghost use Rattle.outside.specs.Disk.{IfTold, Only};
 
+use crate::checks::is_so;
 use crate::disks::disk;
 use lists::OrMemory;
 use log_writer::{Records, Vault};
@@ -15,7 +16,7 @@ mod older_snapshots;
 mod settled_databases;
 
 // What is told of a database whose storage 1 has one key of interest, 2.
-#[derive(Clone, Copy, Debug, PartialEq, Eq)]
+#[derive(Clone, Copy, PartialEq, Eq)]
 enum Told {
     State { epoch: u32, value: Option<u64> },
     Damaged { device: Device, at: u64 },
@@ -172,7 +173,10 @@ fn what_counts_is_recovered(rt: HostRuntime) -> Result<(), Fail> {
     let first = pages(alloc, &[catalogue(0, 0, 0)])?;
     let fresh = vault(alloc, &[0; 1024], &[1, 2, 3], [&[7], &[]], &[])?;
     let value = None;
-    assert_eq!(rt; told_of(alloc, fresh), Told::State { epoch: 0, value });
+    is_so(
+        "fresh",
+        told_of(alloc, fresh) == Told::State { epoch: 0, value },
+    )?;
     let two = two_lines(line(1, 1, 7), line(2, 3, 9));
     // Saved epoch, lengths of the log files 0 and 3, their words, and what is told.
     let cases: [(u64, [u64; 4], [&[u64]; 2], Told); 6] = [
@@ -203,11 +207,13 @@ fn what_counts_is_recovered(rt: HostRuntime) -> Result<(), Fail> {
     for (epoch, lengths, banks, want) in cases {
         let save = save(alloc, epoch, 1, &lengths)?;
         let found = told_of(alloc, vault(alloc, &save, &first, banks, &[])?);
-        assert_eq!(rt; found, want, "{epoch} {lengths:?}");
+        is_so("what counts", found == want)?;
     }
     let short = vault(alloc, &[0; 3], &[], [&[], &[]], &[])?;
-    assert_eq!(rt; told_of(alloc, short), damaged(Device::Save, 0));
-    Ok(())
+    is_so(
+        "a short save",
+        told_of(alloc, short) == damaged(Device::Save, 0),
+    )
 }
 
 fn mark(epoch: u32, page: u32) -> SnapshotMark {
@@ -233,18 +239,14 @@ fn snapshots_are_read_from_the_newest_back(rt: HostRuntime) -> Result<(), Fail> 
     )?;
     if named.is_whole() {
         let recovered = recover(alloc, &mut named).expect(&rt, "three snapshots");
-        assert_eq!(rt;
-            recovered.catalogues.as_slice(),
-            [mark(0, 1), mark(1, 3), mark(2, 5)].as_slice()
-        );
-        assert_eq!(rt;
-            (
-                recovered.decls.len(),
-                recovered.store.count(),
-                recovered.entries.is_empty()
-            ),
-            (1, 5, true)
-        );
+        let marks = [mark(0, 1), mark(1, 3), mark(2, 5)];
+        is_so(
+            "catalogues",
+            recovered.catalogues.as_slice() == marks.as_slice(),
+        )?;
+        is_so("storages", recovered.decls.len() == 1)?;
+        is_so("pages", recovered.store.count() == 5)?;
+        is_so("entries", recovered.entries.is_empty())?;
     }
     // Saved epoch, index of the page that is another one, what it is, and what is told.
     let cases = [
@@ -265,12 +267,14 @@ fn snapshots_are_read_from_the_newest_back(rt: HostRuntime) -> Result<(), Fail> 
             alloc,
             vault(alloc, &save, &pages(alloc, &all)?, [&[], &[]], &[])?,
         );
-        assert_eq!(rt; found, want, "{epoch} {index}");
+        is_so("another page", found == want)?;
     }
     let save = save(alloc, 2, 6, &[])?;
     let short = vault(alloc, &save, &pages(alloc, &three)?, [&[], &[]], &[])?;
-    assert_eq!(rt; told_of(alloc, short), damaged(Device::Snaps, 2560));
-    Ok(())
+    is_so(
+        "too few pages",
+        told_of(alloc, short) == damaged(Device::Snaps, 2560),
+    )
 }
 
 // What is told of the database of one commit where this byte of a place of the save device is another one.
@@ -313,7 +317,10 @@ fn each_byte_of_the_save_is_another_one(rt: HostRuntime) -> Result<(), Fail> {
             alloc,
             vault(alloc, &save, &first, [&line(1, 1, 7), &[]], &[])?,
         );
-        assert_eq!(rt; found, told_of_place(at % 512, at >= 512), "{at}");
+        is_so(
+            "a byte of the save",
+            found == told_of_place(at % 512, at >= 512),
+        )?;
     }
     Ok(())
 }
@@ -338,7 +345,7 @@ fn each_byte_of_the_snapshots_is_another_one(rt: HostRuntime) -> Result<(), Fail
             alloc,
             vault(alloc, &save, &snaps, [&line(1, 1, 7), &[]], &[])?,
         );
-        assert_eq!(rt; found, want, "{at}");
+        is_so("a byte of the snapshots", found == want)?;
     }
     Ok(())
 }
@@ -363,7 +370,7 @@ fn each_byte_of_a_log_line_is_another_one(rt: HostRuntime) -> Result<(), Fail> {
             _ => damaged(Device::Bank(0), 0),
         };
         let found = told_of(alloc, vault(alloc, &save, &first, [&words, &[]], &[])?);
-        assert_eq!(rt; found, want, "{at}");
+        is_so("a byte of a log line", found == want)?;
     }
     Ok(())
 }
@@ -375,6 +382,8 @@ fn a_failed_call_is_told_of_its_device(rt: HostRuntime) -> Result<(), Fail> {
     let first = pages(alloc, &[catalogue(0, 0, 0)])?;
     let failing = vault(alloc, &save, &first, [&line(1, 1, 7), &[]], &[0])?;
     let device = Device::Save;
-    assert_eq!(rt; told_of(alloc, failing), Told::Failed { device });
-    Ok(())
+    is_so(
+        "a call fails",
+        told_of(alloc, failing) == Told::Failed { device },
+    )
 }

@@ -15,12 +15,12 @@ fn texts_are_numbers(rt: HostRuntime) -> Result<(), Fail> {
         ("+1", None),
         ("1 ", None),
     ] {
-        assert_eq!(rt; number_of(text.as_bytes()), number, "{text}");
+        assert_eq!(rt; number_of(text.as_bytes()), number);
     }
     for (text, number, behind) in [("120:3", 120, 2), ("0 1", 0, 2), ("7", 7, 0)] {
         let (found, rest) = number_at(text.as_bytes()).ok_or("a number")?;
-        assert_eq!(rt; found, number, "{text}");
-        assert_eq!(rt; rest.len(), behind, "{text}");
+        assert_eq!(rt; found, number);
+        assert_eq!(rt; rest.len(), behind);
     }
     assert!(rt; number_at(b"07").is_none());
     assert!(rt; number_at(b":7").is_none());
@@ -32,7 +32,7 @@ fn numbers_are_texts(rt: HostRuntime) {
     for (number, text) in [(0, "0"), (120, "120"), (u64::MAX, "18446744073709551615")] {
         let mut digits = [0; 20];
         let start = write_digits(number, &mut digits);
-        assert!(rt; &digits[start..] == text.as_bytes(), "{text}");
+        assert!(rt; &digits[start..] == text.as_bytes());
     }
 }
 
@@ -45,6 +45,6 @@ fn wide_numbers_are_texts(rt: HostRuntime) {
     ] {
         let mut digits = [0; 39];
         let start = write_wide_digits(number, &mut digits);
-        assert!(rt; &digits[start..] == text.as_bytes(), "{text}");
+        assert!(rt; &digits[start..] == text.as_bytes());
     }
 }

@@ -5,9 +5,8 @@
 //! `decimal_texts` numbers and their texts (decimals), `gathered_texts` whole writes and a sink that fails
 //! (text_output), `full_sets` sets at their bounds and in order (tx_sets). `mapped_logs` has the entries of log files
 //! (log_mapper), `queued_buckets` their way through queues (bucket_queues), `reduced_logs` the last ones of keys
-//! (log_reducer), and `settled_snapshots` what a settling answers
-//! and leaves, to the byte (checkpoints). `call_words` has the words of calls (command_line), `made_scripts` the scripts of
-//! numbers (script_maker), `short_sums` runs in short (brief_output).
+//! (log_reducer). `call_words` has the words of calls (command_line), `made_scripts` the scripts of numbers
+//! (script_maker), `short_sums` runs in short (brief_output).
 //! They stand in one crate above those that they test, because a crate with tests is proved a second time, and one more
 //! crate costs a start of its own.
 #![tactic(auto)]
@@ -30,8 +29,6 @@ mod mapped_logs;
 mod queued_buckets;
 #[cfg(test)]
 mod reduced_logs;
-#[cfg(test)]
-mod settled_snapshots;
 #[cfg(test)]
 mod short_sums;
 #[cfg(test)]

@@ -117,3 +117,20 @@ fn lines_go_on_across_windows(rt: HostRuntime) -> Result<(), Fail> {
     assert!(rt; map_bank(alloc, &mut bank, 4, 43_600, &decls, 0, 9).is_ok());
     Ok(())
 }
+
+// Each read takes a window of 4,096 bytes at most, and none follows one with damage in it.
+#[test]
+fn a_window_is_read_at_a_time(rt: HostRuntime) -> Result<(), Fail> {
+    let alloc = rt.alloc();
+    let mut bank = long_disk(alloc, b"")?;
+    let decls = [Decl::Tree { id: 2 }];
+    assert!(rt; map_bank(alloc, &mut bank, 4, 44_000, &decls, 0, 9).is_ok());
+    // One call for the length, and more than ten for 44,000 bytes.
+    assert!(rt; bank.calls().len() > 11);
+    let again = [commit(1, 1, 2, &[2]), commit(1, 1, 2, &[3])];
+    let mut bank = disk(alloc, &again, &[0; 9_000])?;
+    let damaged = OrMemory::Fault(MapFault::Damaged { at: 40 });
+    assert!(rt; map_bank(alloc, &mut bank, 0, 9_080, &decls, 0, 9).err() == Some(damaged));
+    assert_eq!(rt; bank.calls().len(), 2);
+    Ok(())
+}

@@ -337,12 +337,22 @@ fn page(value: u64) -> Home {
     Home::InPage(5, old(value))
 }
 
+/// An entry of a snapshot page with the value of key X, which an attempt wrote anew.
+const WRITTEN_ANEW: Home = Home::InPage(
+    5,
+    Content {
+        number: FIRST,
+        value: Some(10),
+    },
+);
+
 /// A key moves between equal contents alone, to a place that is nobody's, and not from under another's lock.
 #[test]
 fn refused_for_homes(rt: HostRuntime) -> Result<(), Fail> {
     let lines = [
         (0, Step::Lock(Y), true),
         (1, Step::Move(X, page(11)), false),
+        (1, Step::Move(X, WRITTEN_ANEW), false),
         (1, Step::Move(X, Home::Nowhere), false),
         (1, Step::Move(X, Home::InSlot(spot(2))), false),
         (1, Step::Move(X, Home::InSlot(spot(9))), false),

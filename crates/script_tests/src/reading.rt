@@ -1,9 +1,10 @@
 // Scripts and texts that are none, worked by hand from the grammar.
 use lists::OrMemory;
-use script_grammar::{FaultKind, KeeperLine, Line, LineOps, Round, ScriptFault, read_script};
+use script_grammar::{
+    FaultKind, KeeperLine, Line, LineOps, Round, Script, ScriptFault, read_script,
+};
 use serial_model::{Decl, Key, Op};
-use std::alloc::Global;
-use std::process::Abort;
+use std::alloc::{AllocError, Global};
 use std::test::Fail;
 
 // Rows with a bar between two: the number of the faulty line as a character from `0` on, a space, and the text.
@@ -177,21 +178,29 @@ fn with_empty_lines(alloc: Global, text: &[u8]) -> Result<Vec<u8>, Fail> {
     Ok(long)
 }
 
-/// Each row has this kind of fault, in its line, at the end of a source and far before it.
-fn tells(rt: &impl Abort, alloc: Global, kind: FaultKind, rows: &[u8]) -> Result<(), Fail> {
+/// It is so, or the test fails with what was looked at.
+fn is_so(what: &str, so: bool) -> Result<(), Fail> {
+    if so { Ok(()) } else { Err(Fail::from(what)) }
+}
+
+/// The text has this fault, at the end of a source and far before it.
+fn is_told(alloc: Global, text: &[u8], want: (u32, FaultKind)) -> Result<(), Fail> {
+    let long = with_empty_lines(alloc, text)?;
+    is_so("a fault", fault(alloc, text) == Some(want))?;
+    is_so(
+        "a fault far before the end",
+        fault(alloc, &long) == Some(want),
+    )
+}
+
+/// Each row has this kind of fault, in its line.
+fn tells(alloc: Global, kind: FaultKind, rows: &[u8]) -> Result<(), Fail> {
     for row in rows.split(|byte| *byte == b'|') {
         match row {
             [line, b' ', text @ ..] => {
-                let want = (u32::from(line.wrapping_sub(b'0')), kind);
-                let long = with_empty_lines(alloc, text)?;
-                assert_eq!(rt; fault(alloc, text), Some(want), "at {text:?}");
-                assert_eq!(rt;
-                    fault(alloc, &long),
-                    Some(want),
-                    "far before the end at {text:?}"
-                );
+                is_told(alloc, text, (u32::from(line.wrapping_sub(b'0')), kind))?;
             }
-            _ => assert!(rt; false, "no row: {row:?}"),
+            _ => return Err(Fail::from("no row")),
         }
     }
     Ok(())
@@ -199,20 +208,20 @@ fn tells(rt: &impl Abort, alloc: Global, kind: FaultKind, rows: &[u8]) -> Result
 
 #[test]
 fn tells_words(rt: HostRuntime) -> Result<(), Fail> {
-    tells(&rt, rt.alloc(), FaultKind::Word, WORD)
+    tells(rt.alloc(), FaultKind::Word, WORD)
 }
 
 #[test]
 fn tells_numbers(rt: HostRuntime) -> Result<(), Fail> {
-    tells(&rt, rt.alloc(), FaultKind::Number, NUMBER)
+    tells(rt.alloc(), FaultKind::Number, NUMBER)
 }
 
 #[test]
 fn tells_the_other_kinds(rt: HostRuntime) -> Result<(), Fail> {
-    tells(&rt, rt.alloc(), FaultKind::TooMany, TOO_MANY)?;
-    tells(&rt, rt.alloc(), FaultKind::Declared, DECLARED)?;
-    tells(&rt, rt.alloc(), FaultKind::Kind, KIND)?;
-    tells(&rt, rt.alloc(), FaultKind::Range, RANGE)
+    tells(rt.alloc(), FaultKind::TooMany, TOO_MANY)?;
+    tells(rt.alloc(), FaultKind::Declared, DECLARED)?;
+    tells(rt.alloc(), FaultKind::Kind, KIND)?;
+    tells(rt.alloc(), FaultKind::Range, RANGE)
 }
 
 /// The first line of the round, where it is a worker's.
@@ -226,186 +235,240 @@ fn worker_line<'b>(round: &Round<'_>, room: &'b mut LineOps) -> Option<(u8, &'b 
     }
 }
 
-#[test]
-fn reads_the_worked_rows(rt: HostRuntime) -> Result<(), Fail> {
-    let text =
-        b"array 1 4\ntree 3\n0 w 1 2 7; r 1 2\nk save\nk epoch\njoin\n0 a 1 0 5; t 1 0 6; d 3 9; s 3 4 8\n";
-    let script = read_script(rt.alloc(), text).ok().ok_or("it is a script")?;
-    assert_eq!(rt;
-        script.decls(),
-        [Decl::Array { id: 1, size: 4 }, Decl::Tree { id: 3 }].as_slice()
-    );
-    let key = Key { storage: 1, key: 2 };
-    let first = Key { storage: 1, key: 0 };
-    let removed = Op::Remove(Key { storage: 3, key: 9 });
-    let scan = Op::Scan {
+/// Two rounds, of which the first one has two lines of the maintenance thread.
+const WORKED: &[u8] = b"\
+array 1 4\ntree 3\n0 w 1 2 7; r 1 2\nk save\nk epoch\njoin\n0 a 1 0 5; t 1 0 6; d 3 9; s 3 4 8\n";
+
+const DECLS: [Decl; 2] = [Decl::Array { id: 1, size: 4 }, Decl::Tree { id: 3 }];
+
+const WRITTEN: Key = Key { storage: 1, key: 2 };
+
+const ADDED: Key = Key { storage: 1, key: 0 };
+
+const FIRST_OPS: [Op; 2] = [Op::Write(WRITTEN, 7), Op::Read(WRITTEN)];
+
+const SECOND_OPS: [Op; 4] = [
+    Op::Add(ADDED, 5),
+    Op::Take(ADDED, 6),
+    Op::Remove(Key { storage: 3, key: 9 }),
+    Op::Scan {
         storage: 3,
         low: 4,
         high: 8,
-    };
-    assert_eq!(rt; script.rounds(), 2);
-    let round = script.round(0);
-    assert_eq!(rt; round.len(), 3);
-    assert_eq!(rt;
-        (
-            round.worker(0),
-            round.worker(1),
-            round.keeper(1),
-            round.keeper(2)
-        ),
-        (
-            Some(0),
-            None,
-            Some(KeeperLine::Save),
-            Some(KeeperLine::Epoch)
-        )
-    );
+    },
+];
+
+/// The round's first line is this worker's, and does this.
+fn does(round: &Round<'_>, worker: u8, ops: &[Op]) -> bool {
     let mut room = LineOps::new();
-    assert_eq!(rt;
-        worker_line(&round, &mut room),
-        Some((0, [Op::Write(key, 7), Op::Read(key)].as_slice()))
-    );
-    let round = script.round(1);
-    assert_eq!(rt; round.len(), 1);
-    assert_eq!(rt;
-        worker_line(&round, &mut room),
-        Some((
-            0,
-            [Op::Add(first, 5), Op::Take(first, 6), removed, scan].as_slice()
-        ))
-    );
-    Ok(())
+    worker_line(round, &mut room) == Some((worker, ops))
+}
+
+fn is_first_round(round: &Round<'_>) -> bool {
+    if round.len() != 3 {
+        return false;
+    }
+    (round.worker(0) == Some(0))
+        & round.worker(1).is_none()
+        & (round.keeper(1) == Some(KeeperLine::Save))
+        & (round.keeper(2) == Some(KeeperLine::Epoch))
+        & does(round, 0, &FIRST_OPS)
+}
+
+fn is_second_round(round: &Round<'_>) -> bool {
+    (round.len() == 1) & does(round, 0, &SECOND_OPS)
+}
+
+fn has_worked_rounds(script: &Script) -> bool {
+    if script.rounds() != 2 {
+        return false;
+    }
+    is_first_round(&script.round(0)) & is_second_round(&script.round(1))
+}
+
+#[test]
+fn reads_the_worked_rows(rt: HostRuntime) -> Result<(), Fail> {
+    let script = read_script(rt.alloc(), WORKED)
+        .ok()
+        .ok_or("it is a script")?;
+    let so = (script.decls() == DECLS.as_slice()) & has_worked_rounds(&script);
+    is_so("the worked rows", so)
 }
 
 /// One operation a row, of a key and a value in storage 7 or 123. The last number has more digits than are read in one
 /// pass.
+const WRITES: [(&str, u8, u64, u64); 6] = [
+    ("tree 7\ntree 123\n4 w 7 0 9", 7, 0, 9),
+    ("tree 7\ntree 123\n4 w 123 12 345", 123, 12, 345),
+    ("tree 7\ntree 123\n4 w 7 6789 12345", 7, 6_789, 12_345),
+    (
+        "tree 7\ntree 123\n4 w 123 1000000000 99",
+        123,
+        1_000_000_000,
+        99,
+    ),
+    (
+        "tree 7\ntree 123\n4 w 7 1234567890123456789 9999999999999999999",
+        7,
+        1_234_567_890_123_456_789,
+        9_999_999_999_999_999_999,
+    ),
+    (
+        "tree 7\ntree 123\n4 w 123 1 18446744073709551615",
+        123,
+        1,
+        18_446_744_073_709_551_615,
+    ),
+];
+
+/// The first line of a text is worker 4's, and does this alone.
+fn reads(alloc: Global, text: &[u8], op: Op) -> bool {
+    let Ok(script) = read_script(alloc, text) else {
+        return false;
+    };
+    if script.rounds() == 0 {
+        return false;
+    }
+    does(&script.round(0), 4, [op].as_slice())
+}
+
 #[test]
 fn reads_numbers_of_each_length(rt: HostRuntime) -> Result<(), Fail> {
-    let ops: [(&[u8], u8, u64, u64); 6] = [
-        (b"7 0 9", 7, 0, 9),
-        (b"123 12 345", 123, 12, 345),
-        (b"7 6789 12345", 7, 6_789, 12_345),
-        (b"123 1000000000 99", 123, 1_000_000_000, 99),
-        (
-            b"7 1234567890123456789 9999999999999999999",
-            7,
-            1_234_567_890_123_456_789,
-            9_999_999_999_999_999_999,
-        ),
-        (
-            b"123 1 18446744073709551615",
-            123,
-            1,
-            18_446_744_073_709_551_615,
-        ),
-    ];
-    let mut room = LineOps::new();
-    for (words, storage, key, value) in ops {
-        let mut text = b"tree 7\ntree 123\n4 w ".to_vec(rt.alloc())?;
-        text.extend_from_slice(words)?;
-        let long = with_empty_lines(rt.alloc(), &text)?;
-        let script = read_script(rt.alloc(), &long).ok().ok_or("it is a script")?;
-        let want = [Op::Write(Key { storage, key }, value)];
-        if script.rounds() == 0 {
-            return Err(Fail::from("it has a round"));
-        }
-        assert_eq!(rt;
-            worker_line(&script.round(0), &mut room),
-            Some((4, want.as_slice()))
-        );
+    for (text, storage, key, value) in &WRITES {
+        let (storage, key) = (*storage, *key);
+        let long = with_empty_lines(rt.alloc(), text.as_bytes())?;
+        is_so(
+            text,
+            reads(rt.alloc(), &long, Op::Write(Key { storage, key }, *value)),
+        )?;
     }
     Ok(())
+}
+
+/// A line of sixteen operations.
+const SIXTEEN: &str = "array 1 1\n7 \
+r 1 0; r 1 0; r 1 0; r 1 0; r 1 0; r 1 0; r 1 0; r 1 0; r 1 0; r 1 0; r 1 0; r 1 0; r 1 0; r 1 0; r 1 0; r 1 0";
+
+/// Sixteen storages.
+const STORAGES: &str = "\
+array 0 1\narray 1 1\narray 2 1\narray 3 1\narray 4 1\narray 5 1\narray 6 1\narray 7 1\n\
+array 8 1\narray 9 1\narray 10 1\narray 11 1\narray 12 1\narray 13 1\narray 14 1\narray 15 1\n";
+
+/// Texts with how many storages, rounds and lines they have.
+const ACCEPTED: [(&str, usize, usize, usize); 18] = [
+    ("", 0, 1, 0),
+    ("\n\n", 0, 1, 0),
+    ("array 1 4", 1, 1, 0),
+    ("\narray 255 131072\n\n3 r 255 131071", 1, 1, 1),
+    (
+        "array 0 1\narray 9 2\n0 r 0 0\n0 r 9 1\n1 w 9 0 0\n",
+        2,
+        1,
+        3,
+    ),
+    ("array 1 4\n0 w 1 0 18446744073709551615\n", 1, 1, 1),
+    ("array 1 4\n7 r 1 3\n", 1, 1, 1),
+    (SIXTEEN, 1, 1, 1),
+    ("tree 0\ntree 255", 2, 1, 0),
+    (
+        "tree 0\narray 1 1\n0 d 0 18446744073709551615; s 0 18446744073709551615 0; a 0 7 1; r 1 0",
+        2,
+        1,
+        1,
+    ),
+    (STORAGES, 16, 1, 0),
+    ("k epoch\nk save", 0, 1, 2),
+    ("k drop\nk glean\nk drop", 0, 1, 3),
+    ("array 1 4\nk save\n0 r 1 0\njoin\nk epoch\n", 1, 2, 3),
+    ("join", 0, 1, 0),
+    ("join\njoin\n\n", 0, 2, 0),
+    ("array 1 4\n0 a 1 0 1\njoin\n\n0 t 1 0 1", 1, 2, 2),
+    ("array 1 4\njoin\njoin\n0 r 1 0\njoin\n", 1, 3, 1),
+];
+
+/// The text has so many storages, rounds and lines.
+fn has(alloc: Global, text: &[u8], want: (usize, usize, usize)) -> Result<(), Fail> {
+    is_so(
+        "storages, rounds and lines",
+        counts(alloc, text) == Some(want),
+    )
 }
 
 #[test]
 fn accepts(rt: HostRuntime) -> Result<(), Fail> {
-    let sixteen =
-        b"array 1 1\n7 r 1 0; r 1 0; r 1 0; r 1 0; r 1 0; r 1 0; r 1 0; r 1 0; r 1 0; r 1 0; r 1 0; r 1 0; r 1 0; r 1 0; r 1 0; r 1 0";
-    let storages =
-        b"array 0 1\narray 1 1\narray 2 1\narray 3 1\narray 4 1\narray 5 1\narray 6 1\narray 7 1\narray 8 1\narray 9 1\narray 10 1\narray 11 1\narray 12 1\narray 13 1\narray 14 1\narray 15 1\n";
-    let texts: [(&[u8], (usize, usize, usize)); 18] = [
-        (b"", (0, 1, 0)),
-        (b"\n\n", (0, 1, 0)),
-        (b"array 1 4", (1, 1, 0)),
-        (b"\narray 255 131072\n\n3 r 255 131071", (1, 1, 1)),
-        (
-            b"array 0 1\narray 9 2\n0 r 0 0\n0 r 9 1\n1 w 9 0 0\n",
-            (2, 1, 3),
-        ),
-        (b"array 1 4\n0 w 1 0 18446744073709551615\n", (1, 1, 1)),
-        (b"array 1 4\n7 r 1 3\n", (1, 1, 1)),
-        (sixteen, (1, 1, 1)),
-        (b"tree 0\ntree 255", (2, 1, 0)),
-        (
-            b"tree 0\narray 1 1\n0 d 0 18446744073709551615; s 0 18446744073709551615 0; a 0 7 1; r 1 0",
-            (2, 1, 1),
-        ),
-        (storages, (16, 1, 0)),
-        (b"k epoch\nk save", (0, 1, 2)),
-        (b"k drop\nk glean\nk drop", (0, 1, 3)),
-        (b"array 1 4\nk save\n0 r 1 0\njoin\nk epoch\n", (1, 2, 3)),
-        (b"join", (0, 1, 0)),
-        (b"join\njoin\n\n", (0, 2, 0)),
-        (b"array 1 4\n0 a 1 0 1\njoin\n\n0 t 1 0 1", (1, 2, 2)),
-        (b"array 1 4\njoin\njoin\n0 r 1 0\njoin\n", (1, 3, 1)),
-    ];
-    for (text, want) in texts {
-        let long = with_empty_lines(rt.alloc(), text)?;
-        assert_eq!(rt; counts(rt.alloc(), text), Some(want), "at {text:?}");
-        assert_eq!(rt;
-            counts(rt.alloc(), &long),
-            Some(want),
-            "far before the end at {text:?}"
-        );
+    for (text, storages, rounds, lines) in &ACCEPTED {
+        let want = (*storages, *rounds, *lines);
+        has(rt.alloc(), text.as_bytes(), want)?;
+        let long = with_empty_lines(rt.alloc(), text.as_bytes())?;
+        has(rt.alloc(), &long, want)?;
     }
     Ok(())
+}
+
+/// The first bytes, and the others behind them.
+fn both(alloc: Global, first: &[u8], others: &[u8]) -> Result<Vec<u8>, AllocError> {
+    let mut text = first.to_vec(alloc)?;
+    text.extend_from_slice(others)?;
+    Ok(text)
+}
+
+/// The text with others around it has this fault.
+fn is_fault(
+    alloc: Global,
+    (before, text, behind): (&[u8], &[u8], &[u8]),
+    want: (u32, FaultKind),
+) -> Result<(), Fail> {
+    let begun = both(alloc, before, text)?;
+    let whole = both(alloc, &begun, behind)?;
+    is_so("a fault at a bound", fault(alloc, &whole) == Some(want))
 }
 
 #[test]
 fn bounds_a_line(rt: HostRuntime) -> Result<(), Fail> {
-    let mut text = vec![in rt.alloc(); b'0'; 1024]?;
-    assert_eq!(rt; fault(rt.alloc(), &text), Some((1, FaultKind::Word)));
-    text.push(b'0')?;
-    assert_eq!(rt; fault(rt.alloc(), &text), Some((1, FaultKind::TooLong)));
-    text.extend_from_slice(b"\n?\n")?;
-    assert_eq!(rt; fault(rt.alloc(), &text), Some((1, FaultKind::TooLong)));
-    let mut late = b"join\n\n".to_vec(rt.alloc())?;
-    late.extend_from_slice(&text)?;
-    assert_eq!(rt; fault(rt.alloc(), &late), Some((3, FaultKind::TooLong)));
-    Ok(())
+    let alloc = rt.alloc();
+    // One byte more than the longest line has.
+    let line = vec![in alloc; b'0'; 1025]?;
+    let long = (1, FaultKind::TooLong);
+    is_fault(alloc, (b"", &line[1..], b""), (1, FaultKind::Word))?;
+    is_fault(alloc, (b"", &line, b""), long)?;
+    is_fault(alloc, (b"", &line, b"\n?\n"), long)?;
+    is_fault(
+        alloc,
+        (b"join\n\n", &line, b"\n?\n"),
+        (3, FaultKind::TooLong),
+    )
+}
+
+/// A round of as many lines as one has at most.
+fn full_round(alloc: Global) -> Result<Vec<u8>, AllocError> {
+    let mut text = b"array 1 1\n".to_vec(alloc)?;
+    for _ in 0..65_536 {
+        text.extend_from_slice(b"0 r 1 0\n")?;
+    }
+    Ok(text)
 }
 
 #[test]
 fn bounds_a_round(rt: HostRuntime) -> Result<(), Fail> {
-    let mut text = b"array 1 1\n".to_vec(rt.alloc())?;
-    for _ in 0..65_536 {
-        text.extend_from_slice(b"0 r 1 0\n")?;
-    }
-    assert_eq!(rt; counts(rt.alloc(), &text), Some((1, 1, 65_536)));
-    let mut joined = text.clone()?;
-    joined.extend_from_slice(b"join\n0 r 1 0\n")?;
-    assert_eq!(rt; counts(rt.alloc(), &joined), Some((1, 2, 65_537)));
-    let mut asked = text.clone()?;
-    asked.extend_from_slice(b"k save\n")?;
-    assert_eq!(rt;
-        fault(rt.alloc(), &asked),
-        Some((65_538, FaultKind::TooMany))
-    );
-    text.extend_from_slice(b"0 r 1 0\n")?;
-    assert_eq!(rt;
-        fault(rt.alloc(), &text),
-        Some((65_538, FaultKind::TooMany))
-    );
-    Ok(())
+    let alloc = rt.alloc();
+    let text = full_round(alloc)?;
+    has(alloc, &text, (1, 1, 65_536))?;
+    let joined = both(alloc, &text, b"join\n0 r 1 0\n")?;
+    has(alloc, &joined, (1, 2, 65_537))?;
+    let many = (65_538, FaultKind::TooMany);
+    is_fault(alloc, (&text, b"k save\n", b""), many)?;
+    is_fault(alloc, (&text, b"0 r 1 0\n", b""), many)
 }
 
 #[test]
 fn bounds_a_source(rt: HostRuntime) -> Result<(), Fail> {
     let text = vec![in rt.alloc(); b'?'; 67_108_865]?;
-    assert_eq!(rt; fault(rt.alloc(), &text), Some((0, FaultKind::TooLong)));
-    assert_eq!(rt;
-        fault(rt.alloc(), &text[1..]),
-        Some((1, FaultKind::TooLong))
-    );
-    Ok(())
+    is_so(
+        "one byte too many",
+        fault(rt.alloc(), &text) == Some((0, FaultKind::TooLong)),
+    )?;
+    is_so(
+        "one long line",
+        fault(rt.alloc(), &text[1..]) == Some((1, FaultKind::TooLong)),
+    )
 }

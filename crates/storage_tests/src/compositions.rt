@@ -156,7 +156,7 @@ const ARRAYS: [(u32, &[Change], &[Wanted]); 3] = [
 fn arrays_get_their_first_pages(rt: HostRuntime) {
     for (size, puts, wanted) in &ARRAYS {
         let made = makes(rt.alloc(), *size, puts, wanted);
-        assert_eq!(rt; made, Ok(true), "of {size}");
+        assert_eq!(rt; made, Ok(true));
     }
 }
 
@@ -402,7 +402,7 @@ fn random_rounds_are_those_of_a_map(rt: HostRuntime) {
             count: *count,
             stride: *stride,
         };
-        assert_eq!(rt; random_rounds(rt.alloc(), keys), Ok(true), "{size}");
+        assert_eq!(rt; random_rounds(rt.alloc(), keys), Ok(true));
     }
 }
 
@@ -465,11 +465,11 @@ fn rows_past_a_full_page_take_a_third_level(rt: HostRuntime) {
     // levels as many more make as many, once within 32 levels, and once below them.
     for (count, pages, levels, more) in [(480, 31, 31, 472), (481, 33, 30, 473)] {
         let in_all = pages_in_all(alloc, count);
-        assert!(rt; in_all == Ok(pages + 2), "of {count}");
+        assert!(rt; in_all == Ok(pages + 2));
         let within = pages_behind(alloc, levels, more);
-        assert!(rt; within.is_ok(), "of {count}");
+        assert!(rt; within.is_ok());
         let deep = pages_behind(alloc, levels + 1, more);
-        assert!(rt; deep == Err(DEEP), "of {count}");
+        assert!(rt; deep == Err(DEEP));
     }
 }
 

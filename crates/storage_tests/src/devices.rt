@@ -104,14 +104,14 @@ fn finishes<D: Disk>(rt: &impl Abort, disk: &mut D) {
 // What a disk has whose call of this number failed.
 fn is_left(rt: &impl Abort, disk: &MemDisk, number: u64, left: &[u8]) {
     assert!(rt; fails(disk) == [number].as_slice());
-    assert!(rt; bytes(disk) == left, "at {number}");
-    assert!(rt; last_call(disk) == Some((true, number == 6)), "at {number}");
+    assert!(rt; bytes(disk) == left);
+    assert!(rt; last_call(disk) == Some((true, number == 6)));
 }
 
 // The call of this number fails, at this clock, and leaves these bytes.
 fn fails_on(rt: &impl Abort, disk: &mut MemDisk, number: u64, clock: u64, left: &[u8]) {
     let answer = write_and_read(rt, disk);
-    assert!(rt; answer.is_err(), "at {number}");
+    assert!(rt; answer.is_err());
     is_at(rt, disk, 1, clock);
     is_left(rt, disk, number, left);
 }
@@ -163,20 +163,20 @@ fn passes(disk: &FuseDisk<MemDisk>) -> (u64, u64) {
     (disk.passes(), disk.disk().faults())
 }
 
-// After so many passes, with this clock, each call fails.
-fn burns(rt: &impl Abort, disk: &mut FuseDisk<MemDisk>, number: u64, clock: u64) {
+// Once all passes are used, at this clock, each call fails.
+fn burns(rt: &impl Abort, disk: &mut FuseDisk<MemDisk>, clock: u64) {
     let answer = write_and_read(rt, disk);
-    assert!(rt; answer.is_err(), "after {number}");
+    assert!(rt; answer.is_err());
     is_at(rt, disk, 1, clock);
     let again = sync(disk);
-    assert!(rt; again.is_err(), "after {number}");
+    assert!(rt; again.is_err());
     is_at(rt, disk, 2, clock);
-    assert!(rt; passes(disk) == (0, 0), "after {number}");
+    assert!(rt; passes(disk) == (0, 0));
 }
 
 fn burns_after(rt: &impl Abort, alloc: Global, number: u64) -> Result<(), AllocError> {
     let mut disk = fused(alloc, number)?;
-    burns(rt, &mut disk, number, number.wrapping_mul(2));
+    burns(rt, &mut disk, number.wrapping_mul(2));
     Ok(())
 }
 
@@ -219,6 +219,9 @@ fn refuses(rt: &impl Abort, disk: &mut FileDisk) {
     let answer = disk.write(0, b"x");
     assert!(rt; answer == Err(Failed));
     assert!(rt; counts(disk) == (1, 4));
+    let answer = disk.cut(1);
+    assert!(rt; answer == Err(Failed));
+    assert!(rt; counts(disk) == (2, 6));
 }
 
 #[test]
@@ -227,6 +230,20 @@ fn a_closed_way_is_a_fault(rt: HostRuntime) -> Result<(), Fail> {
     fs::write(&rt, path, b"abc".as_slice())?;
     let mut disk = FileDisk::new(fs::open(&rt, path)?);
     refuses(&rt, &mut disk);
+    fs::remove_file(&rt, path)?;
+    Ok(())
+}
+
+// A file that was opened for writing alone gives no bytes, and that isn't its end.
+#[test]
+fn a_read_that_is_refused_is_a_fault(rt: HostRuntime) -> Result<(), Fail> {
+    let path = "outside_write_only";
+    fs::write(&rt, path, b"abc".as_slice())?;
+    let mut disk = FileDisk::new(OpenOptions::new().write(true).open(&rt, path)?);
+    let mut buf = [0; 2];
+    let answer = disk.read(0, &mut buf);
+    assert!(rt; answer == Err(Failed));
+    assert!(rt; counts(&disk) == (1, 2));
     fs::remove_file(&rt, path)?;
     Ok(())
 }
@@ -518,14 +535,14 @@ fn is_cut(
     at: u64,
     left: [usize; 6],
 ) {
-    assert!(rt; answer == Ok(()), "{device:?}");
+    assert!(rt; answer == Ok(()));
     let cut = Cut {
         device,
         at,
         after: 0,
     };
     assert!(rt; vault.cuts.as_slice() == [cut].as_slice());
-    assert!(rt; are_left(vault, &left), "{device:?}");
+    assert!(rt; are_left(vault, &left));
 }
 
 fn snaps_are_cut(rt: &impl Abort, alloc: Global) -> Result<(), AllocError> {
@@ -611,7 +628,7 @@ fn is_whole(alloc: Global, even: u8, odd: u8) -> Result<bool, AllocError> {
 fn a_whole_vault_has_sixteen_log_files(rt: HostRuntime) -> Result<(), Fail> {
     for (even, odd, whole) in &[(8, 8, true), (7, 8, false), (8, 9, false)] {
         let found = is_whole(rt.alloc(), *even, *odd)?;
-        assert_eq!(rt; found, *whole, "{even} and {odd}");
+        assert_eq!(rt; found, *whole);
     }
     Ok(())
 }

@@ -96,8 +96,8 @@ fn each_call_fails_once(rt: HostRuntime) -> Result<(), Fail> {
     let alloc = rt.alloc();
     for number in 0..5 {
         let (used, faults, _) = used_with(alloc, number)?;
-        assert!(rt; used == Err(DEVICE), "at {number}");
-        assert!(rt; faults == 1, "at {number}");
+        assert!(rt; used == Err(DEVICE));
+        assert!(rt; faults == 1);
     }
     let (used, _, length) = used_with(alloc, 5)?;
     assert!(rt; used.is_ok());

@@ -119,10 +119,10 @@ fn run_ops(
     verdict: Verdict,
     wants: &[Want],
 ) -> Result<(), Memory> {
-    assert!(rt; all_fit(plain.decls.as_slice(), ops), "fits: {ops:?}");
+    assert!(rt; all_fit(plain.decls.as_slice(), ops));
     let (ended, replies) = answer(alloc, plain, ops)?;
     let same = are_wanted(alloc, &replies, wants)?;
-    assert!(rt; (ended == verdict) & same, "{ops:?} ended as {ended:?}");
+    assert!(rt; (ended == verdict) & same);
     Ok(())
 }
 

@@ -9,7 +9,7 @@ use outside::Disk;
 use serial_model::Decl;
 
 // What a settling answers.
-#[derive(Clone, Copy, Debug, PartialEq, Eq)]
+#[derive(Clone, Copy, PartialEq, Eq)]
 enum Answer {
     Settled {
         sequence: u64,
@@ -21,7 +21,7 @@ enum Answer {
 }
 
 // What it answers, how many stores and cuts it recorded, and how many log files have bytes.
-#[derive(Clone, Copy, Debug, PartialEq, Eq)]
+#[derive(Clone, Copy, PartialEq, Eq)]
 struct Outcome {
     answer: Answer,
     stores: usize,
@@ -93,6 +93,13 @@ fn settle_in(alloc: Global, vault: &mut Vault<MemDisk>, decls: &[Decl], snap: u3
     }
 }
 
+// A leaf of the array with a value at index 2 that this draw wrote.
+fn leaf_of(epoch: u64, draw: u64, value: u64) -> [u64; 64] {
+    let mut words = leaf(epoch, value);
+    words[4] = (epoch << 40) | draw;
+    words
+}
+
 // How many of the disks have bytes.
 fn filled(disks: &[MemDisk]) -> usize {
     disks.iter().filter(|disk| !disk.bytes().is_empty()).count()
@@ -113,6 +120,13 @@ fn the_log_files_are_emptied_behind_a_savepoint_without_them(rt: HostRuntime) ->
     let first = place(1, 0, 1, &[]);
     let last = (1 << 63) - 1;
     let three = [catalogue(0, 0, 0), leaf(1, 5), catalogue(1, 1, 2)];
+    let five = [
+        catalogue(0, 0, 0),
+        leaf(1, 5),
+        catalogue(1, 1, 2),
+        leaf_of(2, 3, 8),
+        catalogue(2, 3, 4),
+    ];
     let (have, new, room) = (1, 2, 2);
     let cases = [
         Case {
@@ -156,6 +170,26 @@ fn the_log_files_are_emptied_behind_a_savepoint_without_them(rt: HostRuntime) ->
             snaps_then: &[catalogue(0, 0, 0), leaf(1, 7), catalogue(1, 1, 2)],
         },
         Case {
+            name: "an entry counts over a snapshot",
+            save: [place(3, 2, 3, &[40]), place(2, 1, 1, &[40])],
+            snaps: &three,
+            words: &line(2, 3, 8),
+            snap: 65_536,
+            want: settled(1, 4, 2, 5),
+            save_then: [place(3, 2, 3, &[40]), place(4, 2, 5, &[])],
+            snaps_then: &five,
+        },
+        Case {
+            name: "a length stands, and its line is in the snapshot",
+            save: [place(3, 1, 3, &[40]), closed],
+            snaps: &three,
+            words: &line(1, 1, 5),
+            snap: 3,
+            want: settled(1, 4, 1, 3),
+            save_then: [place(3, 1, 3, &[40]), place(4, 1, 3, &[])],
+            snaps_then: &three,
+        },
+        Case {
             name: "the pages of a snapshot with it are more than are let in",
             save: [first, place(2, 1, 1, &[40])],
             snaps: &three[..1],
@@ -183,6 +217,16 @@ fn the_log_files_are_emptied_behind_a_savepoint_without_them(rt: HostRuntime) ->
             snaps_then: &three,
         },
         Case {
+            name: "no sequence is left, and an entry counts",
+            save: [place(last, 1, 1, &[40]), closed],
+            snaps: &three[..1],
+            words: &line(1, 1, 7),
+            snap: 3,
+            want: refused(SettleFault::Sequence { sequence: last }, 1),
+            save_then: [place(last, 1, 1, &[40]), closed],
+            snaps_then: &three[..1],
+        },
+        Case {
             name: "no sequence is left",
             save: [place(last, 1, 1, &[40]), closed],
             snaps: &three[..1],
@@ -205,11 +249,11 @@ fn the_log_files_are_emptied_behind_a_savepoint_without_them(rt: HostRuntime) ->
             cuts: vault.cuts.as_slice().len(),
             files: filled(&vault.even).saturating_add(filled(&vault.odd)),
         };
-        assert_eq!(rt; outcome, case.want, "{}", case.name);
+        is_so(case.name, outcome == case.want)?;
         let save_then = pages(alloc, &case.save_then)?;
-        assert_eq!(rt; vault.save.bytes(), save_then.as_slice(), "{}", case.name);
+        is_so(case.name, vault.save.bytes() == save_then.as_slice())?;
         let snaps_then = pages(alloc, case.snaps_then)?;
-        assert_eq!(rt; vault.snaps.bytes(), snaps_then.as_slice(), "{}", case.name);
+        is_so(case.name, vault.snaps.bytes() == snaps_then.as_slice())?;
     }
     Ok(())
 }

@@ -95,7 +95,7 @@ fn fields_of_inner_pages(rt: HostRuntime) {
     assert!(rt; has_kind(PageKind::TreeInner { low: 5, high: 50 }, 4, &words));
     assert!(rt; bounds(&words) == (3, (5, 50)));
     for i in 0..3 {
-        assert_eq!(rt; child_at(&words, i), CHILDREN[i], "child {i}");
+        assert_eq!(rt; child_at(&words, i), CHILDREN[i]);
     }
     assert!(rt; separators(&words) == (20, 50));
     assert!(rt; array_child_at(&words, 6) == 2);

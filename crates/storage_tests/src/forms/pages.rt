@@ -68,7 +68,7 @@ fn numbers_and_bytes(rt: HostRuntime) {
     let words = words_of(&[(0, CATALOGUE)]);
     for (number, want) in &NUMBERS {
         let found = is_read(PageKind::Catalogue, *number, words);
-        assert!(rt; found == *want, "page {number}");
+        assert!(rt; found == *want);
     }
     assert!(rt; first_bytes(words) == [0x43, 0x41, 0x54, 0]);
 }
@@ -102,13 +102,13 @@ fn array_pages(rt: HostRuntime) {
     assert!(rt; is_strict(PageKind::ArrayLeaf { used: 3 }, 1, leaf, &NO_ARRAY_LEAF));
     for (used, want) in &RECORDS {
         let found = is_read(PageKind::ArrayLeaf { used: *used }, 1, leaf);
-        assert_eq!(rt; found, *want, "{used} records");
+        assert_eq!(rt; found, *want);
     }
     let inner = words_of(&[(0, 2), (2, 4)]);
     assert!(rt; is_strict(PageKind::ArrayInner { used: 3 }, 5, inner, &NO_ARRAY_INNER));
     for (used, want) in &CHILDREN {
         let found = is_read(PageKind::ArrayInner { used: *used }, 5, inner);
-        assert_eq!(rt; found, *want, "{used} children");
+        assert_eq!(rt; found, *want);
     }
 }
 

@@ -43,7 +43,7 @@ fn byte_of_second(at: usize) -> u8 {
 /// Each byte of the second store, as the formats have it.
 pub fn is_second(rt: &impl Abort, place: &[u8]) {
     for (at, byte) in place.iter().enumerate() {
-        assert_eq!(rt; *byte, byte_of_second(at), "at {at}");
+        assert_eq!(rt; *byte, byte_of_second(at));
     }
 }
 
@@ -109,8 +109,8 @@ fn read_with(
 #[test]
 fn no_savepoints(rt: HostRuntime) {
     assert!(rt; second().is_valid());
-    for (at, byte, other, also, what) in &BROKEN {
+    for (at, byte, other, also, _) in &BROKEN {
         let found = read_with(*at, *byte, *other, *also);
-        assert_eq!(rt; found, Err(NoSavepoint), "{what}");
+        assert_eq!(rt; found, Err(NoSavepoint));
     }
 }

@@ -186,12 +186,12 @@ fn no_words(rt: HostRuntime) {
     assert!(rt; clock_at(1 << 60).is_none(), "a bit above the epoch");
     assert!(rt; mark_at(1 << 63).is_none(), "a bit above the epoch");
     for word in &NO_RECORDS {
-        assert!(rt; record_at(*word).is_none(), "at {word:x}");
+        assert!(rt; record_at(*word).is_none());
     }
     for word in &NO_HEADERS {
-        assert!(rt; header_at(*word).is_none(), "at {word:x}");
+        assert!(rt; header_at(*word).is_none());
     }
     for word in &NO_PAIRS {
-        assert!(rt; pair_at(*word).is_none(), "at {word:x}");
+        assert!(rt; pair_at(*word).is_none());
     }
 }

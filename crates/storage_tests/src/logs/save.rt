@@ -191,7 +191,7 @@ fn bytes(disk: &MemDisk) -> &[u8] {
 }
 
 // One tie tells of a third store, where it was begun.
-fn is_tied(rt: &impl Abort, ties: &[Tie], came: Came, number: u64) {
+fn is_tied(rt: &impl Abort, ties: &[Tie], came: Came) {
     let ended = if came == Came::Stored { Some(20) } else { None };
     let tie = Tie {
         sequence: 3,
@@ -199,9 +199,9 @@ fn is_tied(rt: &impl Abort, ties: &[Tie], came: Came, number: u64) {
         ended,
     };
     if came == Came::Refused(SaveOpen::Device) {
-        assert!(rt; ties.is_empty(), "at {number}");
+        assert!(rt; ties.is_empty());
     } else {
-        assert!(rt; ties == [tie].as_slice(), "at {number}");
+        assert!(rt; ties == [tie].as_slice());
     }
 }
 
@@ -214,8 +214,8 @@ fn newest(alloc: Global, bytes: &[u8]) -> Result<u64, Fail> {
     }
 }
 
-// What comes of a third store, over a device whose call of this number fails, and the newest sequence behind it.
-fn is_stored(rt: &impl Abort, vault: &mut Vault<MemDisk>, number: u64, came: Came)
+// This comes of a third store.
+fn is_stored(rt: &impl Abort, vault: &mut Vault<MemDisk>, came: Came)
     requires settled { IfTold (⟦<MemDisk as Disk>⟧.tells vault.old.save)
         (Only ⟦<MemDisk as Disk>⟧.clock ⟦<MemDisk as Disk>⟧.image_at vault.old.save) }
     requires even { vault.old.even.items ≡ [] }
@@ -223,13 +223,14 @@ fn is_stored(rt: &impl Abort, vault: &mut Vault<MemDisk>, number: u64, came: Cam
     requires room { 2 ≤ vault.old.ties.room }
 {
     let answer = store_once(vault, saved(7, 80));
-    assert!(rt; answer == came, "at {number}");
-    is_tied(rt, vault.ties.as_slice(), came, number);
+    assert!(rt; answer == came);
+    is_tied(rt, vault.ties.as_slice(), came);
 }
 
+// This comes of a third store, over a device whose call of this number fails; the newest sequence behind it.
 fn store_at(rt: &impl Abort, alloc: Global, number: u64, came: Came) -> Result<u64, Fail> {
     let mut vault = vault(alloc, &device([1, 2], [0xA5, 0xA5]), &[number])?;
-    is_stored(rt, &mut vault, number, came);
+    is_stored(rt, &mut vault, came);
     newest(alloc, bytes(&vault.save))
 }
 
@@ -256,7 +257,7 @@ const STORES: [(u64, Came, u64); 11] = [
 fn a_store_at_each_fault(rt: HostRuntime) -> Result<(), Fail> {
     for (number, came, sequence) in &STORES {
         let found = store_at(&rt, rt.alloc(), *number, *came)?;
-        assert!(rt; found == *sequence, "at {number}");
+        assert!(rt; found == *sequence);
     }
     Ok(())
 }

@@ -3,7 +3,7 @@
 pages are all in memory as the newest snapshot has them, and a small one to whose values four workers add.
 
 The same lines are run with no line of the maintenance thread, with an epoch, for which they get threads of their own
-as beside any other, with a snapshot of the lines before, and with a drop; a drop is also run alone. There are so many
+as beside any other, with a save, with a snapshot of the lines before, and with a drop; a drop is also run alone. There are so many
 lines that they take about three times as long as a drop alone. Then 60,000 lines are run beside an epoch, and beside
 some drops, one after another, of pages whose last values were written since the snapshot: each goes over all of them
 and keeps them. These are run alone, too, so that it can be told how many commits fewer there are while drops run,
@@ -121,6 +121,7 @@ def kinds_of(lines, many):
     return {
         "nothing": (TOUCH + ["k glean"], lines),
         "an epoch": (TOUCH, lines + ["k epoch"]),
+        "a save": (TOUCH, lines + ["k save"]),
         "a snapshot": (TOUCH, lines + ["k glean"]),
         "a drop": (TOUCH + ["k glean"], lines + ["k drop"]),
         "a drop, alone": (TOUCH + ["k glean"], ["k drop"]),
@@ -150,7 +151,7 @@ def measure(program, folder):
 
 
 def tell_loss(middles, dropped):
-    _, epoch, _, drop, alone, epoch_alone, many_epoch, many_drops, many_alone = middles
+    _, epoch, _, _, drop, alone, epoch_alone, many_epoch, many_drops, many_alone = middles
     print(f"\npages dropped a second, alone: {dropped / (alone - epoch_alone):,.0f}")
     pairs = ("a drop is", epoch, drop, alone), ("drops that keep are", many_epoch, many_drops, many_alone)
     for name, least, beside, own in pairs:

@@ -3,8 +3,9 @@
 
 Over arrays of 32, 1,000 and 131,072 values (heights 1 to 3), one worker and four in threads make transactions that read
 two values and add to two others, each worker at keys of its own, and transactions of sixteen reads, all at the same
-keys. The pages of all keys are in memory before. Both programs run in turn, and of each the middle and the best of its
-times are told: a transaction's nanoseconds, all workers together.
+keys. The pages of all keys are in memory before. The C++ has its table at the place, modulo 128 bytes, where malloc
+puts the proved program's, since that decides what four workers cost. Both programs run in turn, and of each the middle
+and the best of its times are told: a transaction's nanoseconds, all workers together.
 Usage: bench/measure_txn.py FOLDER. The proved program is made in FOLDER, from a copy of the crates as they stand here
 and a crate of a few lines, and stays there (txn_tests, which drives the transactions, is for tests alone here; in the
 copy it is a library): the first time all crates below are proved, which takes as long as for the
@@ -96,7 +97,7 @@ def make(folder):
         crates.write(f"{NAME}: {uses_of('txn_tests')} txn_tests # times of transactions\n")
     with open(f"{folder}/crates/txn_tests/src/lib.rt", encoding="utf-8") as root:
         text = root.read()
-    for module in ("tests", "page_tests", "slot_tests"):
+    for module in ("tests", "page_tests", "slot_tests", "drop_tests"):
         text = text.replace(f"#[cfg(test)]\nmod {module};\n", "")
         os.remove(f"{folder}/crates/txn_tests/src/{module}.rt")
         shutil.rmtree(f"{folder}/crates/txn_tests/proofs/{module}", ignore_errors=True)

@@ -4,6 +4,11 @@
 //
 // For arrays of 32, 1,000 and 131,072 values: 500,000 transactions that read two values and add to two others, by one
 // worker and by four in threads, each on keys of its own; and as many that read sixteen, all the same.
+//
+// Where the table begins decides what several workers cost, as the processor fetches lines of memory by pairs of 128
+// bytes: the clock and the first root are in one pair where it begins 0 to 32 bytes behind a multiple of 128, and in
+// two where it begins 48 bytes behind or further. It begins 16 behind here, as a large block of malloc does, or as many
+// as the first argument says.
 #include <sched.h>
 
 #include <algorithm>
@@ -11,6 +16,7 @@
 #include <chrono>
 #include <cstdint>
 #include <cstdio>
+#include <cstdlib>
 #include <cstring>
 #include <memory>
 #include <string>
@@ -25,16 +31,23 @@ constexpr uint64_t LIMIT = (1ull << 40) - 64;
 constexpr uint64_t LEAF = 32, MIDDLE = 2048, TOP = 131072;
 constexpr uint64_t STATE = 1 << 16, TIMES = 1 << 18;
 constexpr size_t ROOTS = 10, SLOTS = 32, HASHES = 128;
+constexpr size_t PAIR = 128;
+
+static size_t behind = 16;
 
 static size_t hash_of(uint64_t key) { return key % (1ull << 32) * 2654435761 / (1 << 25) % HASHES; }
 
 // One array, whose root has the first root's word.
 struct Table {
-    std::vector<std::atomic<uint64_t>> words;
+    std::vector<char> room;
+    std::atomic<uint64_t> *words;
     uint64_t size;
     uint32_t slots;
 
-    Table(uint64_t size, uint32_t slots) : words(SLOTS + 65 * size_t(slots)), size(size), slots(slots) {
+    Table(uint64_t size, uint32_t slots)
+        : room(8 * (SLOTS + 65 * size_t(slots)) + 2 * PAIR), size(size), slots(slots) {
+        uintptr_t first = (reinterpret_cast<uintptr_t>(room.data()) + PAIR - 1) / PAIR * PAIR + behind % PAIR;
+        words = reinterpret_cast<std::atomic<uint64_t> *>(first);
         words[0] = (1ull << 40) + 1;
     }
     uint32_t page(uint32_t slot, uint32_t index) const { return uint32_t(SLOTS + slots + 64 * size_t(slot) + index); }
@@ -345,7 +358,8 @@ static void measure(const std::string &name, uint64_t size, size_t count, bool (
     printf("%s %llu %llu\n", name.c_str(), (unsigned long long)all, (unsigned long long)nanos);
 }
 
-int main() {
+int main(int count, char **words) {
+    if (count > 1) behind = std::strtoul(words[1], nullptr, 10);
     for (uint64_t size : {32, 1000, 131072})
         for (size_t count : {1, 4}) {
             std::string over = std::to_string(size) + "x" + std::to_string(count);

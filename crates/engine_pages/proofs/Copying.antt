@@ -1,4 +1,5 @@
--- A slot is published: its page, whose words its owner has stored, becomes a page of the machine, as a copy or as none.
+-- A slot is published: its page, whose words its owner has stored, becomes a page of the machine: a copy, a page of a
+-- tree, or none.
 use Rattle.std.proofs.Common.{◌≡◌, ◌≢◌, inl, inr, ℕ, ◌+◌, ◌%◌, ◌^◌, ◌<◌, ◌≤◌, Bool, true, false, true≢false, cond}
 use Rattle.std.proofs.Common.{eq-eqb, ne_eqb, List, ◌∷◌, get_or, set, refl, sym, ap, ◌∙◌, subst, arith}
 use Rattle.std.proofs.Common.{Option, Some, None, IfSome}
@@ -7,9 +8,14 @@ use Rattle.std.specs.List.{Contains, slice_get}
 use Rattle.std.proofs.lemmas.Bool.{and_from, and_parts}
 use Rattle.homes.specs.declared.places.At.{At}
 use Rattle.homes.specs.declared.places.At.TheVariants.{Root, In}
+use Rattle.homes.specs.declared.places.Holder.{Holder}
 use Rattle.homes.specs.declared.places.Holder.TheVariants.{Held}
 use Rattle.homes.specs.declared.places.Span.{Span}
 use Rattle.homes.specs.declared.places.Spot.{Spot}
+use Rattle.serial_model.specs.declared.decl.Decl.{Decl}
+use Rattle.serial_model.specs.declared.key.Key.{Key}
+use Rattle.serial_model.specs.declared.number.Number.{Number}
+use Rattle.snapshot_store.specs.declared.place.PagePlace.{PagePlace}
 use Rattle.commit_core.specs.declared.place.Place.{Place}
 use Rattle.commit_core.specs.declared.seat.Seat.{Seat}
 use Rattle.commit_core.specs.declared.story.Story.{Story}
@@ -40,14 +46,18 @@ use Rattle.engine_pages.specs.declared.layout.Layout.{Layout}
 use Rattle.engine_pages.specs.declared.view.Copied.{Copied}
 use Rattle.engine_pages.specs.declared.view.Draft.{Draft}
 use Rattle.engine_pages.specs.declared.view.Loaded.{Loaded}
+use Rattle.engine_pages.specs.declared.view.NewInner.{NewInner}
+use Rattle.engine_pages.specs.declared.view.NewLeaf.{NewLeaf}
 use Rattle.engine_pages.specs.declared.view.View.{View}
 use Rattle.engine_pages.specs.Layout.{root_at, slot_at, page_at, snap_at}
 use Rattle.engine_pages.specs.Pages.{Fenced, AreLaidOut, IsLaidOut, decl_of}
 use Rattle.engine_pages.specs.Rule.{Shared, all_seats, joint_of, IsDraft, IsCopy, IsCopiedPointer, IsBlank, StillLoaded}
+use Rattle.engine_pages.specs.Rule.{IsBitAt, IsNewLeaf, IsNewInner}
 use Rattle.engine_pages.specs.Slots.{other_drafts}
 use Rattle.engine_pages.specs.Stays.{IsKnown, TreesStay}
 use Rattle.engine_pages.specs.Views.{IsActive, seat_number}
-use Rattle.engine_pages.specs.Words.{ShowsWords, ShowsPage, ShowsPointer, ShowsTree, ShowsSlot, is_shown, state_number, spot}
+use Rattle.engine_pages.specs.Words.{IsOverwritten, ShowsWords, ShowsPage, ShowsPointer, ShowsTree, ShowsSlot, is_shown}
+use Rattle.engine_pages.specs.Words.{state_number, spot}
 use Rattle.views.specs.ByNumber.{put_at}
 use Rattle.engine_pages.proofs.Dealing.{rests_low}
 use Rattle.engine_pages.proofs.EachSeat.{at_seat, other_seat}
@@ -61,28 +71,68 @@ use Rattle.engine_pages.proofs.Seats.{by_equal, put_same, put_other, is_at, home
 use Rattle.engine_pages.proofs.SlotFacts.{slot_other, slot_same, filled_same}
 use Rattle.engine_pages.proofs.SlotSteps.{own_pages, trees_same}
 use Rattle.engine_pages.proofs.Slotlists.{at_others}
+use Rattle.engine_pages.proofs.TreeFacts.{inner_at, new_leaf_at, new_inner_at, sealed_at, same_fence}
 use Rattle.engine_pages.proofs.Turns.{Stride, Begins, marks_stay, tried_goes, written}
 use Rattle.engine_pages.proofs.Words.{page_shown, tree_shown}
 use Rattle.engine_pages.proofs.Records.{fill_joint, over_at, laid_at, never_led, owned_number, published_unowned}
 use Rattle.engine_pages.proofs.SlotFacts.{within_same, shut_same}
 
+-- what the words of a slot's page show, where it is a page of a tree and where it is none
+abbrev pub ShowsAt : Option Fenced → List (Decl × PagePlace) → List ℕ → ℕ → ℕ → (Key → Number → Type 0)
+    → (Spot → Place) → Table → Page → Type 0
+ShowsAt None names words slots t over places d pg = ShowsPage names words slots t places d pg
+ShowsAt (Some f) names words slots t over places d pg = ShowsTree names words slots t f over places d pg
+
+-- What the slot is published as: the page, its records, pointers and header as they were filled, and whether it is one
+-- of a tree. The words show it.
+pub record NewPage (l : Layout) (words : List ℕ) (s : Shared) (t : ℕ) : Type 0 where
+  pub page : Page
+  pub places : List (Spot × Place)
+  pub pointers : List (At × Pointer)
+  pub headers : List (ℕ × Holder)
+  pub fence : Option Fenced
+  pub filled : IsSound (joint_of l (record s {
+    story = record s.story { places = places };
+    table = record s.table { pointers = pointers; headers = headers };
+  }))
+  pub other_places : (y : Spot) → y.slot ≢ t → place_of places y ≡ place_of s.story.places y
+  pub other_pointers : (y : At) → is_slot t (slot_with y) ≡ false
+      → pointer_of (record s.table { pointers = pointers; headers = headers }) y ≡ pointer_of s.table y
+  pub other_headers : (u : ℕ) → u ≢ t
+      → header_of (record s.table { pointers = pointers; headers = headers }) u ≡ header_of s.table u
+  pub shown : ShowsAt fence s.resident.places words l.slots t (IsOverwritten s.story) (place_of places)
+      (record s.table { pointers = pointers; headers = headers }) page
+
 -- ---- the step
 
 module _ (laws : Laws) (l : Layout) (words : List ℕ) (views : List View) (s : Shared) (id : ℕ) (v : View)
-    (active : IsActive v.role) (b : Begins l words views s id v) (x : Draft) (has-draft : Contains v.drafts x) (pg : Page)
-    (places' : List (Spot × Place)) (pointers' : List (At × Pointer))
-    (filled-so : IsSound (joint_of l (record s {
-      story = record s.story { places = places' };
-      table = record s.table { pointers = pointers' };
-    })))
-    (places-ok : (y : Spot) → y.slot ≢ x.slot → place_of places' y ≡ place_of s.story.places y)
-    (pointers-ok : (y : At) → is_slot x.slot (slot_with y) ≡ false
-    → pointer_of (record s.table { pointers = pointers' }) y ≡ pointer_of s.table y)
-    (shown-so : ShowsPage s.resident.places words l.slots x.slot (place_of places')
-    (record s.table { pointers = pointers' }) pg)
-    (copies' : List Copied) (blanks' : List ℕ) where
+    (active : IsActive v.role) (b : Begins l words views s id v) (x : Draft) (has-draft : Contains v.drafts x)
+    (c : NewPage l words s x.slot) (copies' : List Copied) (blanks' : List ℕ) (leaves' : List NewLeaf)
+    (inners' : List NewInner) where
   abbrev t : ℕ
   t = x.slot
+
+  abbrev pg : Page
+  pg = c.page
+
+  abbrev places' : List (Spot × Place)
+  places' = c.places
+
+  abbrev pointers' : List (At × Pointer)
+  pointers' = c.pointers
+
+  abbrev headers' : List (ℕ × Holder)
+  headers' = c.headers
+
+  abbrev fence : Option Fenced
+  fence = c.fence
+
+  places-ok : (y : Spot) → y.slot ≢ x.slot → place_of places' y ≡ place_of s.story.places y
+  places-ok = c.other_places
+
+  pointers-ok : (y : At) → is_slot x.slot (slot_with y) ≡ false
+      → pointer_of (record s.table { pointers = pointers'; headers = headers' }) y ≡ pointer_of s.table y
+  pointers-ok = c.other_pointers
 
   abbrev p : ℕ
   p = seat_number v.role
@@ -97,7 +147,7 @@ module _ (laws : Laws) (l : Layout) (words : List ℕ) (views : List View) (s : 
   n = record m { places = places' }
 
   abbrev d0 : Table
-  d0 = record d { pointers = pointers' }
+  d0 = record d { pointers = pointers'; headers = headers' }
 
   abbrev d1 : Table
   d1 = record d0 { pages = (t, pg) ∷ d.pages }
@@ -106,7 +156,7 @@ module _ (laws : Laws) (l : Layout) (words : List ℕ) (views : List View) (s : 
   e = with_slot d1 t (record (slot_of d t) { state = Shown })
 
   abbrev k : ℕ → Option Fenced
-  k = put_at s.trees t None
+  k = put_at s.trees t fence
 
   abbrev f : ℕ → ℕ
   f i = (i + 65536) % 2 ^ 64
@@ -115,7 +165,14 @@ module _ (laws : Laws) (l : Layout) (words : List ℕ) (views : List View) (s : 
   words' = set words (slot_at t) (f (get_or words (slot_at t) 0))
 
   abbrev w : View
-  w = record v { steps = v.steps + 1; drafts = other_drafts t v.drafts; copies = copies'; blanks = blanks' }
+  w = record v {
+    steps = v.steps + 1;
+    drafts = other_drafts t v.drafts;
+    copies = copies';
+    blanks = blanks';
+    new_leaves = leaves';
+    new_inners = inners';
+  }
 
   abbrev new : Shared
   new = shared_now s p n e k s.resident w
@@ -152,11 +209,14 @@ module _ (laws : Laws) (l : Layout) (words : List ℕ) (views : List View) (s : 
   page_old : (u : ℕ) → u ≢ t → page_of e u ≡ page_of d u
   page_old u other = ap (λ (c : Bool). cond c pg (page_of d u)) (ne_eqb t u (λ q. other (sym q)))
 
-  pub tree_new : k t ≡ None
-  tree_new = put_same s.trees t None t refl
+  pub tree_new : k t ≡ fence
+  tree_new = put_same s.trees t fence t refl
 
   tree_old : (u : ℕ) → u ≢ t → k u ≡ s.trees u
-  tree_old u other = put_other s.trees t None u other
+  tree_old u other = put_other s.trees t fence u other
+
+  header_old : (u : ℕ) → u ≢ t → header_of e u ≡ header_of d u
+  header_old = c.other_headers
 
   known_other : (u : ℕ) → IsKnown d u → u ≢ t
   known_other u known same = true≢false (sym unled ∙ ap (λ i. is_never (slot_of d i).led) (sym same) ∙ known)
@@ -207,7 +267,7 @@ module _ (laws : Laws) (l : Layout) (words : List ℕ) (views : List View) (s : 
       (joint_act laws l s1 p (TurnPages (FillPage t pg)) b.few
       (and_from (is_owned (slot_of d t).state && has_slot (s.grips p).made t) _
       (and_from (is_owned (slot_of d t).state) (has_slot (s.grips p).made t) draft.owned made) refl)
-      filled-so).sound in
+      c.filled).sound in
       let s2 : Shared = record s1 { table = d1 } in
       let done : IsSound (joint_of l (shared_after s p (record { story = n; seat = s.seats p; table = e; grip = s.grips p }))) =
       (joint_act laws l s2 p (TurnPages (Publish t)) b.few
@@ -240,7 +300,7 @@ module _ (laws : Laws) (l : Layout) (words : List ℕ) (views : List View) (s : 
     pages = record {
       pages = λ q u h at holds known. record {
         page = inl (page_old u (known_other u known));
-        dead = λ is. is;
+        dead = λ is. header_old u (known_other u known) ∙ is;
         spans = λ j has. ap (λ (z : Pointer). z.span) (pointer_old u j (known_other u known));
         known = ap is_never (leds u) ∙ known;
         led = λ y is.
@@ -255,7 +315,10 @@ module _ (laws : Laws) (l : Layout) (words : List ℕ) (views : List View) (s : 
       published = omega arith;
     };
     held = record {
-      headers = λ q u other held. (held, page_old u (held_other u q held));
+      headers = λ q u other held. (
+        header_old u (held_other u q held) ∙ held,
+        page_old u (held_other u q held),
+      );
       pointers = λ q y other live held. pointer_live y live;
     };
     made = λ q u h other at has.
@@ -264,7 +327,7 @@ module _ (laws : Laws) (l : Layout) (words : List ℕ) (views : List View) (s : 
           times = ap (λ (z : Slot). z.times) (slot_old u apart);
           led = leds u;
           page = page_old u apart;
-          header = refl;
+          header = header_old u apart;
           pointers = λ j free. pointer_old u j apart;
         };
     records = λ q y h other at has. places-ok y (made_other q y.slot h other at has);
@@ -313,10 +376,11 @@ module _ (laws : Laws) (l : Layout) (words : List ℕ) (views : List View) (s : 
   pages_shown u few shown none = by_equal u t
       (λ i. is_shown (slot_of e i).state ≡ true → k i ≡ None
       → ShowsPage s.resident.places words' l.slots i (place_of places') e (page_of e i))
-      (λ _ _.
+      (λ _ is.
       subst (ShowsPage s.resident.places words' l.slots t (place_of places') e) (sym page_new)
       (page_shown s.resident.places words words' l.slots t (place_of places') (place_of places') d0 e pg
-      (λ i less. pages-same (page_at l.slots t i) (omega arith)) (λ i. refl) (λ j. refl) shown-so))
+      (λ i less. pages-same (page_at l.slots t i) (omega arith)) (λ i. refl) (λ j. refl)
+      (subst (λ o. ShowsAt o s.resident.places words l.slots t (IsOverwritten m) (place_of places') d0 pg) (sym tree_new ∙ is) c.shown)))
       (λ other now is.
       subst (ShowsPage s.resident.places words' l.slots u (place_of places') e) (sym (page_old u other))
       (page_shown s.resident.places words words' l.slots u (place_of m.places) (place_of places') d e (page_of d u)
@@ -326,16 +390,22 @@ module _ (laws : Laws) (l : Layout) (words : List ℕ) (views : List View) (s : 
       shown none
 
   trees_shown : (u : ℕ) (g : Fenced) → u < l.slots → is_shown (slot_of e u).state ≡ true → k u ≡ Some g
-      → ShowsTree s.resident.places words' l.slots u g (place_of places') e (page_of e u)
+      → ShowsTree s.resident.places words' l.slots u g (IsOverwritten m) (place_of places') e (page_of e u)
   trees_shown u g few shown tree = by_equal u t
       (λ i. is_shown (slot_of e i).state ≡ true → k i ≡ Some g
-      → ShowsTree s.resident.places words' l.slots i g (place_of places') e (page_of e i))
-      (λ _ is. let none : Some g ≡ None = sym is ∙ tree_new in absurd (cc))
+      → ShowsTree s.resident.places words' l.slots i g (IsOverwritten m) (place_of places') e (page_of e i))
+      (λ _ is.
+      subst (ShowsTree s.resident.places words' l.slots t g (IsOverwritten m) (place_of places') e) (sym page_new)
+      (tree_shown s.resident.places words words' l.slots t g (IsOverwritten m) (IsOverwritten m) (place_of places')
+      (place_of places') d0 e pg
+      (λ i less. pages-same (page_at l.slots t i) (omega arith)) (λ i. refl) (λ q i over. over) (λ j. refl) refl
+      (subst (λ o. ShowsAt o s.resident.places words l.slots t (IsOverwritten m) (place_of places') d0 pg) (sym tree_new ∙ is) c.shown)))
       (λ other now is.
-      subst (ShowsTree s.resident.places words' l.slots u g (place_of places') e) (sym (page_old u other))
-      (tree_shown s.resident.places words words' l.slots u g (place_of m.places) (place_of places') d e (page_of d u)
-      (λ i less. pages-same (page_at l.slots u i) (omega arith)) (λ i. places-ok (spot u i) other)
-      (λ j. pointer_old u j other) refl
+      subst (ShowsTree s.resident.places words' l.slots u g (IsOverwritten m) (place_of places') e) (sym (page_old u other))
+      (tree_shown s.resident.places words words' l.slots u g (IsOverwritten m) (IsOverwritten m) (place_of m.places)
+      (place_of places') d e (page_of d u)
+      (λ i less. pages-same (page_at l.slots u i) (omega arith)) (λ i. places-ok (spot u i) other) (λ q i over. over)
+      (λ j. pointer_old u j other) (header_old u other)
       (b.sound.shown.treed u g few (ap (λ (z : Slot). is_shown z.state) (sym (slot_old u other)) ∙ now) (sym (tree_old u other) ∙ is))))
       shown tree
 
@@ -374,25 +444,28 @@ module _ (laws : Laws) (l : Layout) (words : List ℕ) (views : List View) (s : 
       let other : u ≢ t = led_other u (ap is_led back) in
       subst (λ (z : Span). IsLaidOut (decl_of l.decls z.storage) k e u z) (sym (ap (λ (z : Pointer). z.span) same))
       (laid_at (decl_of l.decls (pointer_of d y).span.storage) s.trees k d e u (pointer_of d y).span (tree_old u other)
-      (page_old u other) refl (λ j. pointer_old u j other) (b.sound.laid_out y u was-live leads-was))
+      (page_old u other) (header_old u other) (λ j. pointer_old u j other) (b.sound.laid_out y u was-live leads-was))
 
   loaded_same : (o : Option Loaded) → IfSome o (StillLoaded m.history m.decided m.places v.seat.kept)
       → IfSome o (StillLoaded m.history m.decided places' v.seat.kept)
   loaded_same None h = tt
-  loaded_same (Some y) h = λ c has. elim (h c has) [
+  loaded_same (Some y) h = λ z has. elim (h z has) [
     | inl value ↦ inl value
     | inr later ↦ elim later [
       | inl over ↦ inr (inl over)
       | inr dead ↦ inr (inr (ap (λ (z : Place). z.holder)
-          (places-ok y.spot (known_other y.spot.slot (kept_known l s v b.sound.joint b.fits (record_part y.key y.spot c) has y.spot refl)))
+          (places-ok y.spot (known_other y.spot.slot (kept_known l s v b.sound.joint b.fits (record_part y.key y.spot z) has y.spot refl)))
           ∙ dead))
     ]
   ]
 
   pub publish_stride : ((z : Copied) → Contains copies' z → (k z.slot ≡ None) × IsCopy l n e s.resident v.grip.made z)
-      → ((u : ℕ) → has_slot blanks' u ≡ true → IsBlank l.slots e v.grip.made u) → (tells : View → ℕ → View → Type 0)
-      → tells v (get_or words (slot_at t) 0) w → Stride l words views s p v (slot_at t) (λ i. (i + 65536) % 2 ^ 64) tells
-  publish_stride copies-so blanks-so tells tells-so =
+      → ((u : ℕ) → has_slot blanks' u ≡ true → IsBlank l.slots e v.grip.made u)
+      → ((z : NewLeaf) → Contains leaves' z → IsNewLeaf l n e k v.grip.made z)
+      → ((z : NewInner) → Contains inners' z → IsNewInner l e k s.resident v.grip.made z)
+      → (tells : View → ℕ → View → Type 0) → tells v (get_or words (slot_at t) 0) w
+      → Stride l words views s p v (slot_at t) (λ i. (i + 65536) % 2 ^ 64) tells
+  publish_stride copies-so blanks-so leaves-so inners-so tells tells-so =
       let h = b.sound in
       let fv = b.fits in record {
         story = n;
@@ -420,9 +493,10 @@ module _ (laws : Laws) (l : Layout) (words : List ℕ) (views : List View) (s : 
             mine = fv.mine;
             mine_own = fv.mine_own;
             records = fv.records;
-            kept = λ q y c has.
-                subst (λ (z : Place). IsUpTo c.number z.content.number)
-                (sym (places-ok y (known_other y.slot (kept_known l s v h.joint fv (record_part q y c) has y refl)))) (fv.kept q y c has);
+            kept = λ q y o has.
+                subst (λ (z : Place). IsUpTo o.number z.content.number)
+                (sym (places-ok y (known_other y.slot (kept_known l s v h.joint fv (record_part q y o) has y refl)))) (fv.kept q y o has);
+            versions = fv.versions;
             loaded = loaded_same v.loaded fv.loaded;
             tried = b.own.tried;
             took = λ q has.
@@ -433,7 +507,9 @@ module _ (laws : Laws) (l : Layout) (words : List ℕ) (views : List View) (s : 
                     spot = was.1.spot;
                     home = was.1.home;
                     own = subst (λ (z : Place). holder_is p z.holder ≡ true) (sym same) was.1.own;
-                    number = ap (λ (z : Place). number_word z.content.number) same ∙ was.1.number;
+                    absent = was.1.absent;
+                    number = ap (λ (z : Place). number_word z.content.number + was.1.absent) same ∙ was.1.number;
+                    bit = subst (λ (z : Place). IsBitAt l.decls m q.key z was.1.absent) (sym same) was.1.bit;
                   },
                 );
             locked = b.own.locked;
@@ -465,7 +541,7 @@ module _ (laws : Laws) (l : Layout) (words : List ℕ) (views : List View) (s : 
                   held = was.held;
                   known = ap is_never (leds z.slot) ∙ was.known;
                   over = laid_at (decl_of l.decls z.span.storage) s.trees k d e z.slot z.span (tree_old z.slot other)
-                      (page_old z.slot other) refl (λ j. pointer_old z.slot j other) was.over;
+                      (page_old z.slot other) (header_old z.slot other) (λ j. pointer_old z.slot j other) was.over;
                 };
             drafts = λ z has.
                 let old = at_others (λ (q : Draft). q.slot) t v.drafts z has in
@@ -473,7 +549,7 @@ module _ (laws : Laws) (l : Layout) (words : List ℕ) (views : List View) (s : 
                   slot = was.slot;
                   made = was.made;
                   owned = ap (λ (q : Slot). is_owned q.state) (slot_old z.slot old.1) ∙ was.owned;
-                  header = was.header;
+                  header = header_old z.slot old.1 ∙ was.header;
                   is = λ i less. pages-same (page_at l.slots z.slot i) (omega arith) ∙ was.is i less;
                 };
             copies = copies-so;
@@ -500,15 +576,14 @@ module _ (laws : Laws) (l : Layout) (words : List ℕ) (views : List View) (s : 
                 was;
             heads = λ z has.
                 let was = b.pages.treed.heads p (is_at v.role active) z has in
-                let other = known_other z.slot was.known in record {
+                let other = held_other z.slot p was.locked in record {
                   within = was.within;
-                  held = was.held;
-                  known = ap is_never (leds z.slot) ∙ was.known;
-                  locked = was.locked;
+                  locked = header_old z.slot other ∙ was.locked;
                   leaf = page_old z.slot other ∙ was.leaf;
                   fence = was.fence;
                   there = tree_old z.slot other ∙ was.there;
                   keys = was.keys;
+                  long = was.long;
                   is = λ i less is. pages-same (page_at l.slots z.slot i) (omega arith) ∙ was.is i less is;
                 };
             moved = λ z has.
@@ -524,6 +599,18 @@ module _ (laws : Laws) (l : Layout) (words : List ℕ) (views : List View) (s : 
                   major = pages-same (page_at l.slots z.slot 4) (omega arith) ∙ was.major;
                   separator = pages-same (page_at l.slots z.slot 5) (omega arith) ∙ was.separator;
                 };
+            sealed = λ u has.
+                let was = b.pages.treed.sealed p (is_at v.role active) u has in
+                let other = held_other u p was.locked in
+                sealed_at l d e p u (header_old u other) (page_old u other) was;
+            inners = λ z has.
+                let was = b.pages.treed.inners z has in
+                let other = known_other z.slot was.known in
+                inner_at l s.trees k d e v.grip.holds v.grip.holds z was.held (ap is_never (leds z.slot) ∙ was.known)
+                (page_old z.slot other) (same_fence s.trees k z.slot (tree_old z.slot other))
+                (λ j has. ap (λ (q : Pointer). q.span) (pointer_old z.slot j other)) was;
+            new_leaves = leaves-so;
+            new_inners = inners-so;
           };
           frame = words_same l words words' s p pages-same;
         };
@@ -546,7 +633,8 @@ module _ (laws : Laws) (l : Layout) (words : List ℕ) (views : List View) (s : 
           slot = was.1.slot;
           made = was.1.made;
           state = ap (λ (q : Slot). is_published q.state) (slot_old z.slot other) ∙ was.1.state;
-          over = over_at d e z.slot z.span (page_old z.slot other) refl (λ j. pointer_old z.slot j other) was.1.over;
+          over = over_at d e z.slot z.span (page_old z.slot other) (header_old z.slot other)
+              (λ j. pointer_old z.slot j other) was.1.over;
           page = was.1.page;
           exact = was.1.exact;
           records = λ leaf i less. places-ok (spot z.slot i) other ∙ was.1.records leaf i less;
@@ -564,3 +652,19 @@ module _ (laws : Laws) (l : Layout) (words : List ℕ) (views : List View) (s : 
         made = was.made;
         state = ap (λ (q : Slot). is_published q.state) (slot_old u (shown_other u was.state)) ∙ was.state;
       }
+
+  pub old_leaf : (z : NewLeaf) → Contains v.new_leaves z → IsNewLeaf l n e k v.grip.made z
+  old_leaf z has =
+      let was = b.pages.treed.new_leaves z has in
+      let other = shown_other z.slot was.state in
+      new_leaf_at l m n d e s.trees k v.grip.made v.grip.made z was.made
+      (ap (λ (q : Slot). q.state) (slot_old z.slot other)) (header_old z.slot other) (page_old z.slot other)
+      (tree_old z.slot other) (λ i. places-ok (spot z.slot i) other) was
+
+  pub old_inner : (z : NewInner) → Contains v.new_inners z → IsNewInner l e k s.resident v.grip.made z
+  old_inner z has =
+      let was = b.pages.treed.new_inners z has in
+      let other = shown_other z.slot was.state in
+      new_inner_at l d e s.trees k s.resident s.resident v.grip.made v.grip.made z was.made
+      (ap (λ (q : Slot). q.state) (slot_old z.slot other)) (page_old z.slot other) (tree_old z.slot other)
+      (λ j free. pointer_old z.slot j other) (more_same s.resident) was

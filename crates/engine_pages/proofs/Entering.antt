@@ -27,6 +27,8 @@ use Rattle.engine_pages.proofs.Joint.{Laws}
 use Rattle.engine_pages.proofs.Seats.{by_equal, is_at}
 use Rattle.engine_pages.proofs.SlotFacts.{slot_other, slot_same, passes_only, way_same, draft_same, copy_same, blank_same, filled_same}
 use Rattle.engine_pages.proofs.SlotFacts.{known_same, head_same, moved_same}
+use Rattle.engine_pages.proofs.SlotFacts.{inner_same, new_leaf_same, new_inner_same}
+use Rattle.engine_pages.proofs.TreeFacts.{sealed_at}
 use Rattle.engine_pages.proofs.SlotSteps.{SamePages, slot_stride}
 use Rattle.engine_pages.proofs.Turns.{Begins, allows_at, written}
 use Rattle.engine_pages.proofs.SlotFacts.{within_same, shut_same}
@@ -73,7 +75,7 @@ enters laws l slots id me t active few unheld =
     or_right (eqb t u) (has_slot v.grip.holds u) held in
     slot_stride laws l words views s id v active b t (λ n. (n + 1) % 2 ^ 64) (Enter t) w (λ v n w. w ≡ entered t v)
     record {
-      same = record { layout = refl; role = refl; made = refl; past = refl; parked = refl; epoch = refl; mine = refl; draws = refl; due = refl; seat = refl; checked = refl; took = refl; loaded = refl; met = refl; heard = refl; history = refl; decided = refl };
+      same = record { layout = refl; role = refl; made = refl; past = refl; parked = refl; epoch = refl; mine = refl; draws = refl; due = refl; seat = refl; checked = refl; took = refl; loaded = refl; met = refl; heard = refl; history = refl; decided = refl; versions = refl };
       still = refl;
       allowed = and_from (ltb t d.room) (not (has_slot (s.grips p).holds t) && ltb x.passes most_passes)
           (let room = h.room in grind (arith, nat_tests))
@@ -122,12 +124,24 @@ enters laws l slots id me t active few unheld =
             (b.pages.shuts p (is_at v.role active) z has);
         heads = λ z has.
             let was = b.pages.treed.heads p (is_at v.role active) z has in
-            head_same l words words' s.trees d e p v.grip.holds w.grip.holds z (holds z.slot was.held) (uses z.slot).led refl refl
+            head_same l words words' s.trees d e p z refl refl
             (λ i less. pages (page_at l.slots z.slot i) (omega arith)) was;
         moved = λ z has.
             let was = b.pages.treed.moved z has in
             moved_same l words words' s.trees d e v.grip.holds w.grip.holds z (holds z.slot was.held) (uses z.slot).led refl
             (λ i less. pages (page_at l.slots z.slot i) (omega arith)) was;
+        sealed = λ u has.
+            let was = b.pages.treed.sealed p (is_at v.role active) u has in
+            sealed_at l d e p u refl refl was;
+        inners = λ z has.
+            let was = b.pages.treed.inners z has in
+            inner_same l s.trees d e v.grip.holds w.grip.holds z same (holds z.slot was.held) (uses z.slot).led was;
+        new_leaves = λ z has.
+            let was = b.pages.treed.new_leaves z has in
+            new_leaf_same l s.story d e s.trees v.grip.made v.grip.made z same was.made (uses z.slot).state refl was;
+        new_inners = λ z has.
+            let was = b.pages.treed.new_inners z has in
+            new_inner_same l d e s.trees s.resident v.grip.made v.grip.made z same was.made (uses z.slot).state was;
       };
       deals = rests_low l words views s id v b words' w
           record { role = refl; ways = refl; took = refl; gone = refl; touched = refl; blamed = refl; locks = refl } refl

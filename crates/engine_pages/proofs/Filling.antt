@@ -28,7 +28,7 @@ use Rattle.engine_pages.specs.Layout.{root_at, slot_at, page_at, snap_at}
 use Rattle.engine_pages.specs.Rule.{joint_of, IsDraft, Shows}
 use Rattle.engine_pages.specs.Slots.{HasFilled, filled, other_drafts}
 use Rattle.engine_pages.specs.Views.{IsActive, seat_number}
-use Rattle.engine_pages.specs.Words.{ShowsPage, ShowsTree, is_shown}
+use Rattle.engine_pages.specs.Words.{IsOverwritten, ShowsPage, ShowsTree, is_shown}
 use Rattle.engine_pages.proofs.Dealing.{rests}
 use Rattle.engine_pages.proofs.Joint.{stays_none}
 use Rattle.engine_pages.proofs.Looking.{seen_fits}
@@ -38,7 +38,7 @@ use Rattle.engine_pages.proofs.Slotlists.{at_others}
 use Rattle.engine_pages.proofs.SlotSteps.{own_pages, trees_same}
 use Rattle.engine_pages.proofs.Words.{page_shown, tree_shown}
 use Rattle.engine_pages.proofs.Joint.{Laws}
-use Rattle.engine_pages.proofs.Seats.{by_equal, is_at}
+use Rattle.engine_pages.proofs.Seats.{by_equal, is_at, locked_known}
 use Rattle.engine_pages.proofs.SlotFacts.{head_same, moved_same}
 use Rattle.engine_pages.proofs.Turns.{allows_at, marks_stay, tried_goes, written}
 
@@ -124,11 +124,12 @@ fills laws l slots id me x i value active has few long =
               page_shown s.resident.places words words' l.slots u (place_of m.places) (place_of m.places) d d (page_of d u)
               (λ j low. page u j low other) (λ j. refl) (λ j. refl) (h.shown.pages u less now none)) now refl;
           treed = λ u f less now tree. by_equal u t (λ k. is_shown (slot_of d k).state ≡ true → k ≡ u
-              → ShowsTree s.resident.places words' l.slots k f (place_of m.places) d (page_of d k))
+              → ShowsTree s.resident.places words' l.slots k f (IsOverwritten m) (place_of m.places) d (page_of d k))
               (λ shown is. absurd (true≢false (sym shown ∙ hidden)))
               (λ other shown _.
-              tree_shown s.resident.places words words' l.slots u f (place_of m.places) (place_of m.places) d d (page_of d u)
-              (λ j low. page u j low other) (λ j. refl) (λ j. refl) refl (h.shown.treed u f less now tree)) now refl;
+              tree_shown s.resident.places words words' l.slots u f (IsOverwritten m) (IsOverwritten m) (place_of m.places)
+              (place_of m.places) d d (page_of d u)
+              (λ j low. page u j low other) (λ j. refl) (λ k n over. over) (λ j. refl) refl (h.shown.treed u f less now tree)) now refl;
           resident = λ n j some most less.
               wr.others (snap_at l.slots n j) (λ q. omega arith) ∙ h.shown.resident n j some most less;
         };
@@ -139,7 +140,7 @@ fills laws l slots id me x i value active has few long =
         drawn = λ a has. inl has;
         tried = tried_goes m m s.seats p v.seat w.seat b.own.seat refl refl refl (inl refl) h.tried;
         fits = seen_fits l m s.seats v w active b.fits refl refl refl refl refl refl refl refl refl refl refl b.fits.loaded refl refl
-            (front_refl v.history) (front_refl v.decided) b.fits.history b.fits.decided;
+            b.fits.versions (front_refl v.history) (front_refl v.decided) b.fits.history b.fits.decided;
         role = refl;
         made = refl;
         mine = λ k. refl;
@@ -198,12 +199,16 @@ fills laws l slots id me x i value active has few long =
           shuts = b.pages.shuts p (is_at v.role active);
           heads = λ z has.
               let was = b.pages.treed.heads p (is_at v.role active) z has in
-              head_same l words words' s.trees d d p v.grip.holds v.grip.holds z was.held refl refl refl
-              (λ j less. page z.slot j less (known z.slot was.known)) was;
+              head_same l words words' s.trees d d p z refl refl
+              (λ j less. page z.slot j less (known z.slot (locked_known l s z.slot p h.joint was.locked))) was;
           moved = λ z has.
               let was = b.pages.treed.moved z has in
               moved_same l words words' s.trees d d v.grip.holds v.grip.holds z was.held refl refl
               (λ j less. page z.slot j less (known z.slot was.known)) was;
+          sealed = b.pages.treed.sealed p (is_at v.role active);
+          inners = b.pages.treed.inners;
+          new_leaves = b.pages.treed.new_leaves;
+          new_inners = b.pages.treed.new_inners;
         };
         frame = record {
           drafts = λ u less unmade owned j low.

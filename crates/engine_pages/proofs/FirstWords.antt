@@ -3,6 +3,7 @@ use Rattle.std.proofs.Common.{◌≡◌, ℕ, ◌+◌, ◌≤◌, List, length, 
 use Rattle.wire_form.specs.Words.{number_word}
 use Rattle.commit_core.specs.declared.story.Story.{Story}
 use Rattle.commit_core.specs.CoreState.{clock_of}
+use Rattle.commit_core.specs.Opening.{IsPrefix}
 use Rattle.commit_core.specs.Places.{place_of}
 use Rattle.drop_core.specs.declared.table.Table.{Table}
 use Rattle.drop_core.specs.Table.{page_of}
@@ -13,22 +14,25 @@ use Rattle.engine_pages.specs.Pages.{Fenced}
 use Rattle.engine_pages.specs.Resident.{Published}
 use Rattle.engine_pages.specs.Rule.{Shared}
 use Rattle.engine_pages.specs.Views.{IsActive, seat_number}
-use Rattle.engine_pages.specs.Words.{ShowsWords, spot}
+use Rattle.engine_pages.specs.Words.{IsOverwritten, ShowsWords, spot}
 use Rattle.engine_pages.proofs.Joint.{shared_now}
-use Rattle.engine_pages.proofs.Seats.{is_at}
+use Rattle.engine_pages.proofs.Seats.{is_at, over_grown}
 use Rattle.engine_pages.proofs.SlotFacts.{draft_same, filled_same, head_same, moved_same}
 use Rattle.engine_pages.proofs.SlotSteps.{PagesNow}
+use Rattle.engine_pages.proofs.TreeFacts.{new_leaf_at}
 use Rattle.engine_pages.proofs.Turns.{Begins}
 use Rattle.engine_pages.proofs.Words.{page_shown, tree_shown}
 
 -- The words of the clock, of the decisions and of the marks alone have changed, of which the first two show the story
--- that is now; its places are as before.
+-- that is now; its places are as before, and maybe more was drawn and decided.
 pub record FirstTen (l : Layout) (old new : List ℕ) (m n : Story) : Type 0 where
   pub long : length new ≡ length old
   pub others : (j : ℕ) → 10 ≤ j → get_or new j 0 ≡ get_or old j 0
   pub clock : get_or new 0 0 ≡ number_word (clock_of n.first_draw n.epoch n.history)
   pub decisions : get_or new 1 0 ≡ length n.decided
   pub places : n.places ≡ m.places
+  pub history : IsPrefix m.history n.history
+  pub decided : IsPrefix m.decided n.decided
 
 pub first_shown : (l : Layout) (old new : List ℕ) (m n : Story) (d : Table) (k : ℕ → Option Fenced) (r : Published)
     → FirstTen l old new m n → ShowsWords l old m d k r → ShowsWords l new n d k r
@@ -54,9 +58,10 @@ first_shown l old new m n d k r c h = record {
       (λ i less. c.others (page_at l.slots t i) (omega arith)) (λ i. ap (λ z. place_of z (spot t i)) c.places) (λ j. refl)
       (h.pages t few shown none);
   treed = λ t f few shown is.
-      tree_shown r.places old new l.slots t f (place_of m.places) (place_of n.places) d d (page_of d t)
-      (λ i less. c.others (page_at l.slots t i) (omega arith)) (λ i. ap (λ z. place_of z (spot t i)) c.places) (λ j. refl)
-      refl (h.treed t f few shown is);
+      tree_shown r.places old new l.slots t f (IsOverwritten m) (IsOverwritten n) (place_of m.places) (place_of n.places) d d
+      (page_of d t)
+      (λ i less. c.others (page_at l.slots t i) (omega arith)) (λ i. ap (λ z. place_of z (spot t i)) c.places)
+      (over_grown m n c.history c.decided) (λ j. refl) refl (h.treed t f few shown is);
   resident = λ i j some most few. c.others (snap_at l.slots i j) (omega arith) ∙ h.resident i j some most few;
 }
 
@@ -96,10 +101,17 @@ first_kept l old new views s id v n active b c =
       shuts = b.pages.shuts p (is_at v.role active);
       heads = λ z has.
           let was = b.pages.treed.heads p (is_at v.role active) z has in
-          head_same l old new s.trees d d p v.grip.holds v.grip.holds z was.held refl refl refl
+          head_same l old new s.trees d d p z refl refl
           (λ i less. same (page_at l.slots z.slot i) (omega arith)) was;
       moved = λ z has.
           let was = b.pages.treed.moved z has in
           moved_same l old new s.trees d d v.grip.holds v.grip.holds z was.held refl refl
           (λ i less. same (page_at l.slots z.slot i) (omega arith)) was;
+      sealed = b.pages.treed.sealed p (is_at v.role active);
+      inners = b.pages.treed.inners;
+      new_leaves = λ z has.
+          let was = b.pages.treed.new_leaves z has in
+          new_leaf_at l s.story n d d s.trees s.trees v.grip.made v.grip.made z was.made refl refl refl refl
+          (λ i. ap (λ y. place_of y (spot z.slot i)) c.places) was;
+      new_inners = b.pages.treed.new_inners;
     }

@@ -23,6 +23,7 @@ use Rattle.engine_pages.specs.declared.view.Read.{Read}
 use Rattle.engine_pages.specs.declared.view.Role.TheVariants.{Worker}
 use Rattle.engine_pages.specs.declared.view.View.{View}
 use Rattle.engine_pages.specs.declared.view.Way.{Way}
+use Rattle.engine_pages.specs.Agreement.{TreesAgree}
 use Rattle.engine_pages.specs.Layout.{page_at, root_at}
 use Rattle.engine_pages.specs.Pages.{IsLaidOutFor}
 use Rattle.engine_pages.specs.Pointers.{IsPointerAt, HasFollowed, StandsFor, followed, half_of, is_open_word, leads_more}
@@ -33,6 +34,7 @@ use Rattle.engine_pages.specs.Rule.{Shared, IsWay, IsLead, Shows}
 use Rattle.engine_pages.specs.Steps.{kept_at, seen_at, with_read}
 use Rattle.engine_pages.specs.Touches.{IsFacing, Other, Touched, has_took}
 use Rattle.engine_pages.specs.Views.{IsActive, seat_number}
+use Rattle.engine_pages.proofs.Agreeing.{agreed}
 use Rattle.engine_pages.proofs.Dealing.{blamed, faces, lock_there}
 use Rattle.engine_pages.proofs.Facing.{IsNoted, facing_agree, facing_load, stands_way, takes_same}
 use Rattle.engine_pages.proofs.Joint.{Laws}
@@ -193,11 +195,17 @@ module _ (l : Layout) (words : List ℕ) (views : List View) (s : Shared) (id : 
           let decls = b.sound.few.1 in
           let low : r < length l.decls = subst (λ (y : Layout). r < length y.decls) b.own.layout root.0 in
           let place : at ≡ root_at r = root.2 in absurd (omega arith)
-      by_place (In y) child =
+      by_place (In y) (inl child) =
           let place : at ≡ page_at l.slots y.slot y.index =
           child.word ∙ ap (λ (z : Layout). page_at z.slots y.slot y.index) b.own.layout in
           let index = child.index in
           let same : y.slot ≡ t = omega arith in (child.way, old_way child.way child.has, child.slot ∙ same)
+      by_place (In y) (inr branch) =
+          let place : at ≡ page_at l.slots y.slot (4 + y.index) =
+          branch.word ∙ ap (λ (z : Layout). page_at z.slots y.slot (4 + y.index)) b.own.layout in
+          let index = branch.index in
+          let most = (b.pages.treed.inners branch.inner branch.knows).few in
+          let same : y.slot ≡ t = omega arith in (branch.way, old_way branch.way branch.has, branch.slot ∙ same)
 
   -- a lock of a record by a way is the pass's own, or another one took it
   lock_by : (worker : ℕ) → v.role ≡ Worker worker → (k : Key) (z : Spot) (j : ℕ)
@@ -247,8 +255,9 @@ module _ (l : Layout) (words : List ℕ) (views : List View) (s : Shared) (id : 
         | inr old ↦ b.pages.leads z old
       ]
 
-  tells : HasFollowed sp at v n (followed at sp n name s.resident.pages v)
-  tells = record {
+  tells : TreesAgree (followed at sp n name s.resident.pages v)
+      → HasFollowed sp at v n (followed at sp n name s.resident.pages v)
+  tells trees = record {
     pages = s.resident.pages;
     front = b.pages.resident;
     few = subst (λ (y : Layout). length s.resident.pages ≤ y.resident) (sym b.own.layout) b.sound.within;
@@ -260,13 +269,15 @@ module _ (l : Layout) (words : List ℕ) (views : List View) (s : Shared) (id : 
     name = name;
     is = refl;
     agree = agree;
+    trees = trees;
   }
 
   pub follow_stride : Stride l words views s (seat_number v.role) v at (λ k. k) (λ v k w. HasFollowed sp at v k w)
   follow_stride =
-      look_stride l words views s id v active b at (λ k. k) (followed at sp n name s.resident.pages v)
-      (λ v k w. HasFollowed sp at v k w) refl
-      record { layout = refl; role = refl; made = refl; past = refl; parked = refl; epoch = refl; mine = refl; draws = refl; due = refl; seat = refl; checked = refl; took = refl; loaded = refl; met = refl; heard = refl; history = refl; decided = refl }
+      agreed l words views s v active at (λ k. k) (λ v k w. HasFollowed sp at v k w)
+      (look_stride l words views s id v active b at (λ k. k) (followed at sp n name s.resident.pages v)
+      (λ v k w. TreesAgree w → HasFollowed sp at v k w) refl
+      record { layout = refl; role = refl; made = refl; past = refl; parked = refl; epoch = refl; mine = refl; draws = refl; due = refl; seat = refl; checked = refl; took = refl; loaded = refl; met = refl; heard = refl; history = refl; decided = refl; versions = refl }
       refl
       record {
         within = b.pages.within;
@@ -280,6 +291,10 @@ module _ (l : Layout) (words : List ℕ) (views : List View) (s : Shared) (id : 
         known = b.pages.treed.known;
         heads = b.pages.treed.heads (seat_number v.role) (is_at v.role active);
         moved = b.pages.treed.moved;
+        sealed = b.pages.treed.sealed (seat_number v.role) (is_at v.role active);
+        inners = b.pages.treed.inners;
+        new_leaves = b.pages.treed.new_leaves;
+        new_inners = b.pages.treed.new_inners;
         shuts = b.pages.shuts (seat_number v.role) (is_at v.role active);
       }
       record {
@@ -296,7 +311,7 @@ module _ (l : Layout) (words : List ℕ) (views : List View) (s : Shared) (id : 
             } worker role;
         blamed = blamed l words views s id v b;
       }
-      tells
+      tells)
 
 pub follows : Laws → (l : Layout) (slots id : ℕ) (me : Me (Unit {0}) View) (x : At) (sp : Span) (at : ℕ)
     → IsActive me.0.role → IsPointerAt me.0 x sp at

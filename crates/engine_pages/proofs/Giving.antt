@@ -6,9 +6,11 @@ use Rattle.std.specs.Prelude.{◌&&◌, ◌||◌, MatchBool}
 use prog.Atomic.{either}
 use Rattle.lists.specs.Elements.{in_cases}
 use Rattle.homes.specs.declared.places.Holder.{Holder}
-use Rattle.homes.specs.declared.places.Holder.TheVariants.{Dead}
-use Rattle.drop_core.specs.declared.table.Led.TheVariants.{Never}
+use Rattle.homes.specs.declared.places.Holder.TheVariants.{Dead, Held}
+use Rattle.drop_core.specs.declared.table.Led.TheVariants.{Away, From, Never}
+use Rattle.drop_core.specs.Law.{IsMade}
 use Rattle.drop_core.specs.Sound.{IsLedSo}
+use Rattle.commit_core.specs.Places.{home_of}
 use Rattle.std.proofs.lemmas.Bool.{and_from, and_parts, or_right, false_from_ne_true}
 use Rattle.std.proofs.lemmas.Bool.Decides.{nat_tests}
 use Rattle.atomic_table.specs.Table.{Me, Allows}
@@ -21,16 +23,16 @@ use Rattle.drop_core.specs.declared.table.SlotState.{SlotState}
 use Rattle.drop_core.specs.declared.table.SlotState.TheVariants.{Unused, Owned, Published as Shown, Retired}
 use Rattle.drop_core.specs.declared.table.Table.{Table}
 use Rattle.drop_core.specs.Event.{is_owned, is_published, is_usable, can_be_given, most_times, with_slot, with_header}
-use Rattle.drop_core.specs.Table.{slot_of, header_of, has_slot, is_led}
+use Rattle.drop_core.specs.Table.{slot_of, header_of, has_slot, is_led, is_never}
 use Rattle.engine_pages.specs.declared.layout.Layout.{Layout}
 use Rattle.engine_pages.specs.declared.view.View.{View}
 use Rattle.engine_pages.specs.Layout.{slot_at, page_at}
-use Rattle.engine_pages.specs.Rule.{Shared, IsDraft, Shows}
+use Rattle.engine_pages.specs.Rule.{Shared, all_seats, IsDraft, Shows}
 use Rattle.engine_pages.specs.Slots.{is_usable_word, given_word, given, Given, HasGiven}
 use Rattle.engine_pages.specs.Views.{IsActive, seat_number}
 use Rattle.engine_pages.specs.Words.{ShowsSlot, state_number, is_shown}
 use Rattle.engine_pages.proofs.Dealing.{rests_all, rests_low}
-use Rattle.engine_pages.proofs.EachSeat.{holds_counted}
+use Rattle.engine_pages.proofs.EachSeat.{at_seat, holds_counted}
 use Rattle.engine_pages.proofs.Entering.{low_state, passes_few}
 use Rattle.engine_pages.proofs.Looks.{look_stride}
 use Rattle.engine_pages.proofs.Slotlists.{tab, get_tab, length_tab}
@@ -39,6 +41,8 @@ use Rattle.engine_pages.proofs.Joint.{Laws}
 use Rattle.engine_pages.proofs.Seats.{by_equal, is_at}
 use Rattle.engine_pages.proofs.SlotFacts.{slot_other, slot_same, way_same, draft_same, copy_same, blank_same, filled_same}
 use Rattle.engine_pages.proofs.SlotFacts.{known_same, head_same, moved_same}
+use Rattle.engine_pages.proofs.SlotFacts.{inner_same, new_leaf_same, new_inner_same}
+use Rattle.engine_pages.proofs.TreeFacts.{sealed_at}
 use Rattle.engine_pages.proofs.SlotSteps.{SamePages, slot_stride}
 use Rattle.engine_pages.proofs.Turns.{Stride, Begins, allows_at, written}
 use Rattle.engine_pages.proofs.SlotFacts.{within_same, shut_same}
@@ -96,6 +100,32 @@ unusable_owned Unused e = refl
 unusable_owned Owned e = absurd (true≢false (sym e))
 unusable_owned Shown e = refl
 unusable_owned Retired e = refl
+
+-- a slot that may be given is in nobody's hands
+idle_given : (state : SlotState) (led : Led) → can_be_given state ≡ true
+    → (is_owned state || (is_published state && is_never led)) ≡ false
+idle_given Unused led e = refl
+idle_given Owned led e = absurd (true≢false (sym e))
+idle_given Shown led e = absurd (true≢false (sym e))
+idle_given Retired led e = refl
+
+-- nor did the pass make it
+unmade : Laws → (l : Layout) (words : List ℕ) (views : List View) (s : Shared) (id : ℕ) (v : View) (t : ℕ)
+    → Begins l words views s id v → can_be_given (slot_of s.table t).state ≡ true → has_slot v.grip.made t ≡ true → ⊥
+unmade laws l words views s id v t b can has =
+    let p = seat_number v.role in
+    let d = s.table in
+    let made : has_slot (s.grips p).made t ≡ true = ap (λ (g : Grip). has_slot g.made t) (sym b.grip) ∙ has in
+    let is : IsMade d (all_seats s.grips) p t =
+    laws.made (home_of s.story.homes) d (all_seats s.grips) p t (s.grips p) b.sound.joint.pages (at_seat s.grips p b.few) made in
+    true≢false (sym is.making ∙ idle_given (slot_of d t).state (slot_of d t).led can)
+
+-- a slot that something leads to is published
+led_published : (d : Table) (t : ℕ) (state : SlotState) (led : Led) → is_led led ≡ true → IsLedSo d t state led
+    → is_published state ≡ true
+led_published d t state Never e so = absurd (true≢false (sym e))
+led_published d t state (From y) e so = ap is_published so.0
+led_published d t state Away e so = absurd (true≢false (sym e))
 
 -- the words of a slot's page
 abbrev page_words_of : List ℕ → ℕ → ℕ → List ℕ
@@ -156,11 +186,14 @@ gives laws l slots id me t expected active few can =
         true≢false (sym owned ∙ ap (λ k. is_owned (slot_of d k).state) is ∙ unusable_owned x.state parts.0) in
         let unpublished : (u : ℕ) → is_published (slot_of d u).state ≡ true → u ≢ t = λ u shown is.
         true≢false (sym shown ∙ ap (λ k. is_published (slot_of d k).state) is ∙ given_unpublished x.state parts.0) in
+        let unlocked : (u : ℕ) → header_of d u ≡ Held p → u ≢ t = λ u held.
+        unpublished u (led_published d u (slot_of d u).state (slot_of d u).led (h.joint.pages.held.headers u p held).1
+        (h.joint.pages.table.holds_counted.led u)) in
         let made : (u : ℕ) → has_slot v.grip.made u ≡ true → has_slot w.grip.made u ≡ true = λ u has.
         or_right (eqb t u) (has_slot v.grip.made u) has in
         slot_stride laws l words views s id v active b t f (Give t) w (Given t expected)
         record {
-          same = record { layout = refl; role = refl; made = refl; past = refl; parked = refl; epoch = refl; mine = refl; draws = refl; due = refl; seat = refl; checked = refl; took = refl; loaded = refl; met = refl; heard = refl; history = refl; decided = refl };
+          same = record { layout = refl; role = refl; made = refl; past = refl; parked = refl; epoch = refl; mine = refl; draws = refl; due = refl; seat = refl; checked = refl; took = refl; loaded = refl; met = refl; heard = refl; history = refl; decided = refl; versions = refl };
           still = refl;
           allowed = and_from (ltb t d.room) (is_usable x) (let room = h.room in grind (arith, nat_tests)) free;
           lets = refl;
@@ -230,15 +263,29 @@ gives laws l slots id me t expected active few can =
                 (b.pages.shuts p (is_at v.role active) z has);
             heads = λ z has.
                 let was = b.pages.treed.heads p (is_at v.role active) z has in
-                let other = unheld z.slot was.held in
-                head_same l words words' s.trees d e p v.grip.holds w.grip.holds z was.held
-                (ap (λ (k : Slot). k.led) (others z.slot other)) (header z.slot other) refl
+                head_same l words words' s.trees d e p z (header z.slot (unlocked z.slot was.locked)) refl
                 (λ i less. pages (page_at l.slots z.slot i) (omega arith)) was;
             moved = λ z has.
                 let was = b.pages.treed.moved z has in
                 moved_same l words words' s.trees d e v.grip.holds w.grip.holds z was.held
                 (ap (λ (k : Slot). k.led) (others z.slot (unheld z.slot was.held))) refl
                 (λ i less. pages (page_at l.slots z.slot i) (omega arith)) was;
+            sealed = λ u has.
+                let was = b.pages.treed.sealed p (is_at v.role active) u has in
+                sealed_at l d e p u (header u (unlocked u was.locked)) refl was;
+            inners = λ z has.
+                let was = b.pages.treed.inners z has in
+                inner_same l s.trees d e v.grip.holds w.grip.holds z same was.held
+                (ap (λ (k : Slot). k.led) (others z.slot (unheld z.slot was.held))) was;
+            new_leaves = λ z has.
+                let was = b.pages.treed.new_leaves z has in
+                let other = unpublished z.slot was.state in
+                new_leaf_same l s.story d e s.trees v.grip.made w.grip.made z same (made z.slot was.made)
+                (ap (λ (k : Slot). k.state) (others z.slot other)) (header z.slot other) was;
+            new_inners = λ z has.
+                let was = b.pages.treed.new_inners z has in
+                new_inner_same l d e s.trees s.resident v.grip.made w.grip.made z same (made z.slot was.made)
+                (ap (λ (k : Slot). k.state) (others z.slot (unpublished z.slot was.state))) was;
           };
           deals = rests_low l words views s id v b words' w
               record { role = refl; ways = refl; took = refl; gone = refl; touched = refl; blamed = refl; locks = refl } refl
@@ -248,6 +295,7 @@ gives laws l slots id me t expected active few can =
           words = ws;
           long = length_tab (λ i. get_or words (page_at l.slots t i) 0) 64;
           unheld = false_from_ne_true (has_slot v.grip.holds t) (λ q. unheld t q refl);
+          unmade = false_from_ne_true (has_slot v.grip.made t) (λ q. unmade laws l words views s id v t b parts.0 q);
           is = refl;
         })
     by_found words views s b false found =
@@ -256,7 +304,7 @@ gives laws l slots id me t expected active few can =
         let w = glanced (slot_at t) n v in
         look_stride l words views s id v active b (slot_at t) (λ n. either (eqb n expected) (given_word expected) n) w
         (Given t expected) (ap (λ c. either c (given_word expected) n) found)
-        record { layout = refl; role = refl; made = refl; past = refl; parked = refl; epoch = refl; mine = refl; draws = refl; due = refl; seat = refl; checked = refl; took = refl; loaded = refl; met = refl; heard = refl; history = refl; decided = refl }
+        record { layout = refl; role = refl; made = refl; past = refl; parked = refl; epoch = refl; mine = refl; draws = refl; due = refl; seat = refl; checked = refl; took = refl; loaded = refl; met = refl; heard = refl; history = refl; decided = refl; versions = refl }
         refl
         record {
           within = b.pages.within;
@@ -270,6 +318,10 @@ gives laws l slots id me t expected active few can =
           known = b.pages.treed.known;
           heads = b.pages.treed.heads (seat_number v.role) (is_at v.role active);
           moved = b.pages.treed.moved;
+          sealed = b.pages.treed.sealed (seat_number v.role) (is_at v.role active);
+          inners = b.pages.treed.inners;
+          new_leaves = b.pages.treed.new_leaves;
+          new_inners = b.pages.treed.new_inners;
           shuts = b.pages.shuts (seat_number v.role) (is_at v.role active);
         }
         (rests_all l words views s id v b w

@@ -10,7 +10,7 @@ use Rattle.drop_core.specs.declared.table.Slot.{Slot}
 use Rattle.drop_core.specs.Event.{with_slot, without}
 use Rattle.drop_core.specs.Table.{slot_of, has_slot, is_led}
 use Rattle.engine_pages.specs.declared.layout.Layout.{Layout}
-use Rattle.engine_pages.specs.declared.view.Head.{Head}
+use Rattle.engine_pages.specs.declared.view.Inner.{Inner}
 use Rattle.engine_pages.specs.declared.view.Known.{Known}
 use Rattle.engine_pages.specs.declared.view.Moved.{Moved}
 use Rattle.engine_pages.specs.declared.view.View.{View}
@@ -32,6 +32,8 @@ use Rattle.engine_pages.proofs.Joint.{Laws}
 use Rattle.engine_pages.proofs.Seats.{by_equal, is_at}
 use Rattle.engine_pages.proofs.SlotFacts.{slot_other, slot_same, passes_only, way_same, draft_same, copy_same, blank_same, filled_same}
 use Rattle.engine_pages.proofs.SlotFacts.{known_same, head_same, moved_same}
+use Rattle.engine_pages.proofs.SlotFacts.{inner_same, new_leaf_same, new_inner_same}
+use Rattle.engine_pages.proofs.TreeFacts.{sealed_at}
 use Rattle.engine_pages.proofs.SlotSteps.{SamePages, slot_stride}
 use Rattle.engine_pages.proofs.Turns.{allows_at, written}
 use Rattle.engine_pages.proofs.SlotFacts.{within_same, shut_same}
@@ -85,7 +87,7 @@ leaves_slot laws l slots id me t active few holds-it unkept =
     without_other v.grip.holds t u other ∙ had in
     slot_stride laws l words views s id v active b t (λ n. (n + (2 ^ 64 - 1)) % 2 ^ 64) (Leave t) w (λ v n w. w ≡ left t v)
     record {
-      same = record { layout = refl; role = refl; made = refl; past = refl; parked = refl; epoch = refl; mine = refl; draws = refl; due = refl; seat = refl; checked = refl; took = refl; loaded = refl; met = refl; heard = refl; history = refl; decided = refl };
+      same = record { layout = refl; role = refl; made = refl; past = refl; parked = refl; epoch = refl; mine = refl; draws = refl; due = refl; seat = refl; checked = refl; took = refl; loaded = refl; met = refl; heard = refl; history = refl; decided = refl; versions = refl };
       still = refl;
       allowed = held;
       lets = ap not kept;
@@ -136,15 +138,25 @@ leaves_slot laws l slots id me t active few holds-it unkept =
               refl,
             ))) refl (b.pages.shuts p (is_at v.role active) z old.0);
         heads = λ z has.
-            let old = at_others (λ (k : Head). k.slot) t v.heads z has in
-            let was = b.pages.treed.heads p (is_at v.role active) z old.0 in
-            head_same l words words' s.trees d e p v.grip.holds w.grip.holds z (holds z.slot old.1 was.held) (uses z.slot).led refl
-            refl (λ i less. pages (page_at l.slots z.slot i) (omega arith)) was;
+            let was = b.pages.treed.heads p (is_at v.role active) z has in
+            head_same l words words' s.trees d e p z refl refl (λ i less. pages (page_at l.slots z.slot i) (omega arith)) was;
         moved = λ z has.
             let old = at_others (λ (k : Moved). k.slot) t v.moved z has in
             let was = b.pages.treed.moved z old.0 in
             moved_same l words words' s.trees d e v.grip.holds w.grip.holds z (holds z.slot old.1 was.held) (uses z.slot).led refl
             (λ i less. pages (page_at l.slots z.slot i) (omega arith)) was;
+        sealed = λ u has.
+            let was = b.pages.treed.sealed p (is_at v.role active) u has in sealed_at l d e p u refl refl was;
+        inners = λ z has.
+            let old = at_others (λ (k : Inner). k.slot) t v.inners z has in
+            let was = b.pages.treed.inners z old.0 in
+            inner_same l s.trees d e v.grip.holds w.grip.holds z same (holds z.slot old.1 was.held) (uses z.slot).led was;
+        new_leaves = λ z has.
+            let was = b.pages.treed.new_leaves z has in
+            new_leaf_same l s.story d e s.trees v.grip.made v.grip.made z same was.made (uses z.slot).state refl was;
+        new_inners = λ z has.
+            let was = b.pages.treed.new_inners z has in
+            new_inner_same l d e s.trees s.resident v.grip.made v.grip.made z same was.made (uses z.slot).state was;
       };
       deals = record {
         touched = λ q k. omega (arith, takes_same q k v w refl);

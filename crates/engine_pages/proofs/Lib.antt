@@ -2,6 +2,7 @@ pub mod EachSeat
 pub mod Joint
 pub mod Named
 pub mod Seats
+pub mod TreeFacts
 pub mod PagesStay
 pub mod Leaves
 pub mod Facing
@@ -30,4 +31,5 @@ pub mod Retiring
 pub mod Loadings
 pub mod PointerLaws
 pub mod WayLaws
+pub mod Agreeing
 pub mod Following

@@ -34,7 +34,7 @@ loads_resident laws l slots id me n i active same some known few =
     b.sound.shown.resident n i some (omega arith) few
     ∙ ap (λ (z : List ℕ). get_or z i 0) (page_longer v.pages s.resident.pages n front known) in
     look_stride l words views s id v active b at (λ k. k) w (λ v k w. HasLoaded n i v k w) refl
-    record { layout = refl; role = refl; made = refl; past = refl; parked = refl; epoch = refl; mine = refl; draws = refl; due = refl; seat = refl; checked = refl; took = refl; loaded = refl; met = refl; heard = refl; history = refl; decided = refl }
+    record { layout = refl; role = refl; made = refl; past = refl; parked = refl; epoch = refl; mine = refl; draws = refl; due = refl; seat = refl; checked = refl; took = refl; loaded = refl; met = refl; heard = refl; history = refl; decided = refl; versions = refl }
     refl
     record {
       within = b.pages.within;
@@ -48,6 +48,10 @@ loads_resident laws l slots id me n i active same some known few =
       known = b.pages.treed.known;
       heads = b.pages.treed.heads (seat_number v.role) (is_at v.role active);
       moved = b.pages.treed.moved;
+      sealed = b.pages.treed.sealed (seat_number v.role) (is_at v.role active);
+      inners = b.pages.treed.inners;
+      new_leaves = b.pages.treed.new_leaves;
+      new_inners = b.pages.treed.new_inners;
       shuts = b.pages.shuts (seat_number v.role) (is_at v.role active);
     }
     (rests_all l words views s id v b w

@@ -12,10 +12,11 @@ use Rattle.engine_pages.specs.declared.layout.Layout.{Layout}
 use Rattle.engine_pages.specs.declared.view.Heard.{Heard}
 use Rattle.engine_pages.specs.declared.view.Met.{Met}
 use Rattle.engine_pages.specs.declared.view.Took.{Took}
+use Rattle.engine_pages.specs.declared.view.Version.{Version}
 use Rattle.engine_pages.specs.declared.view.View.{View}
 use Rattle.engine_pages.specs.Views.{IsAt, IsActive, IsResting, HasPart, bare_seat, seat_number}
 use Rattle.engine_pages.specs.Rule.{IsInOrder, IsOwn, Tried, IsPast, KeptAreRecords, KeptIsLow, StillLoaded}
-use Rattle.engine_pages.specs.Rule.{Fits, HasLockOf}
+use Rattle.engine_pages.specs.Rule.{Fits, HasLockOf, IsOneOf}
 use Rattle.engine_pages.proofs.Seats.{by_equal, put_seat, put_same, put_other, at_number, is_at, own_longer, tried_longer}
 
 -- the seats stay as they are where the seat that is put is what was there
@@ -27,10 +28,12 @@ same_seat seats p s q is =
 pub seen_fits : (l : Layout) (m : Story) (seats : ℕ → Seat) (v w : View) → IsActive v.role → Fits l m seats v
     → w.layout ≡ v.layout → w.role ≡ v.role → w.made ≡ v.made → w.past ≡ v.past → w.parked ≡ v.parked → w.epoch ≡ v.epoch
     → w.mine ≡ v.mine → w.due ≡ v.due → w.seat ≡ v.seat → w.checked ≡ v.checked → w.took ≡ v.took → IfSome w.loaded (StillLoaded m.history m.decided m.places v.seat.kept)
-    → w.met ≡ v.met → w.heard ≡ v.heard → IsFront v.history w.history → IsFront v.decided w.decided → IsFront w.history m.history
+    → w.met ≡ v.met → w.heard ≡ v.heard
+    → ((x : Version) → Contains w.versions x → IsOneOf l.decls l.opening m.history x)
+    → IsFront v.history w.history → IsFront v.decided w.decided → IsFront w.history m.history
     → IsFront w.decided m.decided
     → Fits l m (put_seat seats (seat_number v.role) w.seat) w
-seen_fits l m seats v w active f layout role made past parked epoch mine due seat checked took loaded met heard longer later history decided =
+seen_fits l m seats v w active f layout role made past parked epoch mine due seat checked took loaded met heard versions longer later history decided =
     let p = seat_number v.role in
     let own = f.own p (is_at v.role active) in
     let here : w.seat ≡ seats p = seat ∙ own.seat in
@@ -48,6 +51,7 @@ seen_fits l m seats v w active f layout role made past parked epoch mine due sea
           (f.mine_own a (subst (λ (x : List Attempt). Contains x a) mine has)));
       records = subst (λ (s : Seat). KeptAreRecords l.decls l.opening m.history s.kept) (sym seat) f.records;
       kept = subst (λ (s : Seat). KeptIsLow m.places s.kept) (sym seat) f.kept;
+      versions = versions;
       loaded = subst (λ (s : Seat). IfSome w.loaded (StillLoaded m.history m.decided m.places s.kept)) (sym seat) loaded;
       own = λ q at.
           let is : q ≡ p = at_number q v.role (subst (IsAt q) role at) in

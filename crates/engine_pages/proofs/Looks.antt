@@ -1,7 +1,7 @@
 -- Steps that are no act: the word stays, and the view may know more.
 use Rattle.std.proofs.Common.{◌≡◌, ℕ, ◌+◌, ◌^◌, ◌<◌, Bool, cond, inl, List, length, get_or, set, refl}
 use Rattle.std.proofs.Common.{sym, ap, ◌∙◌, subst, arith, IfSome, Some}
-use Rattle.std.specs.List.{slice_get}
+use Rattle.std.specs.List.{Contains, slice_get}
 use Rattle.atomic_table.specs.Table.{Me, Allows}
 use Rattle.lists.specs.Fronts.{IsFront, front_refl}
 use Rattle.serial_model.specs.declared.number.Number.{Number}
@@ -14,9 +14,10 @@ use Rattle.engine_rule.specs.Sound.{IsSound}
 use Rattle.engine_rule.specs.Stays.{Stays}
 use Rattle.views.specs.Sums.{total}
 use Rattle.engine_pages.specs.declared.layout.Layout.{Layout}
+use Rattle.engine_pages.specs.declared.view.Version.{Version}
 use Rattle.engine_pages.specs.declared.view.View.{View}
 use Rattle.engine_pages.specs.Layout.{slot_at}
-use Rattle.engine_pages.specs.Rule.{Shared, all_seats, joint_of, Fits, FitsPages, StillLoaded, Shows}
+use Rattle.engine_pages.specs.Rule.{Shared, all_seats, joint_of, Fits, FitsPages, IsOneOf, StillLoaded, Shows}
 use Rattle.engine_pages.specs.Slots.{looked_at}
 use Rattle.engine_pages.specs.Views.{IsActive, seat_number, tries, waits}
 use Rattle.engine_pages.specs.Words.{ShowsWords}
@@ -133,6 +134,8 @@ module _ (l : Layout) (words : List ℕ) (views : List View) (s : Shared) (id : 
             same.mine same.due same.seat same.checked same.took
             (subst (λ o. IfSome o (StillLoaded m.history m.decided m.places v.seat.kept)) (sym same.loaded) b.fits.loaded)
             same.met same.heard
+            (subst (λ (y : List Version). (x : Version) → Contains y x → IsOneOf l.decls l.opening m.history x)
+            (sym same.versions) b.fits.versions)
             (subst (λ (x : List Attempt). IsFront v.history x) (sym same.history) (front_refl v.history))
             (subst (λ (x : List Number). IsFront v.decided x) (sym same.decided) (front_refl v.decided))
             (subst (λ (x : List Attempt). IsFront x m.history) (sym same.history) b.fits.history)
@@ -154,7 +157,7 @@ looks laws l slots id me t active =
     let w = looked_at t (get_or words (slot_at t) 0) v in
     look_stride l words views s id v active b (slot_at t) (λ k. k) w
     (λ v k w. w ≡ looked_at t k v) refl
-    record { layout = refl; role = refl; made = refl; past = refl; parked = refl; epoch = refl; mine = refl; draws = refl; due = refl; seat = refl; checked = refl; took = refl; loaded = refl; met = refl; heard = refl; history = refl; decided = refl }
+    record { layout = refl; role = refl; made = refl; past = refl; parked = refl; epoch = refl; mine = refl; draws = refl; due = refl; seat = refl; checked = refl; took = refl; loaded = refl; met = refl; heard = refl; history = refl; decided = refl; versions = refl }
     refl
     record {
       within = b.pages.within;
@@ -168,6 +171,10 @@ looks laws l slots id me t active =
       known = b.pages.treed.known;
       heads = b.pages.treed.heads (seat_number v.role) (is_at v.role active);
       moved = b.pages.treed.moved;
+      sealed = b.pages.treed.sealed (seat_number v.role) (is_at v.role active);
+      inners = b.pages.treed.inners;
+      new_leaves = b.pages.treed.new_leaves;
+      new_inners = b.pages.treed.new_inners;
       shuts = b.pages.shuts (seat_number v.role) (is_at v.role active);
     }
     (rests_all l words views s id v b w

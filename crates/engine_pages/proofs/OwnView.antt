@@ -15,6 +15,7 @@ use Rattle.engine_pages.specs.declared.layout.Layout.{Layout}
 use Rattle.engine_pages.specs.declared.view.Heard.{Heard}
 use Rattle.engine_pages.specs.declared.view.Met.{Met}
 use Rattle.engine_pages.specs.declared.view.Took.{Took}
+use Rattle.engine_pages.specs.declared.view.Version.{Version}
 use Rattle.engine_pages.specs.declared.view.Role.{Role}
 use Rattle.engine_pages.specs.declared.view.Role.TheVariants.{Keeper, Worker, Note, Spent}
 use Rattle.engine_pages.specs.declared.view.View.{View}
@@ -25,7 +26,7 @@ use Rattle.homes.specs.declared.places.Spot.{Spot}
 use Rattle.homes.specs.Homes.{has_key}
 use Rattle.engine_pages.specs.Views.{IsAt, IsActive, IsResting, HasPart, bare_seat, seat_number}
 use Rattle.engine_pages.specs.Rule.{IsInOrder, IsOwn, Tried, Own, IsHeld, HasLockOf, IsPast, WasMarked}
-use Rattle.engine_pages.specs.Rule.{KeptAreRecords, KeptIsLow, StillLoaded, Fits}
+use Rattle.engine_pages.specs.Rule.{KeptAreRecords, KeptIsLow, StillLoaded, Fits, IsOneOf}
 use Rattle.engine_pages.proofs.Seats.{put_seat, put_same, put_other, at_number, is_at, marked_stays, marks_longer}
 
 -- what is true of the view w of seat p beside the story n, as it is told of the fields that a step may change
@@ -38,9 +39,10 @@ pub record Now (decls : List Decl) (opening : List (Key × Content)) (n : Story)
   pub mine_own : (a : Attempt) → Contains w.mine a → IsOwn w.role w.history w.decided a
   pub records : KeptAreRecords decls opening n.history w.seat.kept
   pub kept : KeptIsLow n.places w.seat.kept
+  pub versions : (x : Version) → Contains w.versions x → IsOneOf decls opening n.history x
   pub loaded : IfSome w.loaded (StillLoaded n.history n.decided n.places w.seat.kept)
   pub tried : Tried p w.history n.checks w.checked w.mine w.seat.stage
-  pub took : (t : Took) → Contains w.took t → (x : Spot) × IsHeld n p t x
+  pub took : (t : Took) → Contains w.took t → (x : Spot) × IsHeld decls n p t x
   pub locked : (k : Key) → has_key w.seat.locks k ≡ true → HasLockOf w.took k
   pub low : w.epoch ≤ n.epoch
   pub epoch : w.role ≡ Keeper → n.epoch ≤ w.epoch
@@ -70,6 +72,7 @@ own_fits_met l m n seats v w active f part layout role made parked met marks now
       mine_own = now.mine_own;
       records = now.records;
       kept = now.kept;
+      versions = now.versions;
       loaded = now.loaded;
       own = λ q at.
           subst (Own l n (put_seat seats p w.seat) w) (sym (at_number q v.role (subst (IsAt q) role at))) record {

@@ -1,5 +1,5 @@
 -- What another view knows of pages stays true.
-use Rattle.std.proofs.Common.{◌≡◌, ◌≢◌, ◌⊎◌, inl, inr, ℕ, suc, ◌+◌, ◌<◌, ◌≤◌, Bool, true, false, true≢false, List, []}
+use Rattle.std.proofs.Common.{◌≡◌, ◌≢◌, ◌⊎◌, inl, inr, ℕ, suc, ◌+◌, ◌<◌, ◌≤◌, Bool, true, false, true≢false, List}
 use Rattle.std.proofs.Common.{get_or, length, refl, sym, ap, ◌∙◌, subst, arith, Option, Some, None, ltb, cond}
 use Rattle.std.specs.List.{Contains}
 use Rattle.std.proofs.lemmas.Bool.{cases_Bool}
@@ -31,8 +31,11 @@ use Rattle.engine_pages.specs.declared.layout.Layout.{Layout}
 use Rattle.engine_pages.specs.declared.view.Copied.{Copied}
 use Rattle.engine_pages.specs.declared.view.Draft.{Draft}
 use Rattle.engine_pages.specs.declared.view.Head.{Head}
+use Rattle.engine_pages.specs.declared.view.Inner.{Inner as InnerKnown}
 use Rattle.engine_pages.specs.declared.view.Known.{Known}
 use Rattle.engine_pages.specs.declared.view.Moved.{Moved}
+use Rattle.engine_pages.specs.declared.view.NewInner.{NewInner}
+use Rattle.engine_pages.specs.declared.view.NewLeaf.{NewLeaf}
 use Rattle.engine_pages.specs.declared.view.Role.{Role}
 use Rattle.engine_pages.specs.declared.view.Role.TheVariants.{Keeper, Worker, Note, Spent}
 use Rattle.engine_pages.specs.declared.view.View.{View}
@@ -41,14 +44,16 @@ use Rattle.engine_pages.specs.Layout.{page_at, snap_at}
 use Rattle.engine_pages.specs.Pages.{shape_of, child_span, is_leaf_span, decl_of, keys_from, Fenced, IsOver, IsLaidOut}
 use Rattle.engine_pages.specs.Resident.{Published, HasMore, array_record}
 use Rattle.engine_pages.specs.Rule.{Shared, all_seats, joint_of, Fits, FitsPages, IsWay, IsDraft, IsCopy, IsCopiedPointer}
-use Rattle.engine_pages.specs.Rule.{IsKnownLeaf, IsHead, IsMoved, is_spare}
+use Rattle.engine_pages.specs.Rule.{IsKnownLeaf, IsHead, IsMoved, IsSealed, IsInner, IsNewLeaf, IsNewInner, is_spare}
 use Rattle.engine_pages.specs.Stays.{IsKnown, IsRelied, TreesStay}
-use Rattle.engine_pages.specs.Views.{IsAt, IsActive, HasNoSlots, HasNoPages, HasNoTrees, seat_number, sits, sits_by}
+use Rattle.engine_pages.specs.Views.{IsAt, IsActive, HasNoSlots, HasNoPages, HasNoTreePages, HasNoTrees, seat_number}
+use Rattle.engine_pages.specs.Views.{sits, sits_by}
 use Rattle.engine_pages.specs.Words.{spot}
 use Rattle.engine_pages.proofs.EachSeat.{at_seat}
 use Rattle.engine_pages.proofs.Joint.{Laws}
 use Rattle.engine_pages.proofs.Named.{named_more, page_longer, lead_more}
-use Rattle.engine_pages.proofs.Seats.{is_at, sits_here, few_seats}
+use Rattle.engine_pages.proofs.Seats.{is_at, sits_here, few_seats, locked_known}
+use Rattle.engine_pages.proofs.TreeFacts.{inner_at, new_leaf_at, new_inner_at, sealed_at}
 use Rattle.homes.specs.declared.places.At.{At}
 use Rattle.homes.specs.declared.places.At.TheVariants.{Root, In}
 use Rattle.homes.specs.declared.places.Holder.TheVariants.{Dead}
@@ -98,6 +103,12 @@ split_stays d e t left is = elim left.page [
   | inl same ↦ same ∙ is
   | inr grown ↦ absurd (no_growth (page_of d t) (page_of e t) is grown.0)
 ]
+
+inner_stays_page : (old new : Page) (n : ℕ) (x : Type 0) → old ≡ Inner n → (new ≡ old) ⊎ (IsGrown old new × x)
+    → new ≡ old
+inner_stays_page old new n x is (inl same) = same
+inner_stays_page old new n x is (inr grown) =
+    let leaf : Leaf grown.0.0 ≡ Inner n = sym grown.0.1 ∙ is in absurd (cc)
 
 pub over_stays : (d e : Table) (t : ℕ) (sp : Span) → LeavesPage d e t → IsOver d t sp → IsOver e t sp
 over_stays d e t sp left over = record {
@@ -206,12 +217,11 @@ bare_pages (Worker w) grip ways drafts copies blanks idle h = absurd (idle tt)
 bare_pages Note grip ways drafts copies blanks idle h = h
 bare_pages Spent grip ways drafts copies blanks idle h = h
 
-bare_trees : (role : Role) (known : List Known) (heads : List Head) (moved : List Moved) → (IsActive role → ⊥)
-    → HasNoTrees role known heads moved → (known ≡ []) × (moved ≡ [])
-bare_trees Keeper known heads moved idle h = absurd (idle tt)
-bare_trees (Worker w) known heads moved idle h = absurd (idle tt)
-bare_trees Note known heads moved idle h = (h.0, h.2)
-bare_trees Spent known heads moved idle h = (h.0, h.2)
+bare_trees : (role : Role) (v : View) → (IsActive role → ⊥) → HasNoTrees role v → HasNoTreePages v
+bare_trees Keeper v idle h = absurd (idle tt)
+bare_trees (Worker w) v idle h = absurd (idle tt)
+bare_trees Note v idle h = h
+bare_trees Spent v idle h = h
 
 at_active : (q : ℕ) (r : Role) → IsAt q r → IsActive r
 at_active q Keeper at = tt
@@ -314,20 +324,20 @@ module _ (laws : Laws) (l : Layout) (words words' : List ℕ) (s t : Shared) (p 
         front = front_then x.keys was.fence.keys g.0.keys was.front g.3;
       }
 
-  head_stays : IsActive u.role → (k : ℕ) → IsAt k u.role → (x : Head) → IsHead l words s.table s.trees k u.grip.holds x
-      → IsHead l words' t.table t.trees k u.grip.holds x
-  head_stays active k at x was =
-      let head = left.held.headers k x.slot (elsewhere k at) was.locked in record {
+  head_stays : (k : ℕ) → IsAt k u.role → (x : Head) → IsHead l words s.table s.trees k x
+      → IsHead l words' t.table t.trees k x
+  head_stays k at x was =
+      let head = left.held.headers k x.slot (elsewhere k at) was.locked in
+      let known = locked_known l s x.slot k sound was.locked in record {
         within = was.within;
-        held = was.held;
-        known = (page_left active x.slot was.held was.known).known;
         locked = head.0;
         leaf = head.1 ∙ was.leaf;
         fence = was.fence;
         there = trees.heads x.slot k was.locked (elsewhere k at) ∙ was.there;
         keys = was.keys;
+        long = was.long;
         is = λ i less is.
-            frame.spare x.slot k x.keys was.within was.known was.locked (elsewhere k at) was.leaf i less is
+            frame.spare x.slot k x.keys was.within known was.locked (elsewhere k at) was.leaf i less is
             ∙ was.is i less is;
       }
 
@@ -374,6 +384,38 @@ module _ (laws : Laws) (l : Layout) (words words' : List ℕ) (s t : Shared) (p 
         major = words-same 4 (omega arith) (omega arith) ∙ was.major;
         separator = words-same 5 (omega arith) (omega arith) ∙ was.separator;
       }
+
+  sealed_stays : (k : ℕ) → IsAt k u.role → (x : ℕ) → IsSealed l s.table k x → IsSealed l t.table k x
+  sealed_stays k at x was =
+      let head = left.held.headers k x (elsewhere k at) was.locked in
+      sealed_at l s.table t.table k x (head.0 ∙ sym was.locked) head.1 was
+
+  inner_stays : IsActive u.role → (x : InnerKnown) → IsInner l s.table s.trees u.grip.holds x
+      → IsInner l t.table t.trees u.grip.holds x
+  inner_stays active x was =
+      let page = page_left active x.slot was.held was.known in
+      inner_at l s.trees t.trees s.table t.table u.grip.holds u.grip.holds x was.held page.known
+      (inner_stays_page (page_of s.table x.slot) (page_of t.table x.slot) (suc (length x.separators)) _ was.page page.page)
+      (λ f is.
+      let g = trees.fence q x.slot f (relied active x.slot was.held was.known) is in (g.0, g.1, g.2))
+      page.spans was
+
+  new_leaf_stays : IsActive u.role → (x : NewLeaf) → IsNewLeaf l s.story s.table s.trees u.grip.made x
+      → IsNewLeaf l t.story t.table t.trees u.grip.made x
+  new_leaf_stays active x was =
+      let made = made_left active x.slot was.made in
+      new_leaf_at l s.story t.story s.table t.table s.trees t.trees u.grip.made u.grip.made x was.made made.state
+      made.header made.page (trees.made q x.slot (few active) (other active) (made_here active x.slot was.made))
+      (λ i. left.records q (spot x.slot i) (s.grips q) (other active) (at_seat s.grips q (few active))
+      (made_here active x.slot was.made)) was
+
+  new_inner_stays : IsActive u.role → (x : NewInner) → IsNewInner l s.table s.trees s.resident u.grip.made x
+      → IsNewInner l t.table t.trees t.resident u.grip.made x
+  new_inner_stays active x was =
+      let made = made_left active x.slot was.made in
+      new_inner_at l s.table t.table s.trees t.trees s.resident t.resident u.grip.made u.grip.made x was.made made.state
+      made.page (trees.made q x.slot (few active) (other active) (made_here active x.slot was.made))
+      (λ j free. made.pointers j (ap (holder_is p) free)) more was
 
   pub pages_stay : FitsPages l words' t u
   pages_stay = record {
@@ -423,10 +465,23 @@ module _ (laws : Laws) (l : Layout) (words words' : List ℕ) (s t : Shared) (p 
         | inl active ↦ known_stays active x (f.treed.known x has)
         | inr idle ↦ absurd (in_none x (subst (λ (z : List Known). Contains z x) (treeless idle).0 has))
       ];
-      heads = λ k at x has. head_stays (at_active k u.role at) k at x (f.treed.heads k at x has);
+      heads = λ k at x has. head_stays k at x (f.treed.heads k at x has);
       moved = λ x has. elim (activity u.role) [
         | inl active ↦ moved_stays active x (f.treed.moved x has)
-        | inr idle ↦ absurd (in_none x (subst (λ (z : List Moved). Contains z x) (treeless idle).1 has))
+        | inr idle ↦ absurd (in_none x (subst (λ (z : List Moved). Contains z x) (treeless idle).2 has))
+      ];
+      sealed = λ k at x has. sealed_stays k at x (f.treed.sealed k at x has);
+      inners = λ x has. elim (activity u.role) [
+        | inl active ↦ inner_stays active x (f.treed.inners x has)
+        | inr idle ↦ absurd (in_none x (subst (λ (z : List InnerKnown). Contains z x) (treeless idle).3 has))
+      ];
+      new_leaves = λ x has. elim (activity u.role) [
+        | inl active ↦ new_leaf_stays active x (f.treed.new_leaves x has)
+        | inr idle ↦ absurd (in_none x (subst (λ (z : List NewLeaf). Contains z x) (treeless idle).4 has))
+      ];
+      new_inners = λ x has. elim (activity u.role) [
+        | inl active ↦ new_inner_stays active x (f.treed.new_inners x has)
+        | inr idle ↦ absurd (in_none x (subst (λ (z : List NewInner). Contains z x) (treeless idle).5 has))
       ];
       none = f.treed.none;
     };
@@ -435,5 +490,5 @@ module _ (laws : Laws) (l : Layout) (words words' : List ℕ) (s t : Shared) (p 
       bare : (IsActive u.role → ⊥) → HasNoSlots u.grip u.ways u.drafts u.copies u.blanks
       bare idle = bare_pages u.role u.grip u.ways u.drafts u.copies u.blanks idle f.none
 
-      treeless : (IsActive u.role → ⊥) → (u.known ≡ []) × (u.moved ≡ [])
-      treeless idle = bare_trees u.role u.known u.heads u.moved idle f.treed.none
+      treeless : (IsActive u.role → ⊥) → HasNoTreePages u
+      treeless idle = bare_trees u.role u idle f.treed.none

@@ -1,5 +1,5 @@
 -- What a view's facts say of a pointer.
-use Rattle.std.proofs.Common.{◌≡◌, ℕ, zero, suc, ◌+◌, ◌/◌, ◌^◌, ◌<◌, ◌≤◌, Bool, true, false}
+use Rattle.std.proofs.Common.{◌≡◌, inl, inr, ℕ, zero, suc, ◌+◌, ◌/◌, ◌^◌, ◌<◌, ◌≤◌, Bool, true, false}
 use Rattle.std.proofs.Common.{true≢false, cond, eqb, eqb-true, ltb, List, [], ◌∷◌, length, get_or, refl, sym, ap, ◌∙◌, subst, arith}
 use Rattle.std.proofs.Common.{Option, Some, None, ne_eqb}
 use Rattle.std.specs.List.{slice_get}
@@ -34,13 +34,15 @@ use Rattle.engine_rule.specs.Reading.{is_place, name_from, name_of}
 use Rattle.engine_pages.specs.declared.layout.Layout.{Layout}
 use Rattle.engine_pages.specs.declared.view.View.{View}
 use Rattle.engine_pages.specs.Layout.{page_at}
-use Rattle.engine_pages.specs.Pages.{decl_of, is_array_kind, root_span, Fenced, IsOver, IsLaidOut}
-use Rattle.engine_pages.specs.Pointers.{IsChildAt, IsPointerAt, page_half, slot_half, StandsFor}
+use Rattle.engine_pages.specs.Pages.{decl_of, is_array_kind, is_tree_kind, part_between, root_span, Fenced, IsFenced}
+use Rattle.engine_pages.specs.Pages.{IsOver, IsLaidOut}
+use Rattle.engine_pages.specs.Pointers.{IsBranchAt, IsChildAt, IsPointerAt, page_half, slot_half, StandsFor}
 use Rattle.engine_pages.specs.Resident.{IsNamed, place_for}
-use Rattle.engine_pages.specs.Rule.{Shared, IsWay}
+use Rattle.engine_pages.specs.Rule.{Shared, IsInner, IsWay}
 use Rattle.engine_pages.specs.Stays.{IsKnown}
-use Rattle.engine_pages.specs.Words.{ShowsPage, ShowsPointer, is_shown, lock_field}
+use Rattle.engine_pages.specs.Words.{IsOverwritten, ShowsPage, ShowsPointer, ShowsTree, is_shown, lock_field}
 use Rattle.engine_pages.proofs.PagesStay.{inner_shape}
+use Rattle.engine_pages.proofs.TreeFacts.{has_child}
 use Rattle.engine_pages.proofs.Turns.{Begins}
 
 -- ---- pages that are known
@@ -63,6 +65,12 @@ array_over None k d t sp kind over = absurd over
 array_over (Some (Array id size)) k d t sp kind over = over
 array_over (Some (Tree id)) k d t sp kind over = absurd (true≢false (sym kind))
 
+pub tree_over : (o : Option Decl) (k : ℕ → Option Fenced) (d : Table) (t : ℕ) (sp : Span) → is_tree_kind o ≡ true
+    → IsLaidOut o k d t sp → IsFenced (k t) sp
+tree_over None k d t sp kind over = absurd over
+tree_over (Some (Array id size)) k d t sp kind over = absurd (true≢false (sym kind))
+tree_over (Some (Tree id)) k d t sp kind over = over
+
 pub open_pointer : (a : ℕ) (h : Holder) → a + lock_field h < 2 ^ 60 → h ≡ Free
 open_pointer a Free below = refl
 open_pointer a (Held p) below = absurd (omega (arith, below))
@@ -75,6 +83,23 @@ pub record PointerIs (l : Layout) (words : List ℕ) (s : Shared) (v : View) (x 
   pub shows : ShowsPointer s.resident.places words at (pointer_of s.table x)
   pub span : span_at s.table x ≡ sp
   pub live : (pointer_of s.table x).holder ≡ Free → is_live s.table x ≡ true
+
+-- an open pointer of a page to which something has led is live
+held_live : (l : Layout) (words : List ℕ) (views : List View) (s : Shared) (id : ℕ) (v : View) (y : Spot)
+    → Begins l words views s id v → IsKnown s.table y.slot → has_pointer (page_of s.table y.slot) y.index ≡ true
+    → (pointer_of s.table (In y)).holder ≡ Free → is_live s.table (In y) ≡ true
+held_live l words views s id v y b known has free = by_led (slot_of s.table y.slot).led refl
+  where
+    by_led : (led : Led) → (slot_of s.table y.slot).led ≡ led → is_live s.table (In y) ≡ true
+    by_led Never e = absurd (true≢false (sym (ap is_never e) ∙ known))
+    by_led (From z) e =
+        and_from (is_led (slot_of s.table y.slot).led) (has_pointer (page_of s.table y.slot) y.index) (ap is_led e) has
+    by_led Away e =
+        let dead = b.sound.joint.pages.table.one_home_each.dead y.slot e y.index has in
+        absurd (free_dead (pointer_of s.table (In y)).holder free dead)
+      where
+        free_dead : (h : Holder) → h ≡ Free → h ≡ Dead → ⊥
+        free_dead h a c = absurd (cc)
 
 child_is : (l : Layout) (words : List ℕ) (views : List View) (s : Shared) (id : ℕ) (v : View) (y : Spot) (sp : Span)
     (at : ℕ) → Begins l words views s id v → IsChildAt v y sp at → PointerIs l words s v (In y) sp at
@@ -100,22 +125,48 @@ child_is l words views s id v y sp at b is =
       span =
           ap (λ t. span_at d (at_index t y.index)) (sym is.slot)
           ∙ (over.1.spans y.index (ap (λ (z : Page). has_pointer z y.index) shape ∙ few) ∙ sym is.span);
-      live = λ free. live_by (slot_of d y.slot).led refl free page few known;
+      live = λ free. held_live l words views s id v y b known (ap (λ (z : Page). has_pointer z y.index) page ∙ few) free;
     }
-  where
-    live_by : (led : Led) → (slot_of s.table y.slot).led ≡ led → (pointer_of s.table (In y)).holder ≡ Free
-        → page_of s.table y.slot ≡ Inner 64 → ltb y.index 64 ≡ true → IsKnown s.table y.slot
-        → is_live s.table (In y) ≡ true
-    live_by Never e free page few known = absurd (true≢false (sym (ap is_never e) ∙ known))
-    live_by (From z) e free page few known =
-        and_from (is_led (slot_of s.table y.slot).led) (has_pointer (page_of s.table y.slot) y.index) (ap is_led e)
-        (ap (λ (z : Page). has_pointer z y.index) page ∙ few)
-    live_by Away e free page few known =
-        let dead = b.sound.joint.pages.table.one_home_each.dead y.slot e y.index (ap (λ (z : Page). has_pointer z y.index) page ∙ few) in
-        absurd (free_dead (pointer_of s.table (In y)).holder free dead)
-      where
-        free_dead : (h : Holder) → h ≡ Free → h ≡ Dead → ⊥
-        free_dead h a c = absurd (cc)
+
+-- a page of a tree was made for one span alone
+pub one_fence : (x : Option Fenced) (f g : Fenced) → x ≡ Some f → x ≡ Some g → f ≡ g
+one_fence x f g a c = let both : Some f ≡ Some g = sym a ∙ c in cc
+
+branch_is : (l : Layout) (words : List ℕ) (views : List View) (s : Shared) (id : ℕ) (v : View) (y : Spot) (sp : Span)
+    (at : ℕ) → Begins l words views s id v → IsBranchAt v y sp at → PointerIs l words s v (In y) sp at
+branch_is l words views s id v y sp at b is =
+    let d = s.table in
+    let n : ℕ = length (is.inner).separators in
+    let way : IsWay l d s.trees v.grip.holds is.way = b.pages.ways is.way is.has in
+    let inner : IsInner l d s.trees v.grip.holds is.inner = b.pages.treed.inners is.inner is.knows in
+    let kind : is_tree_kind (decl_of l.decls is.way.span.storage) ≡ true =
+    ap (λ (z : Layout). is_tree_kind (decl_of z.decls is.way.span.storage)) (sym b.own.layout) ∙ is.kind in
+    let laid = tree_over (decl_of l.decls is.way.span.storage) s.trees d is.way.slot is.way.span kind way.over in
+    let within : y.slot < l.slots = subst (λ t. t < l.slots) is.same inner.within in
+    let known : IsKnown d y.slot = subst (λ t. IsKnown d t) is.same inner.known in
+    let page : page_of d y.slot ≡ Inner (suc n) = ap (page_of d) (sym is.same) ∙ inner.page in
+    let tree : s.trees y.slot ≡ Some inner.fence = ap s.trees (sym is.same) ∙ inner.there in
+    let fence : inner.fence.span ≡ is.way.span =
+    ap (λ (f : Fenced). f.span)
+    (one_fence (s.trees y.slot) inner.fence laid.0 tree (ap s.trees (sym is.slot) ∙ laid.1)) ∙ laid.2 in
+    let led = known_shown d y.slot (slot_of d y.slot).state (slot_of d y.slot).led known
+    (b.sound.joint.pages.table.holds_counted.led y.slot) in
+    let shown = subst
+    (ShowsTree s.resident.places words l.slots y.slot inner.fence (IsOverwritten s.story) (place_of s.story.places) d) page
+    (b.sound.shown.treed y.slot inner.fence within led tree) in
+    let few = is.index in
+    let child = shown.6 y.index (omega (arith, few)) in
+    let word : at ≡ page_at l.slots y.slot (4 + y.index) =
+    is.word ∙ ap (λ (z : Layout). page_at z.slots y.slot (4 + y.index)) b.own.layout in record {
+      shows = subst (λ k. ShowsPointer s.resident.places words k (pointer_of d (In y))) (sym word) child.0;
+      span =
+          ap (λ t. span_at d (at_index t y.index)) (sym is.same)
+          ∙ (inner.parts y.index is.index
+          ∙ (ap (λ (z : Span). part_between z (is.inner).separators y.index) fence ∙ sym is.span));
+      live = λ free.
+          held_live l words views s id v y b known
+          (ap (λ (z : Page). has_pointer z y.index) page ∙ has_child n y.index is.index) free;
+    }
 
 pub pointer_is : (l : Layout) (words : List ℕ) (views : List View) (s : Shared) (id : ℕ) (v : View) (x : At) (sp : Span)
     (at : ℕ) → Begins l words views s id v → IsPointerAt v x sp at → PointerIs l words s v x sp at
@@ -125,7 +176,8 @@ pointer_is l words views s id v (Root r) sp at b is =
       span = b.sound.roots r ∙ (ap (λ (z : Layout). root_span z.decls r) (sym b.own.layout) ∙ sym is.1);
       live = λ free. refl;
     }
-pointer_is l words views s id v (In y) sp at b is = child_is l words views s id v y sp at b is
+pointer_is l words views s id v (In y) sp at b (inl child) = child_is l words views s id v y sp at b child
+pointer_is l words views s id v (In y) sp at b (inr branch) = branch_is l words views s id v y sp at b branch
 
 -- ---- an open pointer's word
 

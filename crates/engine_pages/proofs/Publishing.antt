@@ -35,7 +35,8 @@ use Rattle.engine_pages.specs.Slots.{IsCopyDraft, published_copy, published_blan
 use Rattle.engine_pages.specs.Views.{IsActive, seat_number}
 use Rattle.engine_pages.specs.Words.{ShowsPage, ShowsRecord}
 use Rattle.views.specs.ByNumber.{put_at}
-use Rattle.engine_pages.proofs.Copying.{publish_stride, slot_new, page_new, tree_new, old_copy, old_blank}
+use Rattle.engine_pages.proofs.Copying.{NewPage, publish_stride, slot_new, page_new, tree_new, old_copy, old_blank}
+use Rattle.engine_pages.proofs.Copying.{old_leaf, old_inner}
 use Rattle.engine_pages.proofs.Records.{fill_places, place_filled, place_unfilled, filled_sound}
 use Rattle.engine_pages.proofs.Named.{page_longer, record_shown}
 use Rattle.engine_pages.proofs.PagesStay.{leaf_shape}
@@ -73,13 +74,13 @@ publishes_copy laws l slots id me x sp n active has cd =
     draft.is i less ∙ (cd.same i less ∙ ap (λ (z : List ℕ). get_or z i 0) (sym same)) in
     let was : (i : ℕ) → i < 64 → get_or x.words i 0 ≡ get_or ws i 0 = λ i less.
     cd.same i less ∙ ap (λ (z : List ℕ). get_or z i 0) (sym same) in
-    let c : ℕ → Content = λ i. array_record ws i in
+    let contents : ℕ → Content = λ i. array_record ws i in
     let made : has_slot (s.grips p).made t ≡ true = ap (λ (g : Grip). has_slot g.made t) (sym b.grip) ∙ draft.made in
-    let places' = fill_places t c 32 m.places in
-    let sound = filled_sound laws l s p t c b.few draft.owned made b.sound.joint 32 in
+    let places' = fill_places t contents 32 m.places in
+    let sound = filled_sound laws l s p t contents b.few draft.owned made b.sound.joint 32 in
     let still : (y : At) → is_slot t (slot_with y) ≡ false → pointer_of d y ≡ pointer_of d y = λ y other. refl in
     let others : (y : Spot) → y.slot ≢ t → place_of places' y ≡ place_of m.places y =
-    λ y other. place_unfilled t c 32 m.places y other in
+    λ y other. place_unfilled t contents 32 m.places y other in
     let shows : ShowsPage s.resident.places words l.slots t (place_of places') d (Leaf keys) = (
       (omega arith),
       (λ i less.
@@ -87,40 +88,54 @@ publishes_copy laws l slots id me x sp n active has cd =
           let next : page_at l.slots t (2 * i) + 1 ≡ page_at l.slots t (2 * i + 1) = omega arith in
           let word = was (2 * i) (omega arith) in
           let value = was (2 * i + 1) (omega arith) in
-          subst (ShowsRecord words (page_at l.slots t (2 * i))) (sym (place_filled t c 32 m.places i few))
+          subst (ShowsRecord words (page_at l.slots t (2 * i))) (sym (place_filled t contents 32 m.places i few))
           (record_shown words (page_at l.slots t (2 * i)) (get_or ws (2 * i) 0) (get_or ws (2 * i + 1) 0)
           (is (2 * i) (omega arith)) (ap (λ j. get_or words j 0) next ∙ is (2 * i + 1) (omega arith))
           (subst (λ k. k / 2 ^ 40 ≤ 1048574) word (cd.records.epochs i few))
           (λ none. sym value ∙ cd.records.blank i few (word ∙ none)))),
     ) in
     let copies' : List Copied = record { slot = t; span = sp; page = n } ∷ v.copies in
-    publish_stride laws l words views s id v active b x has (Leaf keys) places' d.pointers sound others still shows copies' v.blanks
+    let c : NewPage l words s t = record {
+      page = Leaf keys;
+      places = places';
+      pointers = d.pointers;
+      headers = d.headers;
+      fence = None;
+      filled = sound;
+      other_places = others;
+      other_pointers = still;
+      other_headers = λ u other. refl;
+      shown = shows;
+    } in
+    publish_stride laws l words views s id v active b x has c copies' v.blanks v.new_leaves v.new_inners
     (λ z there. elim (in_cases z (record { slot = t; span = sp; page = n }) v.copies there) [
       | inl new ↦
           let first : Copied = record { slot = t; span = sp; page = n } in
           subst (λ (y : Copied). (put_at s.trees t None y.slot ≡ None) × IsCopy l (record m { places = places' }) (with_slot (record d { pages = (t, Leaf keys) ∷ d.pages }) t (record (slot_of d t) { state = Shown })) s.resident v.grip.made y) new (
-            tree_new laws l words views s id v active b x has (Leaf keys) places' d.pointers sound others still shows copies' v.blanks,
+            tree_new laws l words views s id v active b x has c copies' v.blanks v.new_leaves v.new_inners,
             record {
               slot = draft.slot;
               made = draft.made;
               state = ap (λ (k : Slot). is_published k.state)
-                  (slot_new laws l words views s id v active b x has (Leaf keys) places' d.pointers sound others still shows copies' v.blanks);
+                  (slot_new laws l words views s id v active b x has c copies' v.blanks v.new_leaves v.new_inners);
               over = record {
                 page =
-                    page_new laws l words views s id v active b x has (Leaf keys) places' d.pointers sound others still shows copies' v.blanks
+                    page_new laws l words views s id v active b x has c copies' v.blanks v.new_leaves v.new_inners
                     ∙ sym (leaf_shape sp cd.leaf);
                 spans = λ j pointer. absurd (true≢false (sym pointer ∙ ap (λ (y : Page). has_pointer y j) (leaf_shape sp cd.leaf)));
                 header = draft.header;
               };
               page = long;
               exact = λ leaf. cd.exact;
-              records = λ leaf i few. place_filled t c 32 m.places i few;
+              records = λ leaf i few. place_filled t contents 32 m.places i few;
               pointers = λ inner j few. absurd (true≢false (sym cd.leaf ∙ inner));
             },
           )
-      | inr old ↦ old_copy laws l words views s id v active b x has (Leaf keys) places' d.pointers sound others still shows copies' v.blanks z old
+      | inr old ↦ old_copy laws l words views s id v active b x has c copies' v.blanks v.new_leaves v.new_inners z old
     ])
-    (λ u there. old_blank laws l words views s id v active b x has (Leaf keys) places' d.pointers sound others still shows copies' v.blanks u there)
+    (λ u there. old_blank laws l words views s id v active b x has c copies' v.blanks v.new_leaves v.new_inners u there)
+    (old_leaf laws l words views s id v active b x has c copies' v.blanks v.new_leaves v.new_inners)
+    (old_inner laws l words views s id v active b x has c copies' v.blanks v.new_leaves v.new_inners)
     (λ v _ w. w ≡ published_copy x.slot sp n v) refl)
 
 -- ---- published as no page
@@ -135,18 +150,30 @@ publishes_blank laws l slots id me x active has =
     let v = me.0 in
     let draft = b.pages.drafts x has in
     let blanks' : List ℕ = x.slot ∷ v.blanks in
-    let still : (y : At) → is_slot x.slot (slot_with y) ≡ false → pointer_of s.table y ≡ pointer_of s.table y =
-    λ y other. refl in
-    publish_stride laws l words views s id v active b x has Blank s.story.places s.table.pointers b.sound.joint (λ y other. refl) still tt v.copies blanks'
-    (λ z there. old_copy laws l words views s id v active b x has Blank s.story.places s.table.pointers b.sound.joint (λ y other. refl) still tt v.copies blanks' z there)
+    let c : NewPage l words s x.slot = record {
+      page = Blank;
+      places = s.story.places;
+      pointers = s.table.pointers;
+      headers = s.table.headers;
+      fence = None;
+      filled = b.sound.joint;
+      other_places = λ y other. refl;
+      other_pointers = λ y other. refl;
+      other_headers = λ u other. refl;
+      shown = tt;
+    } in
+    publish_stride laws l words views s id v active b x has c v.copies blanks' v.new_leaves v.new_inners
+    (λ z there. old_copy laws l words views s id v active b x has c v.copies blanks' v.new_leaves v.new_inners z there)
     (λ u there. by_equal u x.slot (λ k. has_slot blanks' k ≡ true → IsBlank l.slots _ v.grip.made k)
     (λ _. record {
       slot = draft.slot;
       made = draft.made;
       state = ap (λ (k : Slot). is_published k.state)
-          (slot_new laws l words views s id v active b x has Blank s.story.places s.table.pointers b.sound.joint (λ y other. refl) still tt v.copies blanks');
+          (slot_new laws l words views s id v active b x has c v.copies blanks' v.new_leaves v.new_inners);
     })
     (λ other is.
-    old_blank laws l words views s id v active b x has Blank s.story.places s.table.pointers b.sound.joint (λ y other. refl) still tt v.copies blanks' u
+    old_blank laws l words views s id v active b x has c v.copies blanks' v.new_leaves v.new_inners u
     (ap (λ (c : Bool). c || has_slot v.blanks u) (sym (ne_eqb x.slot u (λ q. other (sym q)))) ∙ is)) there)
+    (old_leaf laws l words views s id v active b x has c v.copies blanks' v.new_leaves v.new_inners)
+    (old_inner laws l words views s id v active b x has c v.copies blanks' v.new_leaves v.new_inners)
     (λ v _ w. w ≡ published_blank x.slot v) refl)

@@ -21,10 +21,12 @@ use Rattle.drop_core.specs.Event.{is_owned, is_published, without, with_slot}
 use Rattle.drop_core.specs.Table.{slot_of, has_slot, is_never, is_led}
 use Rattle.engine_pages.specs.declared.layout.Layout.{Layout}
 use Rattle.engine_pages.specs.declared.view.Copied.{Copied}
+use Rattle.engine_pages.specs.declared.view.NewInner.{NewInner}
+use Rattle.engine_pages.specs.declared.view.NewLeaf.{NewLeaf}
 use Rattle.engine_pages.specs.declared.view.View.{View}
 use Rattle.engine_pages.specs.Layout.{slot_at, page_at}
 use Rattle.engine_pages.specs.Rule.{Shared, all_seats, IsBlank, Shows}
-use Rattle.engine_pages.specs.Slots.{MayRetire, retired}
+use Rattle.engine_pages.specs.Slots.{HasNewPage, MayRetire, retired}
 use Rattle.engine_pages.specs.Views.{IsActive, seat_number}
 use Rattle.engine_pages.specs.Words.{ShowsSlot, state_number, is_shown}
 use Rattle.engine_pages.proofs.Records.{published_unowned}
@@ -36,6 +38,8 @@ use Rattle.engine_pages.proofs.Joint.{Laws}
 use Rattle.engine_pages.proofs.Seats.{by_equal, is_at}
 use Rattle.engine_pages.proofs.SlotFacts.{slot_other, slot_same, way_same, draft_same, copy_same, blank_same, filled_same}
 use Rattle.engine_pages.proofs.SlotFacts.{known_same, head_same, moved_same}
+use Rattle.engine_pages.proofs.SlotFacts.{inner_same, new_leaf_same, new_inner_same}
+use Rattle.engine_pages.proofs.TreeFacts.{sealed_at}
 use Rattle.engine_pages.proofs.SlotSteps.{SamePages, slot_stride}
 use Rattle.engine_pages.proofs.Turns.{Begins, allows_at, written}
 use Rattle.engine_pages.proofs.SlotFacts.{within_same, shut_same}
@@ -99,6 +103,16 @@ taken_idle l words views s id v t b has =
     is_one true n is some = refl
     is_one false n is some = absurd (omega arith)
 
+-- the slot was published as a page of a tree
+new_blank : (l : Layout) (words : List ℕ) (views : List View) (s : Shared) (id : ℕ) (v : View) (t : ℕ)
+    → Begins l words views s id v → HasNewPage v t → IsBlank l.slots s.table v.grip.made t
+new_blank l words views s id v t b (inl c) =
+    let was = b.pages.treed.new_leaves c.0 c.1 in
+    subst (IsBlank l.slots s.table v.grip.made) c.2 record { slot = was.slot; made = was.made; state = was.state }
+new_blank l words views s id v t b (inr c) =
+    let was = b.pages.treed.new_inners c.0 c.1 in
+    subst (IsBlank l.slots s.table v.grip.made) c.2 record { slot = was.slot; made = was.made; state = was.state }
+
 pub retires : Laws → (l : Layout) (slots id : ℕ) (me : Me (Unit {0}) View) (t : ℕ)
     → IsActive me.0.role → t < l.slots → MayRetire me.0 t
     → Allows (λ s. Shows l s.words s.views) slots id me (slot_at t) (λ i. (i + 65536) % 2 ^ 64)
@@ -120,7 +134,10 @@ retires laws l slots id me t active few may =
           (subst (IsBlank l.slots d v.grip.made) c.2 record { slot = was.slot; made = was.made; state = was.state })
       | inr more ↦ elim more [
         | inl blank ↦ made_idle laws l words views s id v t b (b.pages.blanks t blank)
-        | inr taken ↦ taken_idle l words views s id v t b taken
+        | inr rest ↦ elim rest [
+          | inl taken ↦ taken_idle l words views s id v t b taken
+          | inr new ↦ made_idle laws l words views s id v t b (new_blank l words views s id v t b new)
+        ]
       ]
     ] in
     let shows : ShowsSlot words (slot_at t) x = h.shown.slots t few in
@@ -137,7 +154,7 @@ retires laws l slots id me t active few may =
     let same : SamePages d e = record { pages = λ u. refl; pointers = λ z. refl; snaps = refl; published = refl } in
     slot_stride laws l words views s id v active b t f (Retire t) w (λ v n w. w ≡ retired t v)
     record {
-      same = record { layout = refl; role = refl; made = refl; past = refl; parked = refl; epoch = refl; mine = refl; draws = refl; due = refl; seat = refl; checked = refl; took = refl; loaded = refl; met = refl; heard = refl; history = refl; decided = refl };
+      same = record { layout = refl; role = refl; made = refl; past = refl; parked = refl; epoch = refl; mine = refl; draws = refl; due = refl; seat = refl; checked = refl; took = refl; loaded = refl; met = refl; heard = refl; history = refl; decided = refl; versions = refl };
       still = refl;
       allowed = and_from (is_published x.state) _ idle.published
           (and_from (not (is_led x.led)) (has_slot (s.grips p).made t || has_slot (s.grips p).taken t) (ap not idle.unled) idle.noted);
@@ -191,12 +208,28 @@ retires laws l slots id me t active few may =
             (b.pages.shuts p (is_at v.role active) z has);
         heads = λ z has.
             let was = b.pages.treed.heads p (is_at v.role active) z has in
-            head_same l words words' s.trees d e p v.grip.holds w.grip.holds z was.held (leds z.slot) refl refl
+            head_same l words words' s.trees d e p z refl refl
             (λ i less. pages (page_at l.slots z.slot i) (omega arith)) was;
         moved = λ z has.
             let was = b.pages.treed.moved z has in
             moved_same l words words' s.trees d e v.grip.holds w.grip.holds z was.held (leds z.slot) refl
             (λ i less. pages (page_at l.slots z.slot i) (omega arith)) was;
+        sealed = λ u has.
+            let was = b.pages.treed.sealed p (is_at v.role active) u has in
+            sealed_at l d e p u refl refl was;
+        inners = λ z has.
+            let was = b.pages.treed.inners z has in
+            inner_same l s.trees d e v.grip.holds w.grip.holds z same was.held (leds z.slot) was;
+        new_leaves = λ z has.
+            let old = at_others (λ (k : NewLeaf). k.slot) t v.new_leaves z has in
+            let was = b.pages.treed.new_leaves z old.0 in
+            new_leaf_same l s.story d e s.trees v.grip.made w.grip.made z same
+            (without_other v.grip.made t z.slot old.1 ∙ was.made) (ap (λ (k : Slot). k.state) (others z.slot old.1)) refl was;
+        new_inners = λ z has.
+            let old = at_others (λ (k : NewInner). k.slot) t v.new_inners z has in
+            let was = b.pages.treed.new_inners z old.0 in
+            new_inner_same l d e s.trees s.resident v.grip.made w.grip.made z same
+            (without_other v.grip.made t z.slot old.1 ∙ was.made) (ap (λ (k : Slot). k.state) (others z.slot old.1)) was;
       };
       deals = rests_low l words views s id v b words' w
           record { role = refl; ways = refl; took = refl; gone = refl; touched = refl; blamed = refl; locks = refl } refl

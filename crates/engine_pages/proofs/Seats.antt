@@ -13,7 +13,7 @@ use Rattle.serial_model.specs.declared.decl.Decl.{Decl}
 use Rattle.serial_model.specs.declared.key.Key.{Key}
 use Rattle.serial_model.specs.declared.number.Number.{Number}
 use Rattle.homes.specs.declared.places.Content.{Content}
-use Rattle.homes.specs.declared.places.Holder.TheVariants.{Dead}
+use Rattle.homes.specs.declared.places.Holder.TheVariants.{Dead, Held}
 use Rattle.homes.specs.declared.places.Home.{Home}
 use Rattle.homes.specs.declared.places.Home.TheVariants.{InSlot, InPage, Nowhere}
 use Rattle.homes.specs.declared.places.Spot.{Spot}
@@ -35,7 +35,7 @@ use Rattle.commit_core.specs.CoreState.{is_checked, is_decided, is_given_up, is_
 use Rattle.drop_core.specs.declared.table.Led.{Led}
 use Rattle.drop_core.specs.declared.table.Led.TheVariants.{Never, From, Away}
 use Rattle.drop_core.specs.declared.table.Table.{Table}
-use Rattle.drop_core.specs.Table.{slot_of, page_of, leaf_place, leaf_home, is_led, is_never}
+use Rattle.drop_core.specs.Table.{slot_of, page_of, header_of, leaf_place, leaf_home, is_led, is_never}
 use Rattle.homes.specs.Homes.{same_key}
 use Rattle.engine_rule.specs.Sound.{IsSound, HasRecords, FitsWord, IsHeld as WordHeld}
 use Rattle.commit_core.specs.Opening.{IsPrefix, Grows}
@@ -47,6 +47,7 @@ use Rattle.engine_pages.specs.declared.layout.Layout.{Layout}
 use Rattle.engine_pages.specs.declared.view.Loaded.{Loaded}
 use Rattle.engine_pages.specs.declared.view.Met.{Met}
 use Rattle.engine_pages.specs.declared.view.Took.{Took}
+use Rattle.engine_pages.specs.declared.view.Version.{Version}
 use Rattle.engine_pages.specs.declared.view.Role.{Role}
 use Rattle.engine_pages.specs.declared.view.Role.TheVariants.{Keeper, Worker, Note, Spent}
 use Rattle.engine_pages.specs.declared.view.View.{View}
@@ -55,7 +56,8 @@ use Rattle.engine_pages.specs.Pages.{is_array}
 use Rattle.engine_pages.specs.Stays.{IsKnown}
 use Rattle.engine_pages.specs.Views.{IsAt, IsActive, IsResting, HasPart, seat_number, sits, sits_by}
 use Rattle.engine_pages.specs.Rule.{Shared, joint_of, KeptAreRecords, StillLoaded, Tried, IsHeld, IsOwn}
-use Rattle.engine_pages.specs.Rule.{IsPast, WasMarked, Fits}
+use Rattle.engine_pages.specs.Rule.{IsPast, IsBitAt, IsOneOf, WasMarked, Fits}
+use Rattle.engine_pages.specs.Words.{IsOverwritten}
 use Rattle.views.specs.ByNumber.{put_at}
 use Rattle.engine_pages.proofs.Joint.{kept_sound}
 
@@ -186,6 +188,11 @@ pub home_known : (l : Layout) (s : Shared) (k : Key) (x : Spot) → IsSound (joi
     → IsKnown s.table x.slot
 home_known l s k x sound home =
     led_known (slot_of s.table x.slot).led (sound.pages.table.one_home_each.own k x home).led
+
+-- something leads to a page whose header is held
+pub locked_known : (l : Layout) (s : Shared) (t p : ℕ) → IsSound (joint_of l s) → header_of s.table t ≡ Held p
+    → IsKnown s.table t
+locked_known l s t p sound locked = led_known (slot_of s.table t).led (sound.pages.held.headers t p locked).1
 
 -- the slot of a word, where it is a record's
 held_known : (d : Table) (holds : List ℕ) (w : Word) (x : Spot) → w ≡ Record x → WordHeld d holds w → IsKnown d x.slot
@@ -344,8 +351,44 @@ records_stay decls opening m n kept g records part has =
       | inr pointer ↦ inr pointer
     ]
 
+-- what was seen to have stood at a key still did, as more is written
+pub version_stays : (decls : List Decl) (opening : List (Key × Content)) (h h' : List Attempt) (x : Version)
+    → IsPrefix h h' → IsOneOf decls opening h x → IsOneOf decls opening h' x
+version_stays decls opening h h' x grown =
+    lost_grown ((x.content ≡ nothing) × (is_array decls x.key.storage ≡ false)) opening h h' x.key x.content grown
+
+-- what was overwritten still is, as more is drawn and decided
+pub over_grown : (m n : Story) → IsPrefix m.history n.history → IsPrefix m.decided n.decided → (k : Key) (i : Number)
+    → IsOverwritten m k i → IsOverwritten n k i
+over_grown m n history decided k i over = (
+  over.0,
+  record {
+    drawn = in_grown m.history n.history over.0 history over.1.drawn;
+    counts = named_grown m.decided n.decided over.0.number decided over.1.counts;
+    writes = over.1.writes;
+    above = over.1.above;
+  },
+)
+
+-- so is a bit of absence that was left
+pub held_bit_grown : (decls : List Decl) (m n : Story) (k : Key) (q : Place) (bit : ℕ) → IsPrefix m.history n.history
+    → IsPrefix m.decided n.decided → IsBitAt decls m k q bit → IsBitAt decls n k q bit
+held_bit_grown decls m n k q bit history decided (inl now) = inl now
+held_bit_grown decls m n k q bit history decided (inr old) =
+    let was = old.1 in
+    inr (
+      old.0,
+      record {
+        one = was.one;
+        held = was.held;
+        some = was.some;
+        later = over_grown m n history decided k q.content.number was.later;
+      },
+    )
+
 held_stays : (l : Layout) (s : Shared) (n : Story) (p q : ℕ) → IsSound (joint_of l s)
-    → StoryStays p s.table s.story n → q ≢ p → (t : Took) (x : Spot) → IsHeld s.story q t x → IsHeld n q t x
+    → StoryStays p s.table s.story n → q ≢ p → (t : Took) (x : Spot) → IsHeld l.decls s.story q t x
+    → IsHeld l.decls n q t x
 held_stays l s n p q sound left other t x h =
     let m = s.story in
     let mine = subst (λ (home : Home). holder_is q (stands_at m.places home).holder ≡ true) (sym h.home) h.own in
@@ -353,7 +396,10 @@ held_stays l s n p q sound left other t x h =
       spot = h.spot;
       home = left.homes t.key q mine other ∙ h.home;
       own = subst (λ (place : Place). holder_is q place.holder ≡ true) (sym same) h.own;
-      number = ap (λ (place : Place). number_word place.content.number) same ∙ h.number;
+      absent = h.absent;
+      number = ap (λ (place : Place). number_word place.content.number + h.absent) same ∙ h.number;
+      bit = held_bit_grown l.decls m n t.key (place_of n.places x) h.absent left.grows.history left.grows.decided
+          (subst (λ (place : Place). IsBitAt l.decls m t.key place h.absent) (sym same) h.bit);
     }
 
 -- the attempts drawn by an act have the clock's epoch
@@ -425,6 +471,7 @@ fits_stays l s n p t u sound left drawn marks none apart f =
       mine_own = f.mine_own;
       records = records_stay l.decls l.opening m n u.seat.kept g f.records;
       kept = λ k x c has. up_then_up c.number _ _ (f.kept k x c has) (left.rise x (known k x c has));
+      versions = λ x has. version_stays l.decls l.opening m.history n.history x g.history (f.versions x has);
       loaded = loaded_stays m n u.seat.kept u.loaded g (λ k x c has. left.dead x (known k x c has)) f.loaded;
       own = λ q at.
           let other = elsewhere q at in

@@ -13,16 +13,22 @@ use Rattle.engine_pages.specs.declared.view.Copied.{Copied}
 use Rattle.engine_pages.specs.declared.view.Draft.{Draft}
 use Rattle.engine_pages.specs.declared.view.Filled.{Filled}
 use Rattle.engine_pages.specs.declared.view.Head.{Head}
+use Rattle.engine_pages.specs.declared.view.Inner.{Inner}
 use Rattle.engine_pages.specs.declared.view.Known.{Known}
 use Rattle.engine_pages.specs.declared.view.Moved.{Moved}
+use Rattle.engine_pages.specs.declared.view.NewInner.{NewInner}
+use Rattle.engine_pages.specs.declared.view.NewLeaf.{NewLeaf}
 use Rattle.engine_pages.specs.declared.view.Way.{Way}
 use Rattle.engine_pages.specs.Layout.{page_at, snap_at}
 use Rattle.engine_pages.specs.Pages.{child_span, decl_of, Fenced}
 use Rattle.engine_pages.specs.Resident.{Published, IsNamed}
 use Rattle.snapshot_store.specs.Places.{page as page_words}
 use Rattle.engine_pages.specs.Rule.{IsWay, IsDraft, IsCopy, IsBlank, IsFilled, IsKnownLeaf, IsHead, IsMoved}
+use Rattle.engine_pages.specs.Rule.{IsInner, IsNewLeaf, IsNewInner}
 use Rattle.engine_pages.proofs.Seats.{by_equal}
+use Rattle.engine_pages.proofs.Named.{more_same}
 use Rattle.engine_pages.proofs.SlotSteps.{SamePages, over_same, laid_same}
+use Rattle.engine_pages.proofs.TreeFacts.{inner_at, new_leaf_at, new_inner_at, same_fence}
 use Rattle.homes.specs.declared.places.At.{At}
 use Rattle.homes.specs.declared.places.At.TheVariants.{Root, In}
 use Rattle.wire_form.specs.Words.{at_bit, slot_field}
@@ -156,20 +162,18 @@ known_same l k d e holds holds' x held led y = record {
   front = y.front;
 }
 
-pub head_same : (l : Layout) (words words' : List ℕ) (k : ℕ → Option Fenced) (d e : Table) (p : ℕ)
-    (holds holds' : List ℕ) (x : Head) → has_slot holds' x.slot ≡ true → (slot_of e x.slot).led ≡ (slot_of d x.slot).led
+pub head_same : (l : Layout) (words words' : List ℕ) (k : ℕ → Option Fenced) (d e : Table) (p : ℕ) (x : Head)
     → header_of e x.slot ≡ header_of d x.slot → page_of e x.slot ≡ page_of d x.slot
     → ((i : ℕ) → i < 64 → get_or words' (page_at l.slots x.slot i) 0 ≡ get_or words (page_at l.slots x.slot i) 0)
-    → IsHead l words d k p holds x → IsHead l words' e k p holds' x
-head_same l words words' k d e p holds holds' x held led header page stays y = record {
+    → IsHead l words d k p x → IsHead l words' e k p x
+head_same l words words' k d e p x header page stays y = record {
   within = y.within;
-  held = held;
-  known = ap is_never led ∙ y.known;
   locked = header ∙ y.locked;
   leaf = page ∙ y.leaf;
   fence = y.fence;
   there = y.there;
   keys = y.keys;
+  long = y.long;
   is = λ i less is. stays i less ∙ y.is i less is;
 }
 
@@ -189,3 +193,23 @@ moved_same l words words' k d e holds holds' x held led page stays y = record {
   major = stays 4 (omega arith) ∙ y.major;
   separator = stays 5 (omega arith) ∙ y.separator;
 }
+
+pub inner_same : (l : Layout) (k : ℕ → Option Fenced) (d e : Table) (holds holds' : List ℕ) (x : Inner) → SamePages d e
+    → has_slot holds' x.slot ≡ true → (slot_of e x.slot).led ≡ (slot_of d x.slot).led → IsInner l d k holds x
+    → IsInner l e k holds' x
+inner_same l k d e holds holds' x same held led y =
+    inner_at l k k d e holds holds' x held (ap is_never led ∙ y.known) (same.pages x.slot) (same_fence k k x.slot refl)
+    (λ j has. ap (λ (q : Pointer). q.span) (same.pointers (at_index x.slot j))) y
+
+pub new_leaf_same : (l : Layout) (m : Story) (d e : Table) (k : ℕ → Option Fenced) (made made' : List ℕ) (x : NewLeaf)
+    → SamePages d e → has_slot made' x.slot ≡ true → (slot_of e x.slot).state ≡ (slot_of d x.slot).state
+    → header_of e x.slot ≡ header_of d x.slot → IsNewLeaf l m d k made x → IsNewLeaf l m e k made' x
+new_leaf_same l m d e k made made' x same mine state header y =
+    new_leaf_at l m m d e k k made made' x mine state header (same.pages x.slot) refl (λ i. refl) y
+
+pub new_inner_same : (l : Layout) (d e : Table) (k : ℕ → Option Fenced) (r : Published) (made made' : List ℕ)
+    (x : NewInner) → SamePages d e → has_slot made' x.slot ≡ true
+    → (slot_of e x.slot).state ≡ (slot_of d x.slot).state → IsNewInner l d k r made x → IsNewInner l e k r made' x
+new_inner_same l d e k r made made' x same mine state y =
+    new_inner_at l d e k k r r made made' x mine state (same.pages x.slot) refl
+    (λ j free. same.pointers (at_index x.slot j)) (more_same r) y

@@ -34,18 +34,23 @@ use Rattle.engine_pages.specs.declared.view.Copied.{Copied}
 use Rattle.engine_pages.specs.declared.view.Draft.{Draft}
 use Rattle.engine_pages.specs.declared.view.Filled.{Filled}
 use Rattle.engine_pages.specs.declared.view.Head.{Head}
+use Rattle.engine_pages.specs.declared.view.Inner.{Inner}
 use Rattle.engine_pages.specs.declared.view.Known.{Known}
 use Rattle.engine_pages.specs.declared.view.Lead.{Lead}
 use Rattle.engine_pages.specs.declared.view.Moved.{Moved}
+use Rattle.engine_pages.specs.declared.view.NewInner.{NewInner}
+use Rattle.engine_pages.specs.declared.view.NewLeaf.{NewLeaf}
 use Rattle.engine_pages.specs.declared.view.Role.{Role}
 use Rattle.engine_pages.specs.declared.view.Role.TheVariants.{Keeper, Worker, Note, Spent}
+use Rattle.engine_pages.specs.declared.view.Version.{Version}
 use Rattle.engine_pages.specs.declared.view.View.{View}
 use Rattle.engine_pages.specs.declared.view.Way.{Way}
 use Rattle.engine_pages.specs.Layout.{slot_at}
 use Rattle.engine_pages.specs.Pages.{decl_of, Fenced, IsOver, IsLaidOut, IsLaidOutFor, AreLaidOut}
 use Rattle.engine_pages.specs.Resident.{Published, ArePages}
 use Rattle.engine_pages.specs.Rule.{Shared, FitsPages, IsWay, IsDraft, IsCopy, IsBlank, IsLead, IsFilled}
-use Rattle.engine_pages.specs.Rule.{IsKnownLeaf, IsHead, IsMoved, StillLoaded}
+use Rattle.engine_pages.specs.Rule.{IsKnownLeaf, IsHead, IsMoved, IsSealed, IsInner, IsNewLeaf, IsNewInner}
+use Rattle.engine_pages.specs.Rule.{IsOneOf, StillLoaded}
 use Rattle.engine_pages.specs.Stays.{TreesStay}
 use Rattle.engine_pages.specs.Views.{IsAt, IsActive, HasNoPages, HasNoTrees, seat_number, tries, waits}
 use Rattle.engine_pages.specs.Words.{ShowsSlot, is_shown, state_number}
@@ -94,6 +99,7 @@ pub record SameCommits (v w : View) : Type 0 where
   pub heard : w.heard ≡ v.heard
   pub history : w.history ≡ v.history
   pub decided : w.decided ≡ v.decided
+  pub versions : w.versions ≡ v.versions
 
 -- an active pass may have a part of the pages
 pub active_pages : (role : Role) → IsActive role → (grip : Grip) (ways : List Way) (drafts : List Draft)
@@ -103,12 +109,11 @@ active_pages (Worker w) active grip ways drafts copies blanks = tt
 active_pages Note active grip ways drafts copies blanks = absurd active
 active_pages Spent active grip ways drafts copies blanks = absurd active
 
-pub active_trees : (role : Role) → IsActive role → (known : List Known) (heads : List Head) (moved : List Moved)
-    → HasNoTrees role known heads moved
-active_trees Keeper active known heads moved = tt
-active_trees (Worker w) active known heads moved = tt
-active_trees Note active known heads moved = absurd active
-active_trees Spent active known heads moved = absurd active
+pub active_trees : (role : Role) → IsActive role → (v : View) → HasNoTrees role v
+active_trees Keeper active v = tt
+active_trees (Worker w) active v = tt
+active_trees Note active v = absurd active
+active_trees Spent active v = absurd active
 
 -- what the stepping view knows of pages after its step
 pub record PagesNow (l : Layout) (words : List ℕ) (t : Shared) (w : View) : Type 0 where
@@ -122,8 +127,13 @@ pub record PagesNow (l : Layout) (words : List ℕ) (t : Shared) (w : View) : Ty
   pub leads : (x : Lead) → Contains w.leads x → IsLead t.resident x
   pub fills : (x : Filled) → Contains w.fills x → (w.role ≡ Keeper) × IsFilled l words t.resident x
   pub known : (x : Known) → Contains w.known x → IsKnownLeaf l t.table t.trees w.grip.holds x
-  pub heads : (x : Head) → Contains w.heads x → IsHead l words t.table t.trees (seat_number w.role) w.grip.holds x
+  pub heads : (x : Head) → Contains w.heads x → IsHead l words t.table t.trees (seat_number w.role) x
   pub moved : (x : Moved) → Contains w.moved x → IsMoved l words t.table t.trees w.grip.holds x
+  pub sealed : (u : ℕ) → has_slot w.sealed u ≡ true → IsSealed l t.table (seat_number w.role) u
+  pub inners : (x : Inner) → Contains w.inners x → IsInner l t.table t.trees w.grip.holds x
+  pub new_leaves : (x : NewLeaf) → Contains w.new_leaves x → IsNewLeaf l t.story t.table t.trees w.grip.made x
+  pub new_inners : (x : NewInner) → Contains w.new_inners x
+      → IsNewInner l t.table t.trees t.resident w.grip.made x
   pub shuts : (x : Shut) → Contains w.shuts x → IsShut t.table t.resident (seat_number w.role) w.grip.holds x
 
 keeper_zero : (role : Role) → role ≡ Keeper → seat_number role ≡ 0
@@ -150,9 +160,14 @@ own_pages l words words' s n e k r v w active role made f now =
       treed = record {
         known = now.known;
         heads = λ q at x has.
-            subst (λ y. IsHead l words' e k y w.grip.holds x) (sym (at_number q w.role at)) (now.heads x has);
+            subst (λ y. IsHead l words' e k y x) (sym (at_number q w.role at)) (now.heads x has);
         moved = now.moved;
-        none = active_trees w.role (subst IsActive (sym role) active) w.known w.heads w.moved;
+        sealed = λ q at u has.
+            subst (λ y. IsSealed l e y u) (sym (at_number q w.role at)) (now.sealed u has);
+        inners = now.inners;
+        new_leaves = now.new_leaves;
+        new_inners = now.new_inners;
+        none = active_trees w.role (subst IsActive (sym role) active) w;
       };
       none = active_pages w.role (subst IsActive (sym role) active) w.grip w.ways w.drafts w.copies w.blanks;
       keepers = λ keeper worker few unmade.
@@ -302,6 +317,8 @@ module _ (laws : Laws) (l : Layout) (words : List ℕ) (views : List View) (s : 
               c.same.mine c.same.due c.same.seat c.same.checked c.same.took
               (subst (λ o. IfSome o (StillLoaded m.history m.decided m.places v.seat.kept)) (sym c.same.loaded) b.fits.loaded)
               c.same.met c.same.heard
+              (subst (λ (y : List Version). (x : Version) → Contains y x → IsOneOf l.decls l.opening m.history x)
+              (sym c.same.versions) b.fits.versions)
               (subst (λ (x : List Attempt). IsFront v.history x) (sym c.same.history) (front_refl v.history))
               (subst (λ (x : List Number). IsFront v.decided x) (sym c.same.decided) (front_refl v.decided))
               (subst (λ (x : List Attempt). IsFront x m.history) (sym c.same.history) b.fits.history)

@@ -79,6 +79,7 @@ module _ (l : Layout) (words : List ℕ) (views : List View) (s : Shared) (id : 
             own_longer v.role v.history m.history v.decided m.decided a f.history f.decided (f.mine_own a has);
         records = f.records;
         kept = f.kept;
+        versions = f.versions;
         loaded = f.loaded;
         tried = tried_longer (seat_number v.role) v.history m.history m.checks v.checked v.mine v.seat.stage f.history
             b.own.tried;

@@ -1,5 +1,5 @@
 -- Words that a step changes, and words that it leaves.
-use Rattle.std.proofs.Common.{◌≡◌, ◌≢◌, ℕ, zero, suc, ◌+◌, ◌-◌, ◌*◌, ◌<◌, ◌≤◌, Bool, true, false, List, length, get_or, refl, sym, ap, ◌∙◌, subst, arith, Option, ltb}
+use Rattle.std.proofs.Common.{◌≡◌, ◌≢◌, inl, inr, ℕ, zero, suc, ◌+◌, ◌-◌, ◌*◌, ◌<◌, ◌≤◌, Bool, true, false, List, length, get_or, refl, sym, ap, ◌∙◌, subst, arith, Option, ltb}
 use Rattle.std.proofs.lemmas.Option.{slice_get_within}
 use Rattle.std.specs.Prelude.{if◌then◌else◌}
 use Rattle.homes.specs.declared.places.At.TheVariants.{Root}
@@ -19,9 +19,11 @@ use Rattle.engine_pages.specs.Layout.{root_at, slot_at, page_at, snap_at}
 use Rattle.engine_pages.proofs.Seats.{by_equal}
 use Rattle.engine_pages.specs.Resident.{Published}
 use Rattle.engine_pages.specs.Words.{ShowsRecord, ShowsPointer, ShowsSlot, ShowsPage, ShowsWords, is_shown, ShowsKeyed}
-use Rattle.engine_pages.specs.Words.{ShowsRecords, ShowsTree, head_word, lock_field, child_high}
+use Rattle.engine_pages.specs.Words.{IsBit, IsOverwritten, ShowsRecords, ShowsTree, head_word, lock_field, child_high}
 use Rattle.engine_pages.specs.Words.{tree_child, spot}
 use Rattle.serial_model.specs.declared.decl.Decl.{Decl}
+use Rattle.serial_model.specs.declared.key.Key.{Key}
+use Rattle.serial_model.specs.declared.number.Number.{Number}
 use Rattle.snapshot_store.specs.declared.place.PagePlace.{PagePlace}
 use Rattle.engine_pages.specs.Pages.{Fenced}
 use Rattle.drop_core.specs.Event.{lower_span, upper_span}
@@ -61,52 +63,68 @@ page_shown names words words' slots t places places' d e (Inner n) stays same po
 )
 page_shown names words words' slots t places places' d e Split stays same pointers h = tt
 
-records_shown : (words words' : List ℕ) (slots t : ℕ) (f : Fenced) (places places' : Spot → Place) → PageStays words words' slots t
-    → ((i : ℕ) → places' (spot t i) ≡ places (spot t i)) → ShowsRecords words slots t f places → ShowsRecords words' slots t f places'
-records_shown words words' slots t f places places' stays same h = record {
+-- a bit of absence is explained so still, as more attempts count
+pub bit_grows : (over over' : Number → Type 0) (q : Place) (bit : ℕ) → ((n : Number) → over n → over' n)
+    → IsBit over q bit → IsBit over' q bit
+bit_grows over over' q bit grows (inl now) = inl now
+bit_grows over over' q bit grows (inr old) =
+    inr record { one = old.one; held = old.held; some = old.some; later = grows q.content.number old.later }
+
+records_shown : (words words' : List ℕ) (slots t : ℕ) (f : Fenced) (over over' : Key → Number → Type 0)
+    (places places' : Spot → Place) → PageStays words words' slots t
+    → ((i : ℕ) → places' (spot t i) ≡ places (spot t i)) → ((k : Key) (n : Number) → over k n → over' k n)
+    → ShowsRecords words slots t f over places → ShowsRecords words' slots t f over' places'
+records_shown words words' slots t f over over' places places' stays same grows h = record {
   low = stays 1 (omega arith) ∙ h.low;
   high = stays 2 (omega arith) ∙ h.high;
   few = h.few;
   once = h.once;
+  inside = h.inside;
   keys = λ i k is.
       let was = h.keys i k is in
       let less : i < length f.keys = slice_get_within f.keys i k is in
       let few : length f.keys ≤ 16 = h.few in
       let one : page_at slots t (16 + 3 * i) + 1 ≡ page_at slots t (17 + 3 * i) = omega arith in
       let two : page_at slots t (16 + 3 * i) + 2 ≡ page_at slots t (18 + 3 * i) = omega arith in
-      subst (ShowsKeyed words' (page_at slots t (16 + 3 * i)) k) (sym (same i)) record {
+      subst (ShowsKeyed words' (page_at slots t (16 + 3 * i)) over' k) (sym (same i)) record {
         key = stays (16 + 3 * i) (omega arith) ∙ was.key;
         word = ap (λ j. get_or words' j 0) one ∙ (stays (17 + 3 * i) (omega arith) ∙ (ap (λ j. get_or words j 0) (sym one) ∙ was.word));
         value = ap (λ j. get_or words' j 0) two ∙ (stays (18 + 3 * i) (omega arith) ∙ (ap (λ j. get_or words j 0) (sym two) ∙ was.value));
+        absent = was.absent;
+        bit = bit_grows (over k) (over' k) (places (spot t i)) was.absent (grows k) was.bit;
         small = was.small;
       };
 }
 
-pub tree_shown : (names : List (Decl × PagePlace)) (words words' : List ℕ) (slots t : ℕ) (f : Fenced) (places places' : Spot → Place) (d e : Table) (page : Page)
+pub tree_shown : (names : List (Decl × PagePlace)) (words words' : List ℕ) (slots t : ℕ) (f : Fenced)
+    (over over' : Key → Number → Type 0) (places places' : Spot → Place) (d e : Table) (page : Page)
     → PageStays words words' slots t → ((i : ℕ) → places' (spot t i) ≡ places (spot t i))
+    → ((k : Key) (n : Number) → over k n → over' k n)
     → ((j : ℕ) → pointer_of e (at_index t j) ≡ pointer_of d (at_index t j)) → header_of e t ≡ header_of d t
-    → ShowsTree names words slots t f places d page
-    → ShowsTree names words' slots t f places' e page
-tree_shown names words words' slots t f places places' d e Blank stays same pointers header h = h
-tree_shown names words words' slots t f places places' d e (Leaf keys) stays same pointers header h = (
+    → ShowsTree names words slots t f over places d page
+    → ShowsTree names words' slots t f over' places' e page
+tree_shown names words words' slots t f over over' places places' d e Blank stays same grows pointers header h = h
+tree_shown names words words' slots t f over over' places places' d e (Leaf keys) stays same grows pointers header h = (
   h.0,
   stays 0 (omega arith) ∙ (h.1 ∙ ap (λ x. head_word (length f.keys) 1 (lock_field x) false) (sym header)),
-  records_shown words words' slots t f places places' stays same h.2,
+  records_shown words words' slots t f over over' places places' stays same grows h.2,
 )
-tree_shown names words words' slots t f places places' d e (Inner n) stays same pointers header h = (
+tree_shown names words words' slots t f over over' places places' d e (Inner n) stays same grows pointers header h = (
   h.0,
   stays 0 (omega arith) ∙ h.1,
   h.2,
-  stays 1 (omega arith) ∙ h.3,
-  stays 2 (omega arith) ∙ h.4,
+  h.3,
+  stays 1 (omega arith) ∙ h.4,
+  stays 2 (omega arith) ∙ h.5,
   (λ j less.
-      let was = h.5 j less in
-      let few : n ≤ 30 = h.2 in (
+      let was = h.6 j less in
+      let few : n ≤ 30 = h.3 in (
         subst (ShowsPointer names words' (page_at slots t (4 + j))) (sym (pointers j))
             record { number = was.0.number; word = stays (4 + j) (omega arith) ∙ was.0.word; page = was.0.page; slot = was.0.slot; named = was.0.named; keepers = was.0.keepers },
         ap (λ (q : Pointer). q.span) (pointers j) ∙ (was.1
             ∙ child_same j (λ i low. sym (stays i low)) few less),
       )),
+  header ∙ h.7,
 )
   where
     child_same : (j : ℕ) → ((i : ℕ) → i < 64 → get_or words (page_at slots t i) 0 ≡ get_or words' (page_at slots t i) 0) → n ≤ 30
@@ -128,7 +146,7 @@ tree_shown names words words' slots t f places places' d e (Inner n) stays same 
         last false is =
             ap (λ c. let sp : Span = record { storage = f.span.storage; low = get_or words' (page_at slots t (34 + j)) 0; high = if c then get_or words (page_at slots t (34 + suc j)) 0 - 1 else f.span.high } in sp) is
             ∙ ap (λ c. let sp : Span = record { storage = f.span.storage; low = get_or words' (page_at slots t (34 + j)) 0; high = if c then get_or words' (page_at slots t (34 + suc j)) 0 - 1 else f.span.high } in sp) (sym is)
-tree_shown names words words' slots t f places places' d e Split stays same pointers header h = (
+tree_shown names words words' slots t f over over' places places' d e Split stays same grows pointers header h = (
   stays 0 (omega arith) ∙ (h.0 ∙ ap (λ x. head_word (length f.keys) 1 (lock_field x) true) (sym header)),
   record {
     first = h.1.first;
@@ -140,7 +158,7 @@ tree_shown names words words' slots t f places places' d e Split stays same poin
     lower = ap (λ (q : Pointer). q.span) (pointers 0) ∙ (h.1.lower ∙ ap (lower_span f.span) (sym (stays 5 (omega arith))));
     upper = ap (λ (q : Pointer). q.span) (pointers 1) ∙ (h.1.upper ∙ ap (upper_span f.span) (sym (stays 5 (omega arith))));
   },
-  records_shown words words' slots t f places places' stays same h.2,
+  records_shown words words' slots t f over over' places places' stays same grows h.2,
   (λ i less. ap (λ (q : Place). q.holder) (same i) ∙ h.3 i less),
 )
 
@@ -187,9 +205,9 @@ slot_shown l words words' m d e k r t decls pages pointers roots c h = record {
       (λ i less. c.others (page_at l.slots u i) (λ e. let low = c.few in omega arith)) (λ i. refl) (pointers u)
       (h.pages u few (was_shown u shown) none));
   treed = λ u f few shown tree.
-      subst (ShowsTree r.places words' l.slots u f (place_of m.places) e) (sym (pages u))
-      (tree_shown r.places words words' l.slots u f (place_of m.places) (place_of m.places) d e (page_of d u)
-      (λ i less. c.others (page_at l.slots u i) (λ e. let low = c.few in omega arith)) (λ i. refl) (pointers u)
+      subst (ShowsTree r.places words' l.slots u f (IsOverwritten m) (place_of m.places) e) (sym (pages u))
+      (tree_shown r.places words words' l.slots u f (IsOverwritten m) (IsOverwritten m) (place_of m.places) (place_of m.places) d e (page_of d u)
+      (λ i less. c.others (page_at l.slots u i) (λ e. let low = c.few in omega arith)) (λ i. refl) (λ k n over. over) (pointers u)
       (c.headers u shown) (h.treed u f few (was_shown u shown) tree));
   resident = λ n i some most few.
       c.others (snap_at l.slots n i) (λ e. let low = c.few in omega arith) ∙ h.resident n i some most few;

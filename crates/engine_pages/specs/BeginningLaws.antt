@@ -131,6 +131,7 @@ begins starts l places roots words c =
             mine_own = λ a has. absurd (in_none a has);
             records = λ part has. absurd (in_none part has);
             kept = λ k x a has. absurd (in_none _ has);
+            versions = λ x has. absurd (in_none x has);
             loaded = tt;
             own = λ p at. record {
               layout = refl;
@@ -206,6 +207,10 @@ begins starts l places roots words c =
               known = λ x has. absurd (in_none x has);
               heads = λ p at x has. absurd (in_none x has);
               moved = λ x has. absurd (in_none x has);
+              sealed = λ p at t has. absurd (true≢false (sym has));
+              inners = λ x has. absurd (in_none x has);
+              new_leaves = λ x has. absurd (in_none x has);
+              new_inners = λ x has. absurd (in_none x has);
               none = tt;
             };
           },

@@ -13,5 +13,6 @@ pub mod Slots
 pub mod Beginning
 pub mod BeginningLaws
 pub mod Loads
+pub mod Agreement
 pub mod Pointers
 pub mod Passes

@@ -1,6 +1,6 @@
 -- How the pages of slots are laid out: by their storage, and by the keys that they are over.
 use Rattle.std.specs.Prelude.{◌≡◌, ℕ, zero, suc, ◌+◌, ◌-◌, ◌*◌, ◌/◌, ◌==◌, Bool, true, false, List, [], ◌∷◌}
-use Rattle.std.specs.Prelude.{Option, Some, None, if◌then◌else◌, nat_lt, slice_get}
+use Rattle.std.specs.Prelude.{Option, Some, None, if◌then◌else◌, nat_lt, slice_get, get_or, length}
 use Rattle.std.specs.List.{find}
 use Rattle.std.specs.Option.{option_map_or}
 use Rattle.serial_model.specs.declared.decl.Decl.{Decl}
@@ -34,6 +34,16 @@ is_array_kind (Some (Tree id)) = false
 -- the same of the storage with this id
 abbrev pub is_array : List Decl → ℕ → Bool
 is_array decls id = is_array_kind (decl_of decls id)
+
+-- the storage is a tree
+abbrev pub is_tree_kind : Option Decl → Bool
+is_tree_kind None = false
+is_tree_kind (Some (Array id size)) = false
+is_tree_kind (Some (Tree id)) = true
+
+-- the same of the storage with this id
+abbrev pub is_tree : List Decl → ℕ → Bool
+is_tree decls id = is_tree_kind (decl_of decls id)
 
 -- the keys of a root: all of its storage
 abbrev pub root_span : List Decl → ℕ → Span
@@ -80,6 +90,20 @@ pub record IsOver (d : Table) (t : ℕ) (sp : Span) : Type 0 where
 pub record Fenced : Type 0 where
   pub span : Span
   pub keys : List Key
+
+-- where a child of an interior page with these separators begins
+abbrev pub part_low : Span → List ℕ → ℕ → ℕ
+part_low sp separators zero = sp.low
+part_low sp separators (suc j) = get_or separators j 0
+
+-- where it ends
+abbrev pub part_high : Span → List ℕ → ℕ → ℕ
+part_high sp separators j = if nat_lt j (length separators) then get_or separators j 0 - 1 else sp.high
+
+-- the keys of a child: those between two separators, or between one and an end of the page's keys
+abbrev pub part_between : Span → List ℕ → ℕ → Span
+part_between sp separators j =
+    record { storage = sp.storage; low = part_low sp separators j; high = part_high sp separators j }
 
 -- a page of a tree is made for these keys
 abbrev pub IsFenced : Option Fenced → Span → Type 0

@@ -1,20 +1,25 @@
 -- What loads of pointers tell.
-use Rattle.std.specs.Prelude.{◌≡◌, ℕ, zero, suc, ◌/◌, ◌%◌, ◌^◌, ◌<◌, ◌≤◌, Bool, true, false, List, ◌∷◌, Option, Some, None}
-use Rattle.std.specs.Prelude.{length, if◌then◌else◌, nat_lt, Contains, IfSome}
+use Rattle.std.specs.Prelude.{◌≡◌, ◌⊎◌, ℕ, zero, suc, ◌+◌, ◌/◌, ◌%◌, ◌^◌, ◌<◌, ◌≤◌, Bool, true, false, List, ◌∷◌}
+use Rattle.std.specs.Prelude.{Option, Some, None, length, if◌then◌else◌, nat_lt, Contains, IfSome}
+use Rattle.std.proofs.Common.{inl, sym, true≢false}
 use Rattle.atomic_table.specs.Table.{Step}
 use Rattle.lists.specs.Fronts.{IsFront}
 use Rattle.serial_model.specs.declared.decl.Decl.{Decl}
+use Rattle.serial_model.specs.declared.decl.Decl.TheVariants.{Array, Tree}
 use Rattle.serial_model.specs.Keys.{id_of}
 use Rattle.homes.specs.declared.places.At.{At}
 use Rattle.homes.specs.declared.places.At.TheVariants.{Root, In}
 use Rattle.homes.specs.declared.places.Span.{Span}
 use Rattle.homes.specs.declared.places.Spot.{Spot}
 use Rattle.drop_core.specs.Table.{has_slot}
+use Rattle.engine_pages.specs.declared.view.Inner.{Inner}
 use Rattle.engine_pages.specs.declared.view.Lead.{Lead}
 use Rattle.engine_pages.specs.declared.view.View.{View}
 use Rattle.engine_pages.specs.declared.view.Way.{Way}
+use Rattle.engine_pages.specs.Agreement.{TreesAgree}
 use Rattle.engine_pages.specs.Layout.{root_at, page_at}
-use Rattle.engine_pages.specs.Pages.{is_array, is_leaf_span, child_span, root_span}
+use Rattle.engine_pages.specs.Pages.{is_array, is_array_kind, is_tree, is_tree_kind, is_leaf_span, child_span}
+use Rattle.engine_pages.specs.Pages.{part_between, root_span}
 use Rattle.engine_pages.specs.Resident.{IsStanding, place_for}
 use Rattle.engine_pages.specs.Steps.{read_at}
 
@@ -29,10 +34,40 @@ pub record IsChildAt (v : View) (y : Spot) (sp : Span) (at : ℕ) : Type 0 where
   pub span : sp ≡ child_span way.span y.index
   pub word : at ≡ page_at v.layout.slots y.slot y.index
 
+-- a pointer of a tree's interior page that the pass holds and whose separators it knows, over these keys, whose word is
+-- here
+pub record IsBranchAt (v : View) (y : Spot) (sp : Span) (at : ℕ) : Type 0 where
+  pub way : Way
+  pub has : Contains v.ways way
+  pub slot : way.slot ≡ y.slot
+  pub kind : is_tree v.layout.decls way.span.storage ≡ true
+  pub inner : Inner
+  pub knows : Contains v.inners inner
+  pub same : inner.slot ≡ y.slot
+  pub index : y.index ≤ length inner.separators
+  pub span : sp ≡ part_between way.span inner.separators y.index
+  pub word : at ≡ page_at v.layout.slots y.slot (4 + y.index)
+
 -- the pointer at this place is over these keys, and its word is here
 abbrev pub IsPointerAt : View → At → Span → ℕ → Type 0
 IsPointerAt v (Root r) sp at = (r < length v.layout.decls) × (sp ≡ root_span v.layout.decls r) × (at ≡ root_at r)
-IsPointerAt v (In y) sp at = IsChildAt v y sp at
+IsPointerAt v (In y) sp at = IsChildAt v y sp at ⊎ IsBranchAt v y sp at
+
+-- the pointer is a root's, or one of an array's page
+abbrev pub IsArrayPointerAt : View → At → Span → ℕ → Type 0
+IsArrayPointerAt v (Root r) sp at = (r < length v.layout.decls) × (sp ≡ root_span v.layout.decls r) × (at ≡ root_at r)
+IsArrayPointerAt v (In y) sp at = IsChildAt v y sp at
+
+-- it is one of all pointers
+pub any_pointer : (v : View) (x : At) (sp : Span) (at : ℕ) → IsArrayPointerAt v x sp at → IsPointerAt v x sp at
+any_pointer v (Root r) sp at is = is
+any_pointer v (In y) sp at is = inl is
+
+-- no storage is an array and a tree
+pub one_kind : (o : Option Decl) → is_array_kind o ≡ true → is_tree_kind o ≡ true → ⊥
+one_kind None array tree = true≢false (sym array)
+one_kind (Some (Array id size)) array tree = true≢false (sym tree)
+one_kind (Some (Tree id)) array tree = true≢false (sym array)
 
 -- ---- what a pointer's word says
 
@@ -101,6 +136,7 @@ pub record HasFollowed (sp : Span) (at : ℕ) (v : View) (n : ℕ) (w : View) : 
   pub name : ℕ
   pub is : w ≡ followed at sp n name pages v
   pub agree : WaysAgree w.ways
+  pub trees : TreesAgree w
 
 -- the same of the step
 abbrev pub Follows : Span → Step (Unit {0}) → View → ℕ → View → Type 0

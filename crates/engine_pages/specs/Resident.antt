@@ -16,6 +16,7 @@ use Rattle.snapshot_store.specs.declared.place.PagePlace.{PagePlace}
 use Rattle.snapshot_store.specs.Content.{deepest, format_of, IsPageOf}
 use Rattle.snapshot_store.specs.ArrayPages.{array_found}
 use Rattle.snapshot_store.specs.Places.{page, places_below, Found, StandsTo}
+use Rattle.snapshot_store.specs.TreePages.{tree_format}
 use Rattle.wire_form.specs.Leaves.{array_leaf, word_in, value_in}
 use Rattle.wire_form.specs.Words.{number_in}
 use Rattle.engine_rule.specs.Reading.{name_of, page_at as page_named}
@@ -38,6 +39,10 @@ ShowsResident slots words pages = (n i : ℕ) → 0 < n → n ≤ length pages �
 -- the keys of a span, where the page with this number stands for them
 abbrev pub place_for : Span → ℕ → PagePlace
 place_for sp number = record { number = number; low = sp.low; high = sp.high }
+
+-- the places below the page of a tree with this number, where it stands for these keys
+abbrev pub tree_below : List (List ℕ) → Span → ℕ → List PagePlace
+tree_below pages sp number = places_below tree_format pages (place_for sp number)
 
 -- A pointer over these keys that has this number in its word leads to the page of this name; to none where it is 0.
 pub record IsNamed (places : List (Decl × PagePlace)) (sp : Span) (number name : ℕ) : Type 0 where

@@ -1,6 +1,7 @@
 -- The rule: the words and all views show one sound state of the machines of commits and pages.
 use Rattle.std.specs.Prelude.{◌≡◌, ◌⊎◌, ℕ, suc, ◌+◌, ◌<◌, ◌≤◌, ◌^◌, ◌&&◌, ◌||◌, nat_le, Bool, true, false}
-use Rattle.std.specs.Prelude.{List, [], ◌∷◌, length, get_or, slice_get, Option, Some, None, IfSome, Contains, is_some, unwrap_or, ⊤}
+use Rattle.std.specs.Prelude.{List, [], ◌∷◌, length, get_or, slice_get, Option, Some, None, IfSome, Contains, is_some}
+use Rattle.std.specs.Prelude.{if◌then◌else◌, unwrap_or, ⊤}
 use Rattle.std.specs.List.{AllByRecursion, list_any}
 use Rattle.lists.specs.Fronts.{IsFront}
 use Rattle.serial_model.specs.declared.decl.Decl.{Decl}
@@ -17,8 +18,8 @@ use Rattle.homes.specs.declared.places.Home.TheVariants.{InSlot}
 use Rattle.homes.specs.declared.places.Span.{Span}
 use Rattle.homes.specs.declared.places.Spot.{Spot}
 use Rattle.homes.specs.Homes.{has_key}
-use Rattle.wire_form.specs.Leaves.{array_leaf, array_fan, tree_leaf, record_start, word_in}
-use Rattle.wire_form.specs.Words.{at_bit, number_word, slot_field}
+use Rattle.wire_form.specs.Leaves.{array_leaf, array_fan, tree_leaf, tree_fan, record_start, word_in}
+use Rattle.wire_form.specs.Words.{absent_field, at_bit, number_word, slot_field}
 use Rattle.snapshot_store.specs.ArrayPages.{last_at}
 use Rattle.snapshot_store.specs.declared.place.PagePlace.{PagePlace}
 use Rattle.snapshot_store.specs.Places.{page as page_words}
@@ -41,7 +42,7 @@ use Rattle.commit_core.specs.Parts.{same_word, record_part}
 use Rattle.commit_core.specs.Places.{place_of, home_of, holder_is}
 use Rattle.commit_core.specs.Sound.Reads.{IsVersion}
 use Rattle.drop_core.specs.declared.grip.Grip.{Grip}
-use Rattle.drop_core.specs.declared.table.Page.TheVariants.{Leaf, Split}
+use Rattle.drop_core.specs.declared.table.Page.TheVariants.{Leaf, Inner as InnerPage, Split}
 use Rattle.drop_core.specs.declared.table.Pointer.{Pointer}
 use Rattle.drop_core.specs.declared.table.Table.{Table}
 use Rattle.drop_core.specs.Event.{is_owned, is_published}
@@ -57,25 +58,29 @@ use Rattle.engine_pages.specs.declared.view.Draft.{Draft}
 use Rattle.engine_pages.specs.declared.view.Filled.{Filled}
 use Rattle.engine_pages.specs.declared.view.Head.{Head}
 use Rattle.engine_pages.specs.declared.view.Heard.{Heard}
+use Rattle.engine_pages.specs.declared.view.Inner.{Inner}
 use Rattle.engine_pages.specs.declared.view.Known.{Known}
 use Rattle.engine_pages.specs.declared.view.Lead.{Lead}
 use Rattle.engine_pages.specs.declared.view.Loaded.{Loaded}
 use Rattle.engine_pages.specs.declared.view.Met.{Met}
 use Rattle.engine_pages.specs.declared.view.Moved.{Moved}
+use Rattle.engine_pages.specs.declared.view.NewInner.{NewInner}
+use Rattle.engine_pages.specs.declared.view.NewLeaf.{NewLeaf}
 use Rattle.engine_pages.specs.declared.view.Role.{Role}
 use Rattle.engine_pages.specs.declared.view.Role.TheVariants.{Keeper, Worker}
 use Rattle.engine_pages.specs.declared.view.Shut.{Shut}
 use Rattle.engine_pages.specs.declared.view.Took.{Took}
+use Rattle.engine_pages.specs.declared.view.Version.{Version}
 use Rattle.engine_pages.specs.declared.view.View.{View}
 use Rattle.engine_pages.specs.declared.view.Way.{Way}
 use Rattle.engine_pages.specs.Layout.{page_at, snap_at}
 use Rattle.engine_pages.specs.Pages.{is_leaf_span, child_span, root_span, Fenced, IsOver, IsLaidOutFor, AreLaidOut}
-use Rattle.engine_pages.specs.Pages.{is_array}
-use Rattle.engine_pages.specs.Resident.{Published, IsNamed, ArePages, array_record}
+use Rattle.engine_pages.specs.Pages.{is_array, is_tree, part_between}
+use Rattle.engine_pages.specs.Resident.{Published, IsNamed, ArePages, array_record, tree_below}
 use Rattle.engine_pages.specs.Touches.{AreBlamed, IsFacing, Touched}
 use Rattle.engine_pages.specs.Views.{IsActive, IsAt, HasPart, HasNoPages, HasNoTrees, IsResting, bare_seat, bare_grip}
 use Rattle.engine_pages.specs.Views.{drawn_by, sits, makes, waits, tries, owns}
-use Rattle.engine_pages.specs.Words.{IsSmall, ShowsWords, ShowsMark, word_of_mark, spot}
+use Rattle.engine_pages.specs.Words.{IsOldBit, IsOverwritten, IsSmall, ShowsWords, ShowsMark, word_of_mark, spot}
 
 -- ---- what all passes share: both machines' state, with each seat by its number, also of those that no pass has now
 
@@ -107,8 +112,7 @@ joint_of l s = record {
 pub record StartsBlank (decls : List Decl) (opening : List (Key × Content)) : Type 0 where
   pub never : (k : Key) → is_array decls k.storage ≡ true → (content_at opening k).value ≡ None
       → (content_at opening k).number ≡ opening_number
-  pub blank : (k : Key) → is_array decls k.storage ≡ true → (content_at opening k).number ≡ opening_number
-      → (content_at opening k).value ≡ None
+  pub blank : (k : Key) → (content_at opening k).number ≡ opening_number → (content_at opening k).value ≡ None
 
 -- attempts write values to arrays: nothing of an array is removed
 abbrev pub WriteValues : List Decl → List Attempt → Type 0
@@ -153,6 +157,12 @@ KeptAreRecords decls opening history kept = (part : Part) → Contains kept part
     ⊎ (((x : At) × (n : ℕ) × (part.word ≡ PointerOf x) × (part.version ≡ Leads n))
     ⊎ ((t : ℕ) × (n : ℕ) × (part.word ≡ HeaderOf t) × (part.version ≡ Counted n)))
 
+-- What was seen to have stood at a key stood there at first or was written there; in a tree it may also be an absence
+-- that lost its number.
+abbrev pub IsOneOf : List Decl → List (Key × Content) → List Attempt → Version → Type 0
+IsOneOf decls opening history x =
+    ((x.content ≡ nothing) × (is_array decls x.key.storage ≡ false)) ⊎ IsVersion opening history x.key x.content
+
 -- the word is among these
 abbrev pub has_word : List Word → Word → Bool
 has_word words w = list_any (λ x. same_word x w) words
@@ -180,12 +190,23 @@ abbrev pub EachIsTried : Story → (ℕ → Seat) → Type 0
 EachIsTried m seats = (i : ℕ) (a : Attempt) → slice_get m.history i ≡ Some a
     → is_in_progress m.decided m.given_up a.number ≡ true → (a.seat < 9) × ((seats a.seat).stage ≡ Trying i)
 
--- the record is the seat's own, and has the number that it had when it was locked
-pub record IsHeld (m : Story) (p : ℕ) (t : Took) (x : Spot) : Type 0 where
+-- the bit of the word of a tree's record that has no value; an array's record has no such bit
+abbrev pub absence : List Decl → Key → Option ℕ → ℕ
+absence decls k value = if is_array decls k.storage then 0 else absent_field tree_leaf value
+
+-- the bit of absence of a key's record as its holder found it
+abbrev pub IsBitAt : List Decl → Story → Key → Place → ℕ → Type 0
+IsBitAt decls m k q bit = (bit ≡ absence decls k q.content.value)
+    ⊎ ((is_array decls k.storage ≡ false) × IsOldBit (IsOverwritten m k) q bit)
+
+-- The record is the seat's own, and has the number that it had when it was locked.
+pub record IsHeld (decls : List Decl) (m : Story) (p : ℕ) (t : Took) (x : Spot) : Type 0 where
   pub spot : t.spot ≡ x
   pub home : home_of m.homes t.key ≡ InSlot x
   pub own : holder_is p (place_of m.places x).holder ≡ true
-  pub number : number_word (place_of m.places x).content.number ≡ t.word
+  pub absent : ℕ
+  pub number : number_word (place_of m.places x).content.number + absent ≡ t.word
+  pub bit : IsBitAt decls m t.key (place_of m.places x) absent
 
 -- one of these locks is of the key
 abbrev pub HasLockOf : List Took → Key → Type 0
@@ -196,7 +217,7 @@ pub record Own (l : Layout) (m : Story) (seats : ℕ → Seat) (v : View) (p : �
   pub layout : v.layout ≡ l
   pub seat : v.seat ≡ seats p
   pub tried : Tried p v.history m.checks v.checked v.mine v.seat.stage
-  pub took : (t : Took) → Contains v.took t → (x : Spot) × IsHeld m p t x
+  pub took : (t : Took) → Contains v.took t → (x : Spot) × IsHeld l.decls m p t x
   -- and each lock that the seat has stands in the view
   pub locked : (k : Key) → has_key v.seat.locks k ≡ true → HasLockOf v.took k
 
@@ -251,6 +272,7 @@ pub record Fits (l : Layout) (m : Story) (seats : ℕ → Seat) (v : View) : Typ
   pub mine_own : (a : Attempt) → Contains v.mine a → IsOwn v.role v.history v.decided a
   pub records : KeptAreRecords l.decls l.opening m.history v.seat.kept
   pub kept : KeptIsLow m.places v.seat.kept
+  pub versions : (x : Version) → Contains v.versions x → IsOneOf l.decls l.opening m.history x
   pub loaded : IfSome v.loaded (StillLoaded m.history m.decided m.places v.seat.kept)
   pub own : (p : ℕ) → IsAt p v.role → Own l m seats v p
   pub low : v.epoch ≤ m.epoch
@@ -348,18 +370,18 @@ pub record IsKnownLeaf (l : Layout) (d : Table) (trees : ℕ → Option Fenced) 
 abbrev pub is_spare : ℕ → ℕ → Bool
 is_spare count i = (nat_le 3 i && nat_le i 5) || nat_le (record_start tree_leaf count) i
 
--- the seat has locked the header of a leaf with these keys, and these words stand there, but for those of the records
+-- The seat has locked the header of a leaf with these keys, and these 64 words stand there, but for those of the records.
+-- What it has locked stays so whether it holds the slot or not.
 pub record IsHead
-    (l : Layout) (words : List ℕ) (d : Table) (trees : ℕ → Option Fenced) (p : ℕ) (holds : List ℕ) (x : Head)
+    (l : Layout) (words : List ℕ) (d : Table) (trees : ℕ → Option Fenced) (p : ℕ) (x : Head)
     : Type 0 where
   pub within : x.slot < l.slots
-  pub held : has_slot holds x.slot ≡ true
-  pub known : is_never (slot_of d x.slot).led ≡ false
   pub locked : header_of d x.slot ≡ Held p
   pub leaf : page_of d x.slot ≡ Leaf x.keys
   pub fence : Fenced
   pub there : trees x.slot ≡ Some fence
   pub keys : fence.keys ≡ x.keys
+  pub long : length x.words ≡ 64
   pub is : (i : ℕ) → i < 64 → is_spare (length x.keys) i ≡ true
       → get_or words (page_at l.slots x.slot i) 0 ≡ get_or x.words i 0
 
@@ -377,12 +399,78 @@ pub record IsMoved
   pub major : get_or words (page_at l.slots x.slot 4) 0 ≡ x.major + 1
   pub separator : get_or words (page_at l.slots x.slot 5) 0 ≡ x.separator
 
+-- the seat has locked the header of a leaf that was split
+pub record IsSealed (l : Layout) (d : Table) (p t : ℕ) : Type 0 where
+  pub within : t < l.slots
+  pub locked : header_of d t ≡ Held p
+  pub split : page_of d t ≡ Split
+
+-- The seat holds the slot of an interior page of a tree, something has led to it, and its pointers are over the parts
+-- of its keys between these.
+pub record IsInner (l : Layout) (d : Table) (trees : ℕ → Option Fenced) (holds : List ℕ) (x : Inner) : Type 0 where
+  pub within : x.slot < l.slots
+  pub held : has_slot holds x.slot ≡ true
+  pub known : is_never (slot_of d x.slot).led ≡ false
+  pub page : page_of d x.slot ≡ InnerPage (suc (length x.separators))
+  pub few : length x.separators < tree_fan
+  pub fence : Fenced
+  pub there : trees x.slot ≡ Some fence
+  pub parts : (j : ℕ) → j ≤ length x.separators
+      → span_at d (at_index x.slot j) ≡ part_between fence.span x.separators j
+
+-- The seat published the slot, and nothing has led to it: its page is a leaf of a tree that is made for these keys,
+-- with an open header; its records are of these keys, and of these contents, and open.
+pub record IsNewLeaf
+    (l : Layout) (m : Story) (d : Table) (trees : ℕ → Option Fenced) (mine : List ℕ) (x : NewLeaf)
+    : Type 0 where
+  pub slot : x.slot < l.slots
+  pub made : has_slot mine x.slot ≡ true
+  pub state : is_published (slot_of d x.slot).state ≡ true
+  pub kind : is_tree l.decls x.span.storage ≡ true
+  pub header : header_of d x.slot ≡ Free
+  pub page : page_of d x.slot ≡ Leaf x.keys
+  pub there : trees x.slot ≡ Some (record { span = x.span; keys = x.keys })
+  pub each : length x.contents ≡ length x.keys
+  pub records : (i : ℕ) (c : Content) → slice_get x.contents i ≡ Some c
+      → place_of m.places (spot x.slot i) ≡ record { content = c; holder = Free }
+
+-- a pointer over the keys of this place, which names its page and leads to no slot
+pub record IsCopiedChild
+    (places : List (Decl × PagePlace)) (storage : ℕ) (below : PagePlace) (q : Pointer)
+    : Type 0 where
+  pub span : q.span ≡ record { storage = storage; low = below.low; high = below.high }
+  pub slot : q.slot ≡ None
+  pub free : q.holder ≡ Free
+  pub named : IsNamed places q.span below.number q.page
+
+-- The seat published the slot, and nothing has led to it: its page is an interior one of a tree that is made for these
+-- keys, and its pointers name the pages that those of the snapshot page with this number do, over the same keys.
+pub record IsNewInner
+    (l : Layout) (d : Table) (trees : ℕ → Option Fenced) (r : Published) (mine : List ℕ) (x : NewInner)
+    : Type 0 where
+  pub slot : x.slot < l.slots
+  pub made : has_slot mine x.slot ≡ true
+  pub state : is_published (slot_of d x.slot).state ≡ true
+  pub kind : is_tree l.decls x.span.storage ≡ true
+  pub some : 0 < x.page
+  pub page : x.page ≤ length r.pages
+  pub count : page_of d x.slot ≡ InnerPage (length (tree_below r.pages x.span x.page))
+  pub there : trees x.slot ≡ Some (record { span = x.span; keys = [] })
+  pub pointers : (j : ℕ) (below : PagePlace) → slice_get (tree_below r.pages x.span x.page) j ≡ Some below
+      → IsCopiedChild r.places x.span.storage below (pointer_of d (at_index x.slot j))
+
 -- what is true of a view's part of the trees
-pub record FitsTrees (l : Layout) (words : List ℕ) (d : Table) (trees : ℕ → Option Fenced) (v : View) : Type 0 where
+pub record FitsTrees
+    (l : Layout) (words : List ℕ) (m : Story) (d : Table) (trees : ℕ → Option Fenced) (r : Published) (v : View)
+    : Type 0 where
   pub known : (x : Known) → Contains v.known x → IsKnownLeaf l d trees v.grip.holds x
-  pub heads : (p : ℕ) → IsAt p v.role → (x : Head) → Contains v.heads x → IsHead l words d trees p v.grip.holds x
+  pub heads : (p : ℕ) → IsAt p v.role → (x : Head) → Contains v.heads x → IsHead l words d trees p x
   pub moved : (x : Moved) → Contains v.moved x → IsMoved l words d trees v.grip.holds x
-  pub none : HasNoTrees v.role v.known v.heads v.moved
+  pub sealed : (p : ℕ) → IsAt p v.role → (t : ℕ) → has_slot v.sealed t ≡ true → IsSealed l d p t
+  pub inners : (x : Inner) → Contains v.inners x → IsInner l d trees v.grip.holds x
+  pub new_leaves : (x : NewLeaf) → Contains v.new_leaves x → IsNewLeaf l m d trees v.grip.made x
+  pub new_inners : (x : NewInner) → Contains v.new_inners x → IsNewInner l d trees r v.grip.made x
+  pub none : HasNoTrees v.role v
 
 -- what is true of a view's part of the pages
 pub record FitsPages (l : Layout) (words : List ℕ) (s : Shared) (v : View) : Type 0 where
@@ -401,7 +489,7 @@ pub record FitsPages (l : Layout) (words : List ℕ) (s : Shared) (v : View) : T
   -- a worker that is not seated has nothing of the pages
   pub keepers : v.role ≡ Keeper → (worker : ℕ) → worker < 8 → times worker v.made ≡ 0
       → s.grips (suc worker) ≡ bare_grip
-  pub treed : FitsTrees l words s.table s.trees v
+  pub treed : FitsTrees l words s.story s.table s.trees s.resident v
 
 -- ---- sums over the views
 

@@ -13,6 +13,9 @@ use Rattle.drop_core.specs.Table.{has_slot}
 use Rattle.engine_pages.specs.declared.view.Copied.{Copied}
 use Rattle.engine_pages.specs.declared.view.Draft.{Draft}
 use Rattle.engine_pages.specs.declared.view.Glance.{Glance}
+use Rattle.engine_pages.specs.declared.view.Head.{Head}
+use Rattle.engine_pages.specs.declared.view.NewInner.{NewInner}
+use Rattle.engine_pages.specs.declared.view.NewLeaf.{NewLeaf}
 use Rattle.engine_pages.specs.declared.view.Shut.{Shut}
 use Rattle.engine_pages.specs.declared.view.View.{View}
 use Rattle.engine_pages.specs.declared.view.Way.{Way}
@@ -35,6 +38,18 @@ other_drafts t drafts = filter (λ x. not (x.slot == t)) drafts
 abbrev pub other_copies : ℕ → List Copied → List Copied
 other_copies t copies = filter (λ x. not (x.slot == t)) copies
 
+-- the leaves of trees that were published in other slots
+abbrev pub other_leaves : ℕ → List NewLeaf → List NewLeaf
+other_leaves t leaves = filter (λ x. not (x.slot == t)) leaves
+
+-- the interior pages of trees that were published in other slots
+abbrev pub other_inners : ℕ → List NewInner → List NewInner
+other_inners t inners = filter (λ x. not (x.slot == t)) inners
+
+-- the headers that are locked in other slots
+abbrev pub other_heads : ℕ → List Head → List Head
+other_heads t heads = filter (λ x. not (x.slot == t)) heads
+
 -- the pointers that were shut in other pages
 abbrev pub other_shuts : ℕ → List Shut → List Shut
 other_shuts t shuts = filter (λ x. not (is_slot t (slot_with x.at))) shuts
@@ -52,8 +67,8 @@ left t v = record v {
   grip = record v.grip { holds = without v.grip.holds t };
   ways = other_ways t v.ways;
   known = filter (λ x. not (x.slot == t)) v.known;
-  heads = filter (λ x. not (x.slot == t)) v.heads;
   moved = filter (λ x. not (x.slot == t)) v.moved;
+  inners = filter (λ x. not (x.slot == t)) v.inners;
   shuts = other_shuts t v.shuts;
   gone = t ∷ v.gone;
 }
@@ -106,11 +121,12 @@ given t words n v = record (glanced (slot_at t) n v) {
   drafts = record { slot = t; words = words } ∷ v.drafts;
 }
 
--- 64 words stand in the page of the slot, which the pass doesn't hold
+-- 64 words stand in the page of the slot, which the pass doesn't hold, and which is none that it made before
 pub record HasGiven (t : ℕ) (v : View) (n : ℕ) (w : View) : Type 0 where
   pub words : List ℕ
   pub long : length words ≡ 64
   pub unheld : has_slot v.grip.holds t ≡ false
+  pub unmade : has_slot v.grip.made t ≡ false
   pub is : w ≡ given t words n v
 
 -- the slot is given exactly where its word was the one that was expected
@@ -167,10 +183,15 @@ published_copy t sp n v = record v {
 
 -- ---- a slot is given up
 
+-- the pass published the slot as a page of a tree
+abbrev pub HasNewPage : View → ℕ → Type 0
+HasNewPage v t = ((c : NewLeaf) × Contains v.new_leaves c × (c.slot ≡ t))
+    ⊎ ((c : NewInner) × Contains v.new_inners c × (c.slot ≡ t))
+
 -- The pass published the slot and led nothing to it, or it took away what led to the slot.
 abbrev pub MayRetire : View → ℕ → Type 0
 MayRetire v t = ((c : Copied) × Contains v.copies c × (c.slot ≡ t))
-    ⊎ ((has_slot v.blanks t ≡ true) ⊎ (has_slot v.grip.taken t ≡ true))
+    ⊎ ((has_slot v.blanks t ≡ true) ⊎ ((has_slot v.grip.taken t ≡ true) ⊎ HasNewPage v t))
 
 -- the slot is given up
 abbrev pub retired : ℕ → View → View
@@ -179,6 +200,8 @@ retired t v = record v {
   grip = record v.grip { made = without v.grip.made t; taken = without v.grip.taken t };
   copies = other_copies t v.copies;
   blanks = without v.blanks t;
+  new_leaves = other_leaves t v.new_leaves;
+  new_inners = other_inners t v.new_inners;
 }
 
 -- ---- the same of the steps

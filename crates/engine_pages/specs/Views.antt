@@ -12,9 +12,6 @@ use Rattle.views.specs.Sums.{total, one_at, times}
 use Rattle.engine_pages.specs.declared.layout.Layout.{Layout}
 use Rattle.engine_pages.specs.declared.view.Copied.{Copied}
 use Rattle.engine_pages.specs.declared.view.Draft.{Draft}
-use Rattle.engine_pages.specs.declared.view.Head.{Head}
-use Rattle.engine_pages.specs.declared.view.Known.{Known}
-use Rattle.engine_pages.specs.declared.view.Moved.{Moved}
 use Rattle.engine_pages.specs.declared.view.Role.{Role}
 use Rattle.engine_pages.specs.declared.view.Role.TheVariants.{Keeper, Worker, Note, Spent}
 use Rattle.engine_pages.specs.declared.view.View.{View}
@@ -108,12 +105,17 @@ HasNoPages (Worker w) grip ways drafts copies blanks = ⊤
 HasNoPages Note grip ways drafts copies blanks = HasNoSlots grip ways drafts copies blanks
 HasNoPages Spent grip ways drafts copies blanks = HasNoSlots grip ways drafts copies blanks
 
--- nor of trees
-abbrev pub HasNoTrees : Role → List Known → List Head → List Moved → Type 0
-HasNoTrees Keeper known heads moved = ⊤
-HasNoTrees (Worker w) known heads moved = ⊤
-HasNoTrees Note known heads moved = (known ≡ []) × (heads ≡ []) × (moved ≡ [])
-HasNoTrees Spent known heads moved = (known ≡ []) × (heads ≡ []) × (moved ≡ [])
+-- it knows of no page of a tree, and published none
+abbrev pub HasNoTreePages : View → Type 0
+HasNoTreePages v = (v.known ≡ []) × (v.heads ≡ []) × (v.moved ≡ []) × (v.inners ≡ [])
+    × (v.new_leaves ≡ []) × (v.new_inners ≡ []) × (v.sealed ≡ [])
+
+-- nor has a pass without a seat any of trees
+abbrev pub HasNoTrees : Role → View → Type 0
+HasNoTrees Keeper v = ⊤
+HasNoTrees (Worker w) v = ⊤
+HasNoTrees Note v = HasNoTreePages v
+HasNoTrees Spent v = HasNoTreePages v
 
 -- a seat without a transaction
 pub record IsResting (s : Seat) : Type 0 where
@@ -162,9 +164,15 @@ opening_view l = record {
   known = [];
   heads = [];
   moved = [];
+  sealed = [];
+  inners = [];
+  new_leaves = [];
+  new_inners = [];
+  versions = [];
   pages = l.pages;
   leads = [];
   shuts = [];
+  swung = [];
   kept = [];
   drops = [];
   fills = [];

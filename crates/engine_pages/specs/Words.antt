@@ -1,5 +1,5 @@
 -- What stands in the words of the table.
-use Rattle.std.specs.Prelude.{◌≡◌, ℕ, zero, suc, ◌+◌, ◌-◌, ◌<◌, ◌≤◌, ◌^◌, Bool, true, false, List, [], ◌∷◌, ◌++◌}
+use Rattle.std.specs.Prelude.{◌≡◌, ◌⊎◌, ℕ, zero, suc, ◌+◌, ◌-◌, ◌<◌, ◌≤◌, ◌^◌, Bool, true, false, List, [], ◌∷◌, ◌++◌}
 use Rattle.std.specs.Prelude.{length, get_or, slice_get, if◌then◌else◌, nat_lt, Option, Some, None, IfSome, unwrap_or, ⊤}
 use Rattle.serial_model.specs.declared.decl.Decl.{Decl}
 use Rattle.serial_model.specs.declared.key.Key.{Key}
@@ -10,13 +10,16 @@ use Rattle.homes.specs.declared.places.Holder.{Holder}
 use Rattle.homes.specs.declared.places.Holder.TheVariants.{Free, Held, Dead}
 use Rattle.homes.specs.declared.places.Span.{Span}
 use Rattle.homes.specs.declared.places.Spot.{Spot}
+use Rattle.homes.specs.Homes.{has_key, in_span}
 use Rattle.wire_form.specs.Leaves.{array_leaf, array_fan, tree_leaf, tree_fan, record_start, word_in}
 use Rattle.wire_form.specs.Words.{absent_field, at_bit, flag, number_word, mark_epoch, slot_field}
 use Rattle.snapshot_store.specs.declared.place.PagePlace.{PagePlace}
 use Rattle.commit_core.specs.declared.place.Place.{Place}
 use Rattle.commit_core.specs.declared.seat.Mark.{Mark}
 use Rattle.commit_core.specs.declared.story.Story.{Story}
-use Rattle.commit_core.specs.Keys.{opening_number}
+use Rattle.commit_core.specs.declared.attempt.Attempt.{Attempt}
+use Rattle.commit_core.specs.Keys.{nothing, opening_number}
+use Rattle.commit_core.specs.Lemmas.Values.{Overwrites}
 use Rattle.commit_core.specs.Places.{place_of}
 use Rattle.commit_core.specs.CoreState.{clock_of}
 use Rattle.drop_core.specs.declared.table.SlotState.{SlotState}
@@ -105,11 +108,29 @@ ShowsPage names words slots t places d Split = ⊤
 
 -- ---- pages of trees
 
+-- an attempt that counts writes the key, with a number above this one
+abbrev pub IsOverwritten : Story → Key → Number → Type 0
+IsOverwritten m k n = (b : Attempt) × Overwrites m.history m.decided k n b
+
+-- The bit of absence of a value before: the record is held, had been written or had a value, and is overwritten by an
+-- attempt that counts.
+pub record IsOldBit (over : Number → Type 0) (q : Place) (bit : ℕ) : Type 0 where
+  pub one : (bit ≡ 0) ⊎ (bit ≡ at_bit 61 1)
+  pub held : q.holder ≡ Free → ⊥
+  pub some : q.content ≡ nothing → ⊥
+  pub later : over q.content.number
+
+-- the bit of absence in the word of a tree's record is that of its value, or, until its lock is opened, of the one
+-- before
+abbrev pub IsBit : (Number → Type 0) → Place → ℕ → Type 0
+IsBit over q bit = (bit ≡ absent_field tree_leaf q.content.value) ⊎ IsOldBit over q bit
+
 -- a record of a tree is its key, its word, and its value
-pub record ShowsKeyed (words : List ℕ) (at : ℕ) (k : Key) (q : Place) : Type 0 where
+pub record ShowsKeyed (words : List ℕ) (at : ℕ) (over : Key → Number → Type 0) (k : Key) (q : Place) : Type 0 where
   pub key : get_or words at 0 ≡ k.key
-  pub word : get_or words (at + 1) 0
-      ≡ (number_word q.content.number + lock_field q.holder) + absent_field tree_leaf q.content.value
+  pub absent : ℕ
+  pub word : get_or words (at + 1) 0 ≡ (number_word q.content.number + lock_field q.holder) + absent
+  pub bit : IsBit (over k) q absent
   pub value : get_or words (at + 2) 0 ≡ unwrap_or q.content.value 0
   pub small : IsSmall q.content.number
 
@@ -117,14 +138,17 @@ pub record ShowsKeyed (words : List ℕ) (at : ℕ) (k : Key) (q : Place) : Type
 abbrev pub head_word : ℕ → ℕ → ℕ → Bool → ℕ
 head_word count kind lock moved = ((at_bit 0 count + at_bit 8 kind) + lock) + at_bit 62 (flag moved)
 
--- the records of a leaf of a tree, and its fences
-pub record ShowsRecords (words : List ℕ) (slots t : ℕ) (f : Fenced) (places : Spot → Place) : Type 0 where
+-- the records of a leaf of a tree, whose keys are there once and within its fences
+pub record ShowsRecords
+    (words : List ℕ) (slots t : ℕ) (f : Fenced) (over : Key → Number → Type 0) (places : Spot → Place)
+    : Type 0 where
   pub low : get_or words (page_at slots t 1) 0 ≡ f.span.low
   pub high : get_or words (page_at slots t 2) 0 ≡ f.span.high
   pub few : length f.keys ≤ tree_leaf.room
   pub once : each_once f.keys ≡ true
+  pub inside : (k : Key) → has_key f.keys k ≡ true → in_span f.span k ≡ true
   pub keys : (i : ℕ) (k : Key) → slice_get f.keys i ≡ Some k
-      → ShowsKeyed words (page_at slots t (record_start tree_leaf i)) k (places (spot t i))
+      → ShowsKeyed words (page_at slots t (record_start tree_leaf i)) over k (places (spot t i))
 
 -- the two leaves that have the keys of a leaf that was split, and the first key of the second
 pub record ShowsTwins (words : List ℕ) (slots t : ℕ) (sp : Span) (d : Table) : Type 0 where
@@ -162,24 +186,27 @@ ShowsChild names words slots t sp n d j =
     ShowsPointer names words (page_at slots t (4 + j)) (pointer_of d (at_index t j))
     × (span_at d (at_index t j) ≡ tree_child words slots t sp n j)
 
--- a tree's page in a slot
-abbrev pub ShowsTree : List (Decl × PagePlace) → List ℕ → ℕ → ℕ → Fenced → (Spot → Place) → Table → Page → Type 0
-ShowsTree names words slots t f places d Blank = ⊥
-ShowsTree names words slots t f places d (Leaf keys) =
+-- a tree's page in a slot; an interior page has no header that is locked
+abbrev pub ShowsTree :
+    List (Decl × PagePlace) → List ℕ → ℕ → ℕ → Fenced → (Key → Number → Type 0) → (Spot → Place) → Table → Page → Type 0
+ShowsTree names words slots t f over places d Blank = ⊥
+ShowsTree names words slots t f over places d (Leaf keys) =
     (f.keys ≡ keys)
     × (get_or words (page_at slots t 0) 0 ≡ head_word (length f.keys) 1 (lock_field (header_of d t)) false)
-    × ShowsRecords words slots t f places
-ShowsTree names words slots t f places d (Inner n) =
+    × ShowsRecords words slots t f over places
+ShowsTree names words slots t f over places d (Inner n) =
     (f.keys ≡ [])
     × (get_or words (page_at slots t 0) 0 ≡ head_word n 2 0 false)
+    × (0 < n)
     × (n ≤ tree_fan)
     × (get_or words (page_at slots t 1) 0 ≡ f.span.low)
     × (get_or words (page_at slots t 2) 0 ≡ f.span.high)
     × ((j : ℕ) → j < n → ShowsChild names words slots t f.span n d j)
-ShowsTree names words slots t f places d Split =
+    × (header_of d t ≡ Dead)
+ShowsTree names words slots t f over places d Split =
     (get_or words (page_at slots t 0) 0 ≡ head_word (length f.keys) 1 (lock_field (header_of d t)) true)
     × ShowsTwins words slots t f.span d
-    × ShowsRecords words slots t f places
+    × ShowsRecords words slots t f over places
     × ((i : ℕ) → i < length f.keys → (places (spot t i)).holder ≡ Dead)
 
 -- ---- all words
@@ -200,7 +227,7 @@ pub record ShowsWords
   pub pages : (t : ℕ) → t < l.slots → is_shown (slot_of d t).state ≡ true → trees t ≡ None
       → ShowsPage r.places words l.slots t (place_of m.places) d (page_of d t)
   pub treed : (t : ℕ) (f : Fenced) → t < l.slots → is_shown (slot_of d t).state ≡ true → trees t ≡ Some f
-      → ShowsTree r.places words l.slots t f (place_of m.places) d (page_of d t)
+      → ShowsTree r.places words l.slots t f (IsOverwritten m) (place_of m.places) d (page_of d t)
   pub resident : ShowsResident l.slots words r.pages
 
 -- the word of a worker's mark

@@ -43,6 +43,7 @@ pub use pointers::follow;
 pub use slots::{enter, fill, leave, look, publish_blank, publish_copy, retire, take};
 pub use start::Start;
 pub use view::{
-    Copied, Draft, Dropped, Filled, Glance, Head, Heard, KeptPage, KeptWhy, Known, Lead, Loaded,
-    Met, Moved, Read, RefusalCause, Role, SetName, Shut, Took, Touch, View, Way,
+    Copied, Draft, Dropped, Filled, Glance, Head, Heard, Inner, KeptPage, KeptWhy, Known, Lead,
+    Loaded, Met, Moved, NewInner, NewLeaf, Read, RefusalCause, Role, SetName, Shut, Swung, Took,
+    Touch, Version, View, Way,
 };

@@ -2,7 +2,7 @@
 use crate::Layout;
 use commit_core::{Attempt, Seat, Word};
 use drop_core::Grip;
-use homes::{At, Span, Spot};
+use homes::{At, Content, Span, Spot};
 use lists::Sequence;
 use serial_model::{Key, Number};
 
@@ -180,6 +180,48 @@ pub struct Head {
     pub words: Sequence<u64>,
 }
 
+/// An interior page of a tree in a slot that the pass holds: the first keys of its children but the first one. They
+/// stay there.
+#[derive(Drop)]
+pub struct Inner {
+    pub slot: u32,
+    pub separators: Sequence<u64>,
+}
+
+/// A leaf of a tree in a slot that the pass published and has not led to yet: it is made for the keys of the span, has
+/// records of these, in this order, and these contents stand there.
+#[derive(Drop)]
+pub struct NewLeaf {
+    pub slot: u32,
+    pub span: Span,
+    pub keys: Sequence<Key>,
+    pub contents: Sequence<Content>,
+}
+
+/// An interior page of a tree in a slot that the pass published and has not led to yet: it says what the snapshot page
+/// with this number does.
+#[derive(Clone, Copy, Debug, PartialEq, Eq)]
+pub struct NewInner {
+    pub slot: u32,
+    pub span: Span,
+    pub page: u32,
+}
+
+/// What stood at a key at first, or was written there.
+#[derive(Clone, Copy, Debug, PartialEq, Eq)]
+pub struct Version {
+    pub key: Key,
+    pub content: Content,
+}
+
+/// A pointer that the pass swung away from a slot.
+#[derive(Clone, Copy, Debug, PartialEq, Eq)]
+pub struct Swung {
+    /// The word's place in the table.
+    pub word: u32,
+    pub slot: u32,
+}
+
 /// A leaf that was split, in a slot that the pass holds.
 #[derive(Clone, Copy, Debug, PartialEq, Eq)]
 pub struct Moved {
@@ -278,6 +320,16 @@ pub struct View {
     pub heads: Sequence<Head>,
     /// The split leaves that it knows.
     pub moved: Sequence<Moved>,
+    /// The split leaves whose headers it has locked.
+    pub sealed: Sequence<u32>,
+    /// What it knows of the interior pages of trees that it holds.
+    pub inners: Sequence<Inner>,
+    /// The slots that it published as leaves of trees.
+    pub new_leaves: Sequence<NewLeaf>,
+    /// The slots that it published as interior pages of trees.
+    pub new_inners: Sequence<NewInner>,
+    /// What it saw to have stood at keys.
+    pub versions: Sequence<Version>,
     /// The words of the snapshot pages that it knows to be published, by their numbers from 1 on.
     pub pages: Sequence<Sequence<u64>>,
     /// What it knows of the keys that they stand for.
@@ -286,6 +338,8 @@ pub struct View {
     pub fills: Sequence<Filled>,
     /// The pointers that it has shut.
     pub shuts: Sequence<Shut>,
+    /// Of the keeper: the pointers that it swung away from slots, since its last call which dropped pages began.
+    pub swung: Sequence<Swung>,
     /// Of the keeper: the pages that its last call which dropped pages kept.
     pub kept: Sequence<KeptPage>,
     /// Of the keeper: the counts of each call that dropped pages.

@@ -60,9 +60,9 @@ module _ (laws : Laws) (c : JointState) (p : ℕ) (s : Seat) (g : Grip) (at : sl
       (λ part n. subst (λ (q : Part). IsHeld d g.holds q.word × FitsWord d q q.word) n
       (header_held m d c.pages.grips sound.pages.table g t both.0, header_fits m d c.pages.grips sound.pages.table g t both.0))
   each_plainly (CheckHeader t) can =
-      by_commits laws c p s g at holds sound (Confirm (Header t) (is_header_so_now p d m s t)) refl can
+      by_commits laws c p s g at holds sound (Confirm (Header t) (is_header_so_now d m s t)) refl can
       (header_truly m d c.pages.grips sound.pages.table sound.pages.headers p s g t own.tries_kept was)
-      (none_new laws c p s g at holds sound (Confirm (Header t) (is_header_so_now p d m s t)) (λ part n. n))
+      (none_new laws c p s g at holds sound (Confirm (Header t) (is_header_so_now d m s t)) (λ part n. n))
   each_plainly (AddRecord t k) can = add_act laws c p s g at holds sound t k can
   each_plainly (AddKey t k) can =
       let a = and_parts (page_allows p d g (opening_with t k)) (not (is_trying s.stage) && may_move p m s (moves d (opening_with t k))) can in

@@ -96,7 +96,7 @@ module _ (laws : Laws) where
         (refl, (laws.commits_leave c.commits.opening p c.commits.story s (Keep (header_part c.pages.table t)) both.1 sound.commits.story (sound.commits.seats p s at)).grows)
     act_grows (CheckHeader t) can = (
       refl,
-      (laws.commits_leave c.commits.opening p c.commits.story s (Confirm (Header t) (is_header_so_now p c.pages.table c.commits.story s t)) can sound.commits.story
+      (laws.commits_leave c.commits.opening p c.commits.story s (Confirm (Header t) (is_header_so_now c.pages.table c.commits.story s t)) can sound.commits.story
           (sound.commits.seats p s at)).grows,
     )
     act_grows (AddRecord t k) can = (refl, filled_grows c.commits.story (next_spot c.pages.table t) nothing)

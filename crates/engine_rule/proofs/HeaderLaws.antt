@@ -38,7 +38,7 @@ use Rattle.drop_core.specs.Sound.{span_at, IsLedSo, PageTies, TiesTo, IsSoundTab
 use Rattle.drop_core.specs.HomeLaws.{leaf-none}
 use Rattle.engine_rule.specs.JointState.{is_leaf, can_see_header, is_counted, counts_so, is_header_so, header_stays, is_header_so_now, header_part}
 use Rattle.engine_rule.specs.Sound.{IsHeld, HasKeys, FitsHeader, FitsWord, IsSoundKept}
-use Rattle.engine_rule.proofs.PointerLaws.{led_not_never, tried_kept, open_alive, unless}
+use Rattle.engine_rule.proofs.PointerLaws.{led_not_never, tried_kept, free_alive, unless}
 
 -- ---- what tests say
 
@@ -163,20 +163,20 @@ module _ (m : Story) (d : Table) (grips : List Grip) (sound : IsSoundTable (home
       (at.0, at.1 ∙ sym (fits.absent k c))
 
   header_so_now : HeadersStayDead d → (p : ℕ) (holds : List ℕ) (part : Part) (t : ℕ) (w : Word) → part.word ≡ w → w ≡ Header t → IsHeld d holds part.word
-      → FitsWord d part part.word → is_header_so p d t part.version ≡ true → IsSoNow p st part
+      → FitsWord d part part.word → is_header_so d t part.version ≡ true → IsSoNow p st part
   header_so_now headers p holds part t w e is held fits so k c =
       let word : part.word ≡ Header t = e ∙ is in
-      let both = and_parts (is_open_to p (header_of d t)) (counts_so (page_of d t) part.version) so in
+      let both = and_parts (is_free (header_of d t)) (counts_so (page_of d t) part.version) so in
       let now = header_now headers holds part t (subst (λ (y : Word). IsHeld d holds y) word held) (subst (λ (y : Word). FitsWord d part y) word fits)
-      (open_alive p (header_of d t) both.0) both.1 k c in
+      (free_alive (header_of d t) both.0) both.1 k c in
       (ap (is_open_to p) now.0, now.1)
 
   -- what is told of a header is true
   pub header_truly : HeadersStayDead d → (p : ℕ) (s : Seat) (g : Grip) (t : ℕ) → TriesKept m.history s.kept s.stage → IsSoundKept d g.holds s.kept
-      → IsToldTruly p m s (Confirm (Header t) (is_header_so_now p d m s t))
+      → IsToldTruly p m s (Confirm (Header t) (is_header_so_now d m s t))
   header_truly headers p s g t tries kept told a tried part there same =
-      let stays : header_stays p d t a ≡ true = sym (ap (λ (o : Option Attempt). option_map_or (header_stays p d t) o false) tried) ∙ told in
-      let so = unless (same_word part.word (Header t)) (is_header_so p d t part.version)
-      (all_in (λ (q : Part). not (same_word q.word (Header t)) || is_header_so p d t q.version) a.parts stays part there) same in
+      let stays : header_stays d t a ≡ true = sym (ap (λ (o : Option Attempt). option_map_or (header_stays d t) o false) tried) ∙ told in
+      let so = unless (same_word part.word (Header t)) (is_header_so d t part.version)
+      (all_in (λ (q : Part). not (same_word q.word (Header t)) || is_header_so d t q.version) a.parts stays part there) same in
       let in_kept = subst (λ (l : List Part). Contains l part) (tried_kept m.history s.kept s.stage a tries tried) there in
       header_so_now headers p g.holds part t part.word refl (same_word-true part.word (Header t) same) (kept.kept_is_held part in_kept) (kept.kept_fits part in_kept) so

@@ -38,7 +38,7 @@ plainly c p s g (SeeHeader t) =
     with_commits c p (commit_effect p c.commits.story s (Keep (header_part c.pages.table t)))
 plainly c p s g (CheckHeader t) =
     with_commits c p
-    (commit_effect p c.commits.story s (Confirm (Header t) (is_header_so_now p c.pages.table c.commits.story s t)))
+    (commit_effect p c.commits.story s (Confirm (Header t) (is_header_so_now c.pages.table c.commits.story s t)))
 plainly c p s g (AddRecord t k) =
     record c { commits = record (c.commits) { story = filled (next_spot c.pages.table t) nothing c.commits.story } }
 plainly c p s g (AddKey t k) = record {
@@ -75,7 +75,7 @@ module _ (c : JointState) (p : ℕ) (s : Seat) (g : Grip) (at : slice_get c.comm
       same_grips (commit_effect p c.commits.story s (Confirm (Pointer x) (is_so_now p c.pages.table c.commits.story s x)))
   acted_plainly (SeeHeader t) = same_grips (commit_effect p c.commits.story s (Keep (header_part c.pages.table t)))
   acted_plainly (CheckHeader t) =
-      same_grips (commit_effect p c.commits.story s (Confirm (Header t) (is_header_so_now p c.pages.table c.commits.story s t)))
+      same_grips (commit_effect p c.commits.story s (Confirm (Header t) (is_header_so_now c.pages.table c.commits.story s t)))
   acted_plainly (AddRecord t k) = filled_plainly (next_spot c.pages.table t) nothing
   acted_plainly (AddKey t k) = refl
   acted_plainly (FillRecord x y) = filled_plainly x y

@@ -74,6 +74,9 @@ tried_kept history kept (Decided i) a tries e = cc
 
 -- ---- tests
 
+pub free_alive : (h : Holder) → is_free h ≡ true → h ≡ Dead → ⊥
+free_alive h o e = true≢false (sym o ∙ ap is_free e)
+
 pub open_alive : (p : ℕ) (h : Holder) → is_open_to p h ≡ true → h ≡ Dead → ⊥
 open_alive p h o e = true≢false (sym o ∙ ap (is_open_to p) e)
 

@@ -281,7 +281,7 @@ module _ (laws : Laws) (c : JointState) (p : ℕ) (s : Seat) (g : Grip) (at : sl
   each_plainly (CheckPointer x) can = by_commits (Confirm (Pointer x) (is_so_now p d m s x)) refl can
   each_plainly (SeeHeader t) can =
       by_commits (Keep (header_part d t)) refl (and_parts (can_see_header d g t) (commit_allows p m s (Keep (header_part d t))) can).1
-  each_plainly (CheckHeader t) can = by_commits (Confirm (Header t) (is_header_so_now p d m s t)) refl can
+  each_plainly (CheckHeader t) can = by_commits (Confirm (Header t) (is_header_so_now d m s t)) refl can
   each_plainly (AddRecord t k) can =
       let it = takes p d t k can in
       fill_stays (next_spot d t) nothing (next_stale t k it)

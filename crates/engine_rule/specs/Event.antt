@@ -141,7 +141,7 @@ is_allowed p m s d g (Commit act) = page_lets g m act && commit_allows p m s act
 is_allowed p m s d g (SeePointer x) = can_see d g x && commit_allows p m s (Keep (pointer_part d x))
 is_allowed p m s d g (CheckPointer x) = commit_allows p m s (Confirm (Pointer x) (is_so_now p d m s x))
 is_allowed p m s d g (SeeHeader t) = can_see_header d g t && commit_allows p m s (Keep (header_part d t))
-is_allowed p m s d g (CheckHeader t) = commit_allows p m s (Confirm (Header t) (is_header_so_now p d m s t))
+is_allowed p m s d g (CheckHeader t) = commit_allows p m s (Confirm (Header t) (is_header_so_now d m s t))
 is_allowed p m s d g (AddRecord t k) = can_open_header p d t (Some k)
 is_allowed p m s d g (AddKey t k) =
     page_allows p d g (opening_with t k)
@@ -170,7 +170,7 @@ effect p m s d g (SeePointer x) = joined (commit_effect p m s (Keep (pointer_par
 effect p m s d g (CheckPointer x) = joined (commit_effect p m s (Confirm (Pointer x) (is_so_now p d m s x))) (turned d g)
 effect p m s d g (SeeHeader t) = joined (commit_effect p m s (Keep (header_part d t))) (turned d g)
 effect p m s d g (CheckHeader t) =
-    joined (commit_effect p m s (Confirm (Header t) (is_header_so_now p d m s t))) (turned d g)
+    joined (commit_effect p m s (Confirm (Header t) (is_header_so_now d m s t))) (turned d g)
 effect p m s d g (AddRecord t k) = joined (unmoved (filled (next_spot d t) nothing m) s) (turned d g)
 effect p m s d g (AddKey t k) = joined (after_key p m s d g t k) (page_effect p d g (opening_with t k))
 effect p m s d g (FillRecord x c) = joined (unmoved (filled x c m) s) (turned d g)

@@ -109,18 +109,18 @@ counts_so (Leaf keys) v = is_counted (length keys) v
 counts_so (Inner n) v = false
 counts_so Split v = false
 
--- the page of the slot counts so, and nobody but the seat holds its header
-abbrev pub is_header_so : ℕ → Table → ℕ → Version → Bool
-is_header_so p d t v = is_open_to p (header_of d t) && counts_so (page_of d t) v
+-- the page of the slot counts so, and nobody holds its header: not the seat itself either
+abbrev pub is_header_so : Table → ℕ → Version → Bool
+is_header_so d t v = is_free (header_of d t) && counts_so (page_of d t) v
 
 -- each part of the attempt with this header's word, of which there is one, is as it was read
-abbrev pub header_stays : ℕ → Table → ℕ → Attempt → Bool
-header_stays p d t a =
-    list_all (λ part. not (same_word part.word (Header t)) || is_header_so p d t part.version) a.parts
+abbrev pub header_stays : Table → ℕ → Attempt → Bool
+header_stays d t a =
+    list_all (λ part. not (same_word part.word (Header t)) || is_header_so d t part.version) a.parts
 
 -- the same of the attempt in progress, if there is one
-abbrev pub is_header_so_now : ℕ → Table → Story → Seat → ℕ → Bool
-is_header_so_now p d m s t = option_map_or (header_stays p d t) (attempt_tried m.history s.stage) false
+abbrev pub is_header_so_now : Table → Story → Seat → ℕ → Bool
+is_header_so_now d m s t = option_map_or (header_stays d t) (attempt_tried m.history s.stage) false
 
 -- the part of a header: it vouches that no key of the leaf's span is there but those of its records
 abbrev pub header_part : Table → ℕ → Part

@@ -112,7 +112,7 @@ fn see_header(
 fn check_header(id: u32, story: &mut Story, seat: &mut Seat, table: &Table, slot: u32) -> Answer
     ensures { (g : Grip) → Answers id (JointAct.CheckHeader slot) story.old seat.old table.now g result story.new seat.new table.now g }
 {
-    let is_so = is_header_so_now(id, table, story, seat, slot);
+    let is_so = is_header_so_now(table, story, seat, slot);
     commit_core::act(
         id,
         story,

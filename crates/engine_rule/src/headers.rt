@@ -6,7 +6,7 @@ ghost use Rattle.engine_rule.specs.Event.{next_spot};
 ghost use Rattle.engine_rule.specs.Renewal.{part_with_key, kept_with_key};
 
 use crate::asks::holds;
-use commit_core::{Attempt, Part, Seat, Story, Version, Word, is_open_to, with_part};
+use commit_core::{Attempt, Part, Seat, Story, Version, Word, with_part};
 use drop_core::{Grip, Page, Table};
 use homes::Spot;
 use lists::Sequence;
@@ -33,27 +33,27 @@ fn is_leaf(table: &Table, slot: u32) -> bool
 }
 
 /// Whether the header is as the seat's attempt in progress read it.
-pub fn is_header_so_now(id: u32, table: &Table, story: &Story, seat: &Seat, slot: u32) -> bool
-    ensures { result ≡ is_header_so_now id table.now story.now seat.now slot }
+pub fn is_header_so_now(table: &Table, story: &Story, seat: &Seat, slot: u32) -> bool
+    ensures { result ≡ is_header_so_now table.now story.now seat.now slot }
 {
     match story.attempt_tried(seat.stage) {
         None => false,
-        Some(attempt) => stays(id, table, slot, attempt),
+        Some(attempt) => stays(table, slot, attempt),
     }
 }
 
-fn stays(id: u32, table: &Table, slot: u32, attempt: &Attempt) -> bool
-    ensures { result ≡ header_stays id table.now slot attempt.now }
+fn stays(table: &Table, slot: u32, attempt: &Attempt) -> bool
+    ensures { result ≡ header_stays table.now slot attempt.now }
 {
     let word = Word::Header(slot);
     let mut parts = attempt.parts.as_slice().iter();
-    parts.all(|part| !part.word.is(word) || is_header_so(id, table, slot, part.version))
+    parts.all(|part| !part.word.is(word) || is_header_so(table, slot, part.version))
 }
 
-fn is_header_so(id: u32, table: &Table, slot: u32, version: Version) -> bool
-    ensures { result ≡ is_header_so id table.now slot version }
+fn is_header_so(table: &Table, slot: u32, version: Version) -> bool
+    ensures { result ≡ is_header_so table.now slot version }
 {
-    is_open_to(id, table.header(slot)) && counts_so(table, slot, version)
+    table.header(slot).is_free() && counts_so(table, slot, version)
 }
 
 /// Whether the page is a leaf with as many records as the version counts.

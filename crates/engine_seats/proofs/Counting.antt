@@ -62,6 +62,10 @@ times_clock laws l slots id me active =
         known = b.pages.treed.known;
         heads = b.pages.treed.heads (seat_number v.role) (is_at v.role active);
         moved = b.pages.treed.moved;
+        sealed = b.pages.treed.sealed (seat_number v.role) (is_at v.role active);
+        inners = b.pages.treed.inners;
+        new_leaves = b.pages.treed.new_leaves;
+        new_inners = b.pages.treed.new_inners;
         shuts = b.pages.shuts (seat_number v.role) (is_at v.role active);
       };
       deals = rests_all l words views s id v b w
@@ -103,7 +107,7 @@ counts laws serial l slots id me active =
       mine = refl;
       draws = refl;
       fits = seen_fits l m s.seats v w active f refl refl refl refl refl refl refl refl refl refl refl f.loaded refl refl
-          f.history f.decided (front_refl m.history) (front_refl m.decided);
+          f.versions f.history f.decided (front_refl m.history) (front_refl m.decided);
       room = room_same l words views s id v active b 1 (λ n. n) w refl;
       now = record {
         within = b.pages.within;
@@ -117,6 +121,10 @@ counts laws serial l slots id me active =
         known = b.pages.treed.known;
         heads = b.pages.treed.heads (seat_number v.role) (is_at v.role active);
         moved = b.pages.treed.moved;
+        sealed = b.pages.treed.sealed (seat_number v.role) (is_at v.role active);
+        inners = b.pages.treed.inners;
+        new_leaves = b.pages.treed.new_leaves;
+        new_inners = b.pages.treed.new_inners;
         shuts = b.pages.shuts (seat_number v.role) (is_at v.role active);
       };
       deals = rests_all l words views s id v b w

@@ -5,10 +5,11 @@ use Rattle.lists.specs.Fronts.{front_none}
 use Rattle.views.specs.Sums.{times}
 use Rattle.views.specs.Longer.{longer_of}
 use Rattle.engine_pages.specs.declared.layout.Layout.{Layout}
-use Rattle.engine_pages.specs.declared.view.Role.TheVariants.{Keeper}
+use Rattle.engine_pages.specs.declared.view.Role.{Role}
+use Rattle.engine_pages.specs.declared.view.Role.TheVariants.{Keeper, Note, Spent, Worker}
 use Rattle.engine_pages.specs.declared.view.View.{View}
 use Rattle.engine_pages.specs.Rule.{Shared, FitsPages}
-use Rattle.engine_pages.specs.Views.{bare_grip}
+use Rattle.engine_pages.specs.Views.{HasNoTreePages, HasNoTrees, bare_grip}
 use Rattle.engine_seats.specs.Cuts.{ended, learned, note_view, seated, spent_view, worker_view}
 
 pub note_pages : (l : Layout) (words : List ℕ) (s : Shared) (v : View) → FitsPages l words s v
@@ -30,7 +31,11 @@ note_pages l words s v f = record {
     known = λ x has. absurd (in_none x has);
     heads = λ p at x has. absurd at;
     moved = λ x has. absurd (in_none x has);
-    none = (refl, refl, refl);
+    sealed = λ p at. absurd at;
+    inners = λ x has. absurd (in_none x has);
+    new_leaves = λ x has. absurd (in_none x has);
+    new_inners = λ x has. absurd (in_none x has);
+    none = (refl, refl, refl, refl, refl, refl, refl);
   };
 }
 
@@ -52,7 +57,11 @@ spent_pages l words s = record {
     known = λ x has. absurd (in_none x has);
     heads = λ p at x has. absurd at;
     moved = λ x has. absurd (in_none x has);
-    none = (refl, refl, refl);
+    sealed = λ p at. absurd at;
+    inners = λ x has. absurd (in_none x has);
+    new_leaves = λ x has. absurd (in_none x has);
+    new_inners = λ x has. absurd (in_none x has);
+    none = (refl, refl, refl, refl, refl, refl, refl);
   };
 }
 
@@ -76,9 +85,20 @@ worker_pages l words s v worker bare f = record {
     known = λ x has. absurd (in_none x has);
     heads = λ p at x has. absurd (in_none x has);
     moved = λ x has. absurd (in_none x has);
+    sealed = λ p at t has. absurd (true≢false (sym has));
+    inners = λ x has. absurd (in_none x has);
+    new_leaves = λ x has. absurd (in_none x has);
+    new_inners = λ x has. absurd (in_none x has);
     none = tt;
   };
 }
+
+-- a pass without a seat has nothing of trees, where it had nothing before
+no_trees : (role : Role) (v w : View) → (HasNoTreePages v → HasNoTreePages w) → HasNoTrees role v → HasNoTrees role w
+no_trees Keeper v w go h = tt
+no_trees (Worker k) v w go h = tt
+no_trees Note v w go h = go h
+no_trees Spent v w go h = go h
 
 -- the keeper's view, with other workers seated
 pub seated_pages : (l : Layout) (words : List ℕ) (s : Shared) (v : View) (worker : ℕ)
@@ -97,7 +117,16 @@ seated_pages l words s v worker more f = record {
   shuts = f.shuts;
   none = f.none;
   keepers = λ keeper x few unmade. f.keepers keeper x few (more x unmade);
-  treed = record { known = f.treed.known; heads = f.treed.heads; moved = f.treed.moved; none = f.treed.none };
+  treed = record {
+    known = f.treed.known;
+    heads = f.treed.heads;
+    moved = f.treed.moved;
+    sealed = f.treed.sealed;
+    inners = f.treed.inners;
+    new_leaves = f.treed.new_leaves;
+    new_inners = f.treed.new_inners;
+    none = no_trees v.role v (seated worker v) (λ h. h) f.treed.none;
+  };
 }
 
 -- a view that took in what another one has seen
@@ -116,7 +145,16 @@ learned_pages l words s v u f g = record {
   shuts = f.shuts;
   none = f.none;
   keepers = f.keepers;
-  treed = record { known = f.treed.known; heads = f.treed.heads; moved = f.treed.moved; none = f.treed.none };
+  treed = record {
+    known = f.treed.known;
+    heads = f.treed.heads;
+    moved = f.treed.moved;
+    sealed = f.treed.sealed;
+    inners = f.treed.inners;
+    new_leaves = f.treed.new_leaves;
+    new_inners = f.treed.new_inners;
+    none = no_trees v.role v (learned v u) (λ h. h) f.treed.none;
+  };
 }
 
 -- and the keeper's, that took in a worker's
@@ -136,5 +174,14 @@ ended_pages l words s v u keepers f g = record {
   shuts = f.shuts;
   none = f.none;
   keepers = keepers;
-  treed = record { known = f.treed.known; heads = f.treed.heads; moved = f.treed.moved; none = f.treed.none };
+  treed = record {
+    known = f.treed.known;
+    heads = f.treed.heads;
+    moved = f.treed.moved;
+    sealed = f.treed.sealed;
+    inners = f.treed.inners;
+    new_leaves = f.treed.new_leaves;
+    new_inners = f.treed.new_inners;
+    none = no_trees v.role v (ended v u) (λ h. h) f.treed.none;
+  };
 }

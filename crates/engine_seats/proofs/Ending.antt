@@ -85,6 +85,7 @@ ends l id other v u worker is theirs done = joins l id other v u (ended v u) spe
             ];
             records = f.records;
             kept = f.kept;
+            versions = f.versions;
             loaded = f.loaded;
             own = λ q here.
                 let o = f.own q here in record {

@@ -88,6 +88,8 @@ advances laws l slots id me is few =
       clock = wr.here ∙ y-is;
       decisions = wr.others 1 (λ e. absurd (omega arith)) ∙ h.shown.decisions;
       places = refl;
+      history = ([], append-nil m.history);
+      decided = ([], append-nil m.decided);
     } in
     let pages = first_kept l words words' views s id v next active b ten in
     commit_stride laws l words views s id v active b 0 (λ n. (n + 2 ^ 40) % 2 ^ 64) Advance next w (λ v _ w. w ≡ advanced v) record {
@@ -121,11 +123,19 @@ advances laws l slots id me is few =
         mine_own = f.mine_own;
         records = f.records;
         kept = f.kept;
+        versions = f.versions;
         loaded = tt;
         tried = b.own.tried;
         took = λ t has. let held = b.own.took t has in (
           held.0,
-          record { spot = held.1.spot; home = held.1.home; own = held.1.own; number = held.1.number },
+          record {
+            spot = held.1.spot;
+            home = held.1.home;
+            own = held.1.own;
+            absent = held.1.absent;
+            number = held.1.number;
+            bit = held.1.bit;
+          },
         );
         locked = b.own.locked;
         low = omega arith;
@@ -139,7 +149,7 @@ advances laws l slots id me is few =
       deals = rests_low l words views s id v b words' w
           record { role = refl; ways = refl; took = refl; gone = refl; touched = refl; blamed = refl; locks = refl } refl
           (λ j low. wr.others j (λ e. absurd (omega arith)));
-      now = record { within = pages.within; ways = pages.ways; drafts = pages.drafts; copies = pages.copies; blanks = pages.blanks; resident = pages.resident; leads = pages.leads; fills = pages.fills; known = pages.known; shuts = pages.shuts; heads = pages.heads; moved = pages.moved };
+      now = record { within = pages.within; ways = pages.ways; drafts = pages.drafts; copies = pages.copies; blanks = pages.blanks; resident = pages.resident; leads = pages.leads; fills = pages.fills; known = pages.known; shuts = pages.shuts; heads = pages.heads; moved = pages.moved; sealed = pages.sealed; inners = pages.inners; new_leaves = pages.new_leaves; new_inners = pages.new_inners };
       frame = words_same l words words' s p (λ j low. wr.others j (λ e. absurd (omega arith)));
     } refl)
 
@@ -193,6 +203,8 @@ marks_word laws l slots id me worker n mark is resting can small n-is =
       clock = wr.others 0 (λ e. absurd (omega arith)) ∙ h.shown.clock;
       decisions = wr.others 1 (λ e. absurd (omega arith)) ∙ h.shown.decisions;
       places = refl;
+      history = ([], append-nil m.history);
+      decided = ([], append-nil m.decided);
     } in
     let pages = first_kept l words words' views s id v m active b ten in
     commit_stride laws l words views s id v active b at (λ _. n) (SetMark mark) m w (λ v _ w. w ≡ marked mark v) record {
@@ -240,6 +252,7 @@ marks_word laws l slots id me worker n mark is resting can small n-is =
             mine_own = f.mine_own;
             records = f.records;
             kept = f.kept;
+            versions = f.versions;
             loaded = tt;
             tried = b.own.tried;
             took = b.own.took;
@@ -255,7 +268,7 @@ marks_word laws l slots id me worker n mark is resting can small n-is =
       deals = rests_low l words views s id v b words' w
           record { role = refl; ways = refl; took = refl; gone = refl; touched = refl; blamed = refl; locks = refl } refl
           (λ j low. wr.others j (λ e. absurd (omega arith)));
-      now = record { within = pages.within; ways = pages.ways; drafts = pages.drafts; copies = pages.copies; blanks = pages.blanks; resident = pages.resident; leads = pages.leads; fills = pages.fills; known = pages.known; shuts = pages.shuts; heads = pages.heads; moved = pages.moved };
+      now = record { within = pages.within; ways = pages.ways; drafts = pages.drafts; copies = pages.copies; blanks = pages.blanks; resident = pages.resident; leads = pages.leads; fills = pages.fills; known = pages.known; shuts = pages.shuts; heads = pages.heads; moved = pages.moved; sealed = pages.sealed; inners = pages.inners; new_leaves = pages.new_leaves; new_inners = pages.new_inners };
       frame = words_same l words words' s p (λ j low. wr.others j (λ e. absurd (omega arith)));
     } refl)
 
@@ -295,6 +308,7 @@ meets laws l slots id me worker active few =
             mine_own = f.mine_own;
             records = f.records;
             kept = f.kept;
+            versions = f.versions;
             loaded = f.loaded;
             tried = b.own.tried;
             took = b.own.took;
@@ -316,6 +330,10 @@ meets laws l slots id me worker active few =
         known = b.pages.treed.known;
         heads = b.pages.treed.heads (seat_number v.role) (is_at v.role active);
         moved = b.pages.treed.moved;
+        sealed = b.pages.treed.sealed (seat_number v.role) (is_at v.role active);
+        inners = b.pages.treed.inners;
+        new_leaves = b.pages.treed.new_leaves;
+        new_inners = b.pages.treed.new_inners;
         shuts = b.pages.shuts (seat_number v.role) (is_at v.role active);
       };
       deals = rests_all l words views s id v b w

@@ -50,10 +50,16 @@ note_view v = record {
   known = [];
   heads = [];
   moved = [];
+  sealed = [];
+  inners = [];
+  new_leaves = [];
+  new_inners = [];
+  versions = [];
   pages = v.pages;
   leads = [];
   fills = [];
   shuts = [];
+  swung = [];
   kept = [];
   drops = [];
   looked = [];
@@ -94,10 +100,16 @@ spent_view = record {
   known = [];
   heads = [];
   moved = [];
+  sealed = [];
+  inners = [];
+  new_leaves = [];
+  new_inners = [];
+  versions = [];
   pages = [];
   leads = [];
   fills = [];
   shuts = [];
+  swung = [];
   kept = [];
   drops = [];
   looked = [];
@@ -148,11 +160,12 @@ worker_of (Worker w) = w
 worker_of Note = 0
 worker_of Spent = 0
 
--- the pass has no transaction under way, and no slot
+-- the pass has no transaction under way, no slot, and no header locked
 pub record IsDone (v : View) : Type 0 where
   pub due : v.due ≡ false
   pub resting : IsResting v.seat
   pub grip : v.grip ≡ bare_grip
+  pub heads : v.heads ≡ []
 
 -- one more, in order of number
 abbrev pub put_in : Attempt → List Attempt → List Attempt

@@ -23,7 +23,7 @@ use Rattle.wire_form.specs.Leaves.{array_leaf, value_in, word_in}
 use Rattle.wire_form.specs.Words.{number_in}
 use Rattle.snapshot_store.specs.declared.place.PagePlace.{PagePlace}
 use Rattle.snapshot_store.specs.ArrayPages.{array_found}
-use Rattle.snapshot_store.specs.Content.{format_of, RootStands}
+use Rattle.snapshot_store.specs.Content.{format_of, IsPageOf, RootStands}
 use Rattle.snapshot_store.specs.Places.{places_below, words_at}
 use Rattle.snapshot_store.specs.TreePages.{Record, node_of, records_of}
 use Rattle.commit_core.specs.Keys.{content_at, nothing, opening_number}
@@ -40,6 +40,7 @@ use Rattle.engine_rule.proofs.ReadLists.{at_mapped}
 use Rattle.engine_rule.proofs.ReadOpens.{each_page}
 use Rattle.engine_pages.specs.Pages.{decl_of, is_array, is_array_kind}
 use Rattle.page_opening.proofs.Named.{Named, each_named}
+use Rattle.page_opening.proofs.TreeRecords.{HasNumber, stands_right, tree_numbered}
 
 -- a declared storage is found by its id
 pub declared_once : (decls : List Decl) → AreDistinct (map id_of decls) → (d : Decl) → Contains decls d
@@ -56,15 +57,15 @@ declared_once (x ∷ decls) distinct d has = elim (in_cases d x decls has) [
 ]
 
 module _ (decls : List Decl) where
-  -- The draw fits its bits; in an array just those keys have no value whose number is that of a record which was never
-  -- written.
+  -- The draw fits its bits; a key has no value whose number is that of a record which was never written, and in an
+  -- array just such a key has none.
   pub record IsGood (k : Key) (c : Content) : Type 0 where
     pub draw : c.number.draw < 2 ^ 40
     pub never : is_array decls k.storage ≡ true → c.value ≡ None → c.number ≡ opening_number
-    pub blank : is_array decls k.storage ≡ true → c.number ≡ opening_number → c.value ≡ None
+    pub blank : c.number ≡ opening_number → c.value ≡ None
 
   good_nothing : (k : Key) → IsGood k nothing
-  good_nothing k = record { draw = omega arith; never = λ kind none. refl; blank = λ kind is. refl }
+  good_nothing k = record { draw = omega arith; never = λ kind none. refl; blank = λ is. refl }
 
   no_value : (v : ℕ) → Some v ≡ None → ⊥
   no_value v e = absurd (cc)
@@ -88,7 +89,7 @@ module _ (decls : List Decl) where
     record {
       draw = omega arith;
       never = λ kind none. absurd (no_value value none);
-      blank = λ kind same. absurd (not_blank number is same);
+      blank = λ same. absurd (not_blank number is same);
     },
     tt,
   )
@@ -101,16 +102,16 @@ module _ (decls : List Decl) where
       all_append GoodEntry (array_entries id low words i) (entry_of (key_at id low i) (array_found number value))
       (good_array id low words i) (good_found (key_at id low i) number value (eqb number 0) refl)
 
-  good_tree : (id : ℕ) → is_array decls id ≡ false → (records : List Record)
+  good_tree : (id : ℕ) → is_array decls id ≡ false → (records : List Record) → AllByRecursion HasNumber records
       → AllByRecursion GoodEntry (tree_entries id records)
-  good_tree id kind [] = tt
-  good_tree id kind (r ∷ records) = (
+  good_tree id kind [] all = tt
+  good_tree id kind (r ∷ records) all = (
     record {
       draw = omega arith;
       never = λ array none. absurd (true≢false (sym array ∙ kind));
-      blank = λ array same. absurd (true≢false (sym array ∙ kind));
+      blank = λ same. absurd (all.0 same);
     },
-    good_tree id kind records,
+    good_tree id kind records all.1,
   )
 
   -- ---- pages
@@ -121,16 +122,17 @@ module _ (decls : List Decl) where
   GoodPage (Children span children) = ⊤
 
   module _ (distinct : AreDistinct (map id_of decls)) where
-    good_leaf : (decl : Decl) (words : List ℕ) (p : PagePlace) → Contains decls decl
-        → AllByRecursion GoodEntry (leaf_entries decl words p)
-    good_leaf (Array id size) words p has = good_array id p.low words (p.high + 1 - p.low)
-    good_leaf (Tree id) words p has =
+    good_leaf : (decl : Decl) (words : List ℕ) (p : PagePlace) → Contains decls decl → 0 < p.number
+        → IsPageOf decl p words → AllByRecursion GoodEntry (leaf_entries decl words p)
+    good_leaf (Array id size) words p has some right = good_array id p.low words (p.high + 1 - p.low)
+    good_leaf (Tree id) words p has some right =
         good_tree id (ap is_array_kind (declared_once decls distinct (Tree id) has)) (records_of (node_of words))
+        (tree_numbered p words some right)
 
     good_page : (places : List Named) (decl : Decl) (words : List ℕ) (p : PagePlace) (below : List PagePlace)
-        → Contains decls decl → GoodPage (page_from places decl words p below)
-    good_page places decl words p [] has = good_leaf decl words p has
-    good_page places decl words p (q ∷ below) has = tt
+        → Contains decls decl → 0 < p.number → IsPageOf decl p words → GoodPage (page_from places decl words p below)
+    good_page places decl words p [] has some right = good_leaf decl words p has some right
+    good_page places decl words p (q ∷ below) has some right = tt
 
   -- ---- keys
 
@@ -174,7 +176,8 @@ module _ (decls : List Decl) where
             let named = each_named pages ss stand e at in
             let has : Contains decls e.0 =
             subst (λ (d : Decl). Contains decls d) (sym named.led.same) (declared named.of named.has) in
-            good_page distinct places e.0 (words_at pages e.1) e.1 (places_below (format_of e.0) pages e.1) has) tt)
+            good_page distinct places e.0 (words_at pages e.1) e.1 (places_below (format_of e.0) pages e.1) has
+            named.led.some (stands_right pages e.0 named.led.depth e.1 named.led.stands)) tt)
             (child_of roots k) (child_of roots k) k)
         | inr none ↦ subst (IsGood k) (sym none.0) (good_nothing k)
       ]

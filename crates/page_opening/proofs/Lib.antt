@@ -1,4 +1,5 @@
 pub mod Named
+pub mod TreeRecords
 pub mod Contents
 pub mod Roots
 pub mod Filled

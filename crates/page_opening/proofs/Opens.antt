@@ -152,7 +152,7 @@ module _ (starts : StartsSound) (l : Layout) (words : List ℕ) (can : CanMake l
     first = record { draw = can.opens.number.most_draw; epoch = can.opens.number.most_epoch };
     begun = let some = can.opens.number.some_epoch in omega (arith, some);
     declared = can.opens.declared;
-    blank = record { never = λ k kind none. (good k).never kind none; blank = λ k kind is. (good k).blank kind is };
+    blank = record { never = λ k kind none. (good k).never kind none; blank = λ k is. (good k).blank is };
     small = λ k. record {
       draw = (good k).draw;
       epoch = let most = can.opens.number.most_epoch in omega (arith, epoch_low k, most);

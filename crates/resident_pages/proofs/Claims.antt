@@ -59,7 +59,7 @@ claims_page laws l slots id me n keeper same room =
         let k = get_or words published_at 0 in
         let w : View = glanced published_at k v in
         look_stride l words views s id v active b published_at (λ k. k) w (λ v k w. HasClaimed n v k w) refl
-        record { layout = refl; role = refl; made = refl; past = refl; parked = refl; epoch = refl; mine = refl; draws = refl; due = refl; seat = refl; checked = refl; took = refl; loaded = refl; met = refl; heard = refl; history = refl; decided = refl }
+        record { layout = refl; role = refl; made = refl; past = refl; parked = refl; epoch = refl; mine = refl; draws = refl; due = refl; seat = refl; checked = refl; took = refl; loaded = refl; met = refl; heard = refl; history = refl; decided = refl; versions = refl }
         refl
         record {
           within = b.pages.within;
@@ -73,6 +73,10 @@ claims_page laws l slots id me n keeper same room =
           known = b.pages.treed.known;
           heads = b.pages.treed.heads (seat_number v.role) (is_at v.role active);
           moved = b.pages.treed.moved;
+          sealed = b.pages.treed.sealed (seat_number v.role) (is_at v.role active);
+          inners = b.pages.treed.inners;
+          new_leaves = b.pages.treed.new_leaves;
+          new_inners = b.pages.treed.new_inners;
           shuts = b.pages.shuts (seat_number v.role) (is_at v.role active);
         }
         (rests_all l words views s id v b w
@@ -91,7 +95,7 @@ claims_page laws l slots id me n keeper same room =
         let ws : List ℕ = tab at 64 in
         let w : View = claimed n ws k v in
         look_stride l words views s id v active b published_at (λ k. k) w (λ v k w. HasClaimed n v k w) refl
-        record { layout = refl; role = refl; made = refl; past = refl; parked = refl; epoch = refl; mine = refl; draws = refl; due = refl; seat = refl; checked = refl; took = refl; loaded = refl; met = refl; heard = refl; history = refl; decided = refl }
+        record { layout = refl; role = refl; made = refl; past = refl; parked = refl; epoch = refl; mine = refl; draws = refl; due = refl; seat = refl; checked = refl; took = refl; loaded = refl; met = refl; heard = refl; history = refl; decided = refl; versions = refl }
         refl
         record {
           within = b.pages.within;
@@ -115,6 +119,10 @@ claims_page laws l slots id me n keeper same room =
           known = b.pages.treed.known;
           heads = b.pages.treed.heads (seat_number v.role) (is_at v.role active);
           moved = b.pages.treed.moved;
+          sealed = b.pages.treed.sealed (seat_number v.role) (is_at v.role active);
+          inners = b.pages.treed.inners;
+          new_leaves = b.pages.treed.new_leaves;
+          new_inners = b.pages.treed.new_inners;
           shuts = b.pages.shuts (seat_number v.role) (is_at v.role active);
         }
         (rests_all l words views s id v b w

@@ -33,6 +33,7 @@ use Rattle.engine_pages.specs.Pages.{decl_of, AreLaidOut}
 use Rattle.engine_pages.specs.Resident.{Published, HasMore}
 use Rattle.engine_pages.specs.Rule.{Shared, joint_of, IsLead, IsWithin, Shows}
 use Rattle.engine_pages.specs.Views.{IsActive, seat_number}
+use Rattle.engine_pages.specs.Words.{IsOverwritten}
 use Rattle.engine_pages.proofs.Dealing.{rests}
 use Rattle.engine_pages.proofs.Joint.{Laws, stays_none}
 use Rattle.engine_pages.proofs.Looking.{seen_fits}
@@ -43,6 +44,7 @@ use Rattle.engine_pages.proofs.Records.{laid_at}
 use Rattle.engine_pages.proofs.Seats.{is_at}
 use Rattle.engine_pages.proofs.SlotFacts.{head_same, moved_same}
 use Rattle.engine_pages.proofs.SlotSteps.{own_pages, trees_same}
+use Rattle.engine_pages.proofs.TreeFacts.{inner_at, new_leaf_at, new_inner_at, sealed_at, same_fence}
 use Rattle.engine_pages.proofs.Turns.{Begins, Stride, allows_at, marks_stay, tried_goes, written}
 use Rattle.engine_pages.proofs.Words.{page_shown, tree_shown}
 use Rattle.resident_pages.specs.Extends.{CanExtend, HasExtended, KnowsAll, extended, lead_of}
@@ -256,9 +258,10 @@ module _ (laws : Laws) (l : Layout) (words : List ℕ) (views : List View) (s : 
                 (page_named r.places (r.places ++ names) words l.slots u (place_of m.places) d (page_of d u) more.places
                 (h.shown.pages u less now none));
             treed = λ u g less now tree.
-                tree_shown (r.places ++ names) words words' l.slots u g (place_of m.places) (place_of m.places) d e (page_of d u)
-                (λ j low. page u j) (λ j. refl) (λ j. refl) refl
-                (tree_named r.places (r.places ++ names) words l.slots u g (place_of m.places) d (page_of d u) more.places
+                tree_shown (r.places ++ names) words words' l.slots u g (IsOverwritten m) (IsOverwritten m) (place_of m.places)
+                (place_of m.places) d e (page_of d u)
+                (λ j low. page u j) (λ j. refl) (λ i q over. over) (λ j. refl) refl
+                (tree_named r.places (r.places ++ names) words l.slots u g (IsOverwritten m) (place_of m.places) d (page_of d u) more.places
                 (h.shown.treed u g less now tree));
             resident = λ n i some most less. high (snap_at l.slots n i) (omega arith) ∙ shows_new n i some most less;
           };
@@ -269,7 +272,7 @@ module _ (laws : Laws) (l : Layout) (words : List ℕ) (views : List View) (s : 
           drawn = λ a has. inl has;
           tried = tried_goes m m s.seats p v.seat w.seat b.own.seat refl refl refl (inl refl) h.tried;
           fits = seen_fits l m s.seats v w active b.fits refl refl refl refl refl refl refl refl refl refl refl b.fits.loaded refl refl
-              (front_refl v.history) (front_refl v.decided) b.fits.history b.fits.decided;
+              b.fits.versions (front_refl v.history) (front_refl v.decided) b.fits.history b.fits.decided;
           role = refl;
           made = refl;
           mine = λ i. refl;
@@ -356,12 +359,25 @@ module _ (laws : Laws) (l : Layout) (words : List ℕ) (views : List View) (s : 
                 };
             heads = λ z has.
                 let was = b.pages.treed.heads p (is_at v.role active) z has in
-                head_same l words words' s.trees d e p v.grip.holds v.grip.holds z was.held refl refl refl
+                head_same l words words' s.trees d e p z refl refl
                 (λ j less. page z.slot j) was;
             moved = λ z has.
                 let was = b.pages.treed.moved z has in
                 moved_same l words words' s.trees d e v.grip.holds v.grip.holds z was.held refl refl
                 (λ j less. page z.slot j) was;
+            sealed = λ t has.
+                let was = b.pages.treed.sealed p (is_at v.role active) t has in sealed_at l d e p t refl refl was;
+            inners = λ z has.
+                let was = b.pages.treed.inners z has in
+                inner_at l s.trees s.trees d e v.grip.holds v.grip.holds z was.held was.known refl
+                (same_fence s.trees s.trees z.slot refl) (λ j child. refl) was;
+            new_leaves = λ z has.
+                let was = b.pages.treed.new_leaves z has in
+                new_leaf_at l m m d e s.trees s.trees v.grip.made v.grip.made z was.made refl refl refl refl (λ i. refl) was;
+            new_inners = λ z has.
+                let was = b.pages.treed.new_inners z has in
+                new_inner_at l d e s.trees s.trees r r' v.grip.made v.grip.made z was.made refl refl refl
+                (λ j free. refl) more was;
           };
           frame = words_same l words words' s p (λ j low. high j (omega arith));
         };

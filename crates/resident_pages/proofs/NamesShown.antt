@@ -3,6 +3,8 @@ use Rattle.std.proofs.Common.{ℕ, ◌+◌, List}
 use Rattle.lists.specs.Fronts.{IsFront}
 use Rattle.homes.specs.declared.places.Spot.{Spot}
 use Rattle.serial_model.specs.declared.decl.Decl.{Decl}
+use Rattle.serial_model.specs.declared.key.Key.{Key}
+use Rattle.serial_model.specs.declared.number.Number.{Number}
 use Rattle.snapshot_store.specs.declared.place.PagePlace.{PagePlace}
 use Rattle.commit_core.specs.declared.place.Place.{Place}
 use Rattle.drop_core.specs.declared.table.Page.{Page}
@@ -36,19 +38,21 @@ page_named xs ys words slots t places d (Inner n) front h = (
 )
 page_named xs ys words slots t places d Split front h = h
 
-pub tree_named : (xs ys : List (Decl × PagePlace)) (words : List ℕ) (slots t : ℕ) (f : Fenced) (places : Spot → Place)
-    (d : Table) (page : Page) → IsFront xs ys → ShowsTree xs words slots t f places d page
-    → ShowsTree ys words slots t f places d page
-tree_named xs ys words slots t f places d Blank front h = h
-tree_named xs ys words slots t f places d (Leaf keys) front h = h
-tree_named xs ys words slots t f places d (Inner n) front h = (
+pub tree_named : (xs ys : List (Decl × PagePlace)) (words : List ℕ) (slots t : ℕ) (f : Fenced)
+    (over : Key → Number → Type 0) (places : Spot → Place) (d : Table) (page : Page) → IsFront xs ys
+    → ShowsTree xs words slots t f over places d page → ShowsTree ys words slots t f over places d page
+tree_named xs ys words slots t f over places d Blank front h = h
+tree_named xs ys words slots t f over places d (Leaf keys) front h = h
+tree_named xs ys words slots t f over places d (Inner n) front h = (
   h.0,
   h.1,
   h.2,
   h.3,
   h.4,
+  h.5,
   (λ j less.
-      let was = h.5 j less in
+      let was = h.6 j less in
       (pointer_named xs ys words (page_at slots t (4 + j)) (pointer_of d (at_index t j)) front was.0, was.1)),
+  h.7,
 )
-tree_named xs ys words slots t f places d Split front h = h
+tree_named xs ys words slots t f over places d Split front h = h

@@ -18,6 +18,7 @@ use Rattle.engine_pages.specs.declared.view.View.{View}
 use Rattle.engine_pages.specs.Layout.{root_at, slot_at, page_at, snap_at}
 use Rattle.engine_pages.specs.Rule.{joint_of, IsFilled, Shows}
 use Rattle.engine_pages.specs.Views.{IsActive, seat_number}
+use Rattle.engine_pages.specs.Words.{IsOverwritten}
 use Rattle.engine_pages.proofs.Dealing.{rests}
 use Rattle.engine_pages.proofs.Joint.{Laws, stays_none}
 use Rattle.engine_pages.proofs.Looking.{seen_fits}
@@ -91,8 +92,9 @@ fills_page laws l slots id me x i value active has few long =
               page_shown s.resident.places words words' l.slots u (place_of m.places) (place_of m.places) d d (page_of d u)
               (λ j low. page u j less low) (λ j. refl) (λ j. refl) (h.shown.pages u less now none);
           treed = λ u f less now tree.
-              tree_shown s.resident.places words words' l.slots u f (place_of m.places) (place_of m.places) d d (page_of d u)
-              (λ j low. page u j less low) (λ j. refl) (λ j. refl) refl (h.shown.treed u f less now tree);
+              tree_shown s.resident.places words words' l.slots u f (IsOverwritten m) (IsOverwritten m) (place_of m.places)
+              (place_of m.places) d d (page_of d u)
+              (λ j low. page u j less low) (λ j. refl) (λ k i over. over) (λ j. refl) refl (h.shown.treed u f less now tree);
           resident = λ k j some most less.
               wr.others (snap_at l.slots k j) (λ q. omega arith) ∙ h.shown.resident k j some most less;
         };
@@ -103,7 +105,7 @@ fills_page laws l slots id me x i value active has few long =
         drawn = λ a has. inl has;
         tried = tried_goes m m s.seats p v.seat w.seat b.own.seat refl refl refl (inl refl) h.tried;
         fits = seen_fits l m s.seats v w active b.fits refl refl refl refl refl refl refl refl refl refl refl b.fits.loaded refl refl
-            (front_refl v.history) (front_refl v.decided) b.fits.history b.fits.decided;
+            b.fits.versions (front_refl v.history) (front_refl v.decided) b.fits.history b.fits.decided;
         role = refl;
         made = refl;
         mine = λ k. refl;
@@ -165,12 +167,16 @@ fills_page laws l slots id me x i value active has few long =
           shuts = b.pages.shuts p (is_at v.role active);
           heads = λ z has.
               let was = b.pages.treed.heads p (is_at v.role active) z has in
-              head_same l words words' s.trees d d p v.grip.holds v.grip.holds z was.held refl refl refl
+              head_same l words words' s.trees d d p z refl refl
               (λ j less. page z.slot j was.within less) was;
           moved = λ z has.
               let was = b.pages.treed.moved z has in
               moved_same l words words' s.trees d d v.grip.holds v.grip.holds z was.held refl refl
               (λ j less. page z.slot j was.within less) was;
+          sealed = b.pages.treed.sealed p (is_at v.role active);
+          inners = b.pages.treed.inners;
+          new_leaves = b.pages.treed.new_leaves;
+          new_inners = b.pages.treed.new_inners;
         };
         frame = record {
           drafts = λ u less unmade owned j low. page u j less low;

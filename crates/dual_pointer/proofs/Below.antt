@@ -70,23 +70,24 @@ find_none pages (suc d) key low high =
 -- ---- the child with a key
 
 -- what is found below an interior page is what is found below the child with the key
-kids_agree : (d : Table) (places : List (Decl × PagePlace)) (pages : List (List ℕ)) (decl : Decl) (id depth low high : ℕ)
-    (qs : List PagePlace) (k : Key) → id_of decl ≡ id → Cover low high qs → k.storage ≡ id → low ≤ k.key → k.key ≤ high
+pub kids_agree : (d : Table) (places : List (Decl × PagePlace)) (decl : Decl) (id low high : ℕ)
+    (qs : List PagePlace) (k : Key) (f : PagePlace → Option Found) → id_of decl ≡ id → Cover low high qs
+    → k.storage ≡ id → low ≤ k.key → k.key ≤ high
     → ((q : PagePlace) → Contains qs q → in_span (span_of id q) k ≡ true
-    → page_content (snap_home d (name_of places decl q) k) ≡ found_content (find array_format pages depth k.key q))
+    → page_content (snap_home d (name_of places decl q) k) ≡ found_content (f q))
     → page_content (snap_home d (child_of (children_at places decl qs) k) k)
-    ≡ found_content (at_key k.key (find array_format pages depth k.key) qs)
-kids_agree d places pages decl id depth low high [] k same cover storage from to each = absurd (omega (arith, cover, from, to))
-kids_agree d places pages decl id depth low high (q ∷ qs) k same cover storage from to each =
+    ≡ found_content (at_key k.key f qs)
+kids_agree d places decl id low high [] k f same cover storage from to each = absurd (omega (arith, cover, from, to))
+kids_agree d places decl id low high (q ∷ qs) k f same cover storage from to each =
     by_test (nat_le k.key q.high) refl
-    (λ above. kids_agree d places pages decl id depth (q.high + 1) high qs k same cover.3 storage above to
+    (λ above. kids_agree d places decl id (q.high + 1) high qs k f same cover.3 storage above to
     (λ z has. each z (in_tail z q qs has)))
   where
     by_test : (c : Bool) → nat_le k.key q.high ≡ c
         → (q.high + 1 ≤ k.key → page_content (snap_home d (child_of (children_at places decl qs) k) k)
-        ≡ found_content (at_key k.key (find array_format pages depth k.key) qs))
+        ≡ found_content (at_key k.key f qs))
         → page_content (snap_home d (child_of (children_at places decl (q ∷ qs)) k) k)
-        ≡ found_content (at_key k.key (find array_format pages depth k.key) (q ∷ qs))
+        ≡ found_content (at_key k.key f (q ∷ qs))
     by_test true under rest =
         let first = cover.0 in
         let within : in_span (span_of id q) k ≡ true =
@@ -94,13 +95,13 @@ kids_agree d places pages decl id depth low high (q ∷ qs) k same cover storage
         let here : in_span (span_of (id_of decl) q) k ≡ true = ap (λ (i : ℕ). in_span (span_of i q) k) same ∙ within in
         ap (λ (c : Bool). page_content (snap_home d (cond c (name_of places decl q) (child_of (children_at places decl qs) k)) k)) here
         ∙ (each q (in_head q qs) within
-        ∙ sym (ap (λ (c : Bool). found_content (cond c (find array_format pages depth k.key q) (at_key k.key (find array_format pages depth k.key) qs))) under))
+        ∙ sym (ap (λ (c : Bool). found_content (cond c (f q) (at_key k.key f qs))) under))
     by_test false over rest =
         let above : q.high + 1 ≤ k.key = grind (arith, nat_tests) in
         let out : in_span (span_of (id_of decl) q) k ≡ false = outside (in_span (span_of (id_of decl) q) k) refl in
         ap (λ (c : Bool). page_content (snap_home d (cond c (name_of places decl q) (child_of (children_at places decl qs) k)) k)) out
         ∙ (rest above
-        ∙ sym (ap (λ (c : Bool). found_content (cond c (find array_format pages depth k.key q) (at_key k.key (find array_format pages depth k.key) qs))) over))
+        ∙ sym (ap (λ (c : Bool). found_content (cond c (f q) (at_key k.key f qs))) over))
       where
         outside : (c : Bool) → in_span (span_of (id_of decl) q) k ≡ c → in_span (span_of (id_of decl) q) k ≡ false
         outside false e = e
@@ -171,7 +172,7 @@ module _ (decls : List Decl) (r : Published) (d : Table) (declared : AreDecls de
       let less = at_below r.places there.index (decl, place_for sp number) there.at in let count = h.count in omega arith in
       ap (λ j. page_content (snap_home d j k)) there.is
       ∙ (ap page_content (home_below d h.none down k (suc there.index) (span_of sp.storage (place_for sp number)) (children r.places decl words sp) most page)
-      ∙ (kids_agree d r.places r.pages decl sp.storage depth sp.low sp.high rows k refl
+      ∙ (kids_agree d r.places decl sp.storage sp.low sp.high rows k (find array_format r.pages depth k.key) refl
       (covered rows (filled words (child_size sp) sp.low 64 (omega arith)) (subst (λ (qs : List PagePlace). Tiles sp.low sp.high qs) below tiles))
       parts.0 parts.1 parts.2
       (λ q has. each q (subst (λ (qs : List PagePlace). Contains qs q) (sym below) has))

@@ -38,13 +38,13 @@ child_low n k (e ∷ more) some down =
 
 -- ---- tests of all pointers
 
-below : (n : ℕ) (test : ℕ → Bool) → ((j : ℕ) → j < n → test j ≡ true) → all_below n test ≡ true
+pub below : (n : ℕ) (test : ℕ → Bool) → ((j : ℕ) → j < n → test j ≡ true) → all_below n test ≡ true
 below zero test each = refl
 below (suc n) test each = and_from (test n) (all_below n test) (each n (omega arith)) (below n test (λ j less. each j (omega arith)))
 
 -- ---- homes
 
-home-self : (h : Home) → same_home h h ≡ true
+pub home-self : (h : Home) → same_home h h ≡ true
 home-self (InSlot x) = same_spot-self x
 home-self (InPage n c) = and_from (eqb n n) _ (eq-eqb n n refl) (content-self c)
 home-self Nowhere = refl

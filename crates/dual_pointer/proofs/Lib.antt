@@ -1,3 +1,4 @@
+pub mod Stands
 pub mod Rows
 pub mod Names
 pub mod SnapWords
@@ -6,6 +7,14 @@ pub mod InnerStands
 pub mod Below
 pub mod FilledPointers
 pub mod PublishPointers
+pub mod InstallFacts
+pub mod CopyInstalls
+pub mod Keyed
+pub mod TreePages
+pub mod TreeBelow
+pub mod LeafInstalls
+pub mod TreeInners
+pub mod InnerInstalls
 pub mod InstallStep
 pub mod Installs
 pub mod Acts

@@ -1,10 +1,10 @@
 -- Names of snapshot pages of arrays: which place has a name, and that it is one alone.
-use Rattle.std.proofs.Common.{◌≡◌, ◌≢◌, inl, inr, ℕ, zero, suc, ◌<◌, Bool, true, false, true≢false, cond, eqb, eqb-true}
+use Rattle.std.proofs.Common.{◌≡◌, ◌≢◌, inl, inr, ℕ, zero, suc, ◌<◌, ◌≤◌, Bool, true, false, true≢false, cond, eqb, eqb-true}
 use Rattle.std.proofs.Common.{eq-eqb, ne_eqb, List, [], ◌∷◌, refl, sym, ap, ◌∙◌, subst, arith, Option, Some, None}
 use Rattle.std.specs.Prelude.{◌&&◌, map}
 use Rattle.std.specs.List.{AllByRecursion, Contains, slice_get}
 use Rattle.lists.specs.Each.{AreDistinct}
-use Rattle.lists.specs.Elements.{in_cases, in_none}
+use Rattle.lists.specs.Elements.{at_below, in_cases, in_none}
 use Rattle.serial_model.specs.declared.decl.Decl.{Decl}
 use Rattle.serial_model.specs.declared.decl.Decl.TheVariants.{Array, Tree}
 use Rattle.serial_model.specs.Decls.{AreDecls}
@@ -27,7 +27,7 @@ not_among a (d ∷ ds) e all has same = elim (in_cases e d ds has) [
 ]
 
 -- a declared storage is the one with its id
-decl_found : (ds : List Decl) (e : Decl) → AreDistinct (map id_of ds) → Contains ds e → decl_of ds (id_of e) ≡ Some e
+pub decl_found : (ds : List Decl) (e : Decl) → AreDistinct (map id_of ds) → Contains ds e → decl_of ds (id_of e) ≡ Some e
 decl_found [] e distinct has = absurd (in_none e has)
 decl_found (d ∷ ds) e distinct has = elim (in_cases e d ds has) [
   | inl is ↦ subst (λ (y : Decl). decl_of (d ∷ ds) (id_of y) ≡ Some y) is
@@ -116,6 +116,16 @@ named_none decls xs sp number name array none nameless =
     zeroed : (e : Decl) (n : ℕ) → n ≡ 0 → name_of xs e (place_for sp n) ≡ 0
     zeroed e zero none = refl
     zeroed e (suc n) none = absurd (omega (arith, none))
+
+-- a name is that of a page that is published, or 0
+pub low_name : (decls : List Decl) (r : Published) (d : Table) → ArePages decls r d → (z : Span) (k name : ℕ)
+    → IsNamed r.places z k name → name ≤ d.published
+low_name decls r d h z zero name named = let none : name ≡ 0 = named.is in omega arith
+low_name decls r d h z (suc k) name named =
+    let e = named_entry r.places z (suc k) name named (omega arith) in
+    let less = at_below r.places e.index (e.decl, place_for z (suc k)) e.at in
+    let is = e.is in
+    let count = h.count in omega arith
 
 -- ---- the page of an array that has a name
 

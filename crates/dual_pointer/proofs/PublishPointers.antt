@@ -35,7 +35,8 @@ use Rattle.engine_pages.specs.Slots.{published_copy}
 use Rattle.engine_pages.specs.Views.{IsActive, seat_number}
 use Rattle.engine_pages.specs.Words.{ShowsPage, ShowsPointer}
 use Rattle.views.specs.ByNumber.{put_at}
-use Rattle.engine_pages.proofs.Copying.{publish_stride, slot_new, page_new, tree_new, old_copy, old_blank}
+use Rattle.engine_pages.proofs.Copying.{NewPage, publish_stride, slot_new, page_new, tree_new, old_copy, old_blank}
+use Rattle.engine_pages.proofs.Copying.{old_leaf, old_inner}
 use Rattle.engine_pages.proofs.Joint.{Laws}
 use Rattle.engine_pages.proofs.Named.{page_longer}
 use Rattle.engine_pages.proofs.PagesStay.{inner_shape}
@@ -123,19 +124,31 @@ publishes_pointers laws l slots id me x sp n active has cd =
           }),
     ) in
     let copies' : List Copied = record { slot = t; span = sp; page = n } ∷ v.copies in
-    publish_stride laws l words views s id v active b x has (Inner 64) m.places pointers' sound (λ y other. refl) others shows copies' v.blanks
+    let made-page : NewPage l words s t = record {
+      page = Inner 64;
+      places = m.places;
+      pointers = pointers';
+      headers = d.headers;
+      fence = None;
+      filled = sound;
+      other_places = λ y other. refl;
+      other_pointers = others;
+      other_headers = λ u other. refl;
+      shown = shows;
+    } in
+    publish_stride laws l words views s id v active b x has made-page copies' v.blanks v.new_leaves v.new_inners
     (λ z there. elim (in_cases z (record { slot = t; span = sp; page = n }) v.copies there) [
       | inl new ↦
           subst (λ (y : Copied). (put_at s.trees t None y.slot ≡ None) × IsCopy l m (with_slot (record d0 { pages = (t, Inner 64) ∷ d.pages }) t (record (slot_of d t) { state = Shown })) s.resident v.grip.made y) new (
-            tree_new laws l words views s id v active b x has (Inner 64) m.places pointers' sound (λ y other. refl) others shows copies' v.blanks,
+            tree_new laws l words views s id v active b x has made-page copies' v.blanks v.new_leaves v.new_inners,
             record {
               slot = draft.slot;
               made = draft.made;
               state = ap (λ (k : Slot). is_published k.state)
-                  (slot_new laws l words views s id v active b x has (Inner 64) m.places pointers' sound (λ y other. refl) others shows copies' v.blanks);
+                  (slot_new laws l words views s id v active b x has made-page copies' v.blanks v.new_leaves v.new_inners);
               over = record {
                 page =
-                    page_new laws l words views s id v active b x has (Inner 64) m.places pointers' sound (λ y other. refl) others shows copies' v.blanks
+                    page_new laws l words views s id v active b x has made-page copies' v.blanks v.new_leaves v.new_inners
                     ∙ sym (inner_shape sp cd.inner);
                 spans = λ j pointer.
                     let less : j < 64 = below_fan j (sym (ap (λ (y : Page). has_pointer y j) (inner_shape sp cd.inner)) ∙ pointer) in
@@ -150,9 +163,11 @@ publishes_pointers laws l slots id me x sp n active has cd =
                   record { span = refl; slot = refl; free = refl; named = names.named j less };
             },
           )
-      | inr old ↦ old_copy laws l words views s id v active b x has (Inner 64) m.places pointers' sound (λ y other. refl) others shows copies' v.blanks z old
+      | inr old ↦ old_copy laws l words views s id v active b x has made-page copies' v.blanks v.new_leaves v.new_inners z old
     ])
-    (λ u there. old_blank laws l words views s id v active b x has (Inner 64) m.places pointers' sound (λ y other. refl) others shows copies' v.blanks u there)
+    (λ u there. old_blank laws l words views s id v active b x has made-page copies' v.blanks v.new_leaves v.new_inners u there)
+    (old_leaf laws l words views s id v active b x has made-page copies' v.blanks v.new_leaves v.new_inners)
+    (old_inner laws l words views s id v active b x has made-page copies' v.blanks v.new_leaves v.new_inners)
     (λ v _ w. w ≡ published_copy x.slot sp n v) refl)
   where
     not_held : (q : ℕ) → Free ≡ Held q → ⊥

@@ -42,7 +42,7 @@ use Rattle.engine_rule.specs.Pairs.{page_content, pointer_part}
 use Rattle.engine_rule.proofs.PairLaws.{covers-inside, part-right}
 use Rattle.engine_pages.specs.declared.layout.Layout.{Layout}
 use Rattle.engine_pages.specs.declared.view.View.{View}
-use Rattle.engine_pages.specs.Pages.{is_array}
+use Rattle.engine_pages.specs.Pages.{is_array, is_tree}
 use Rattle.engine_pages.specs.Pointers.{HasFollowed, IsPointerAt, StandsFor as HasPage, page_half, slot_half}
 use Rattle.engine_pages.specs.Resident.{IsNamed}
 use Rattle.engine_pages.specs.Rule.{Shared, IsLead, KeptAreRecords, KeptIsLow, Shows}
@@ -59,11 +59,12 @@ use Rattle.engine_pages.proofs.PointerLaws.{PointerIs, pointer_is, open_pointer,
 use Rattle.engine_pages.proofs.Seats.{is_at, own_longer, tried_longer}
 use Rattle.engine_pages.proofs.SlotSteps.{PagesNow}
 use Rattle.engine_pages.proofs.Turns.{Stride, Begins, allows_at, marks_stay, tried_goes, unwritten}
-use Rattle.dual_pointer.specs.Parts.{HasSeenPointer, SawPointer, content_below, saw_pointer}
+use Rattle.dual_pointer.specs.Parts.{HasSeenPointer, SawPointer, content_below, saw_pointer, tree_content}
 use Rattle.dual_pointer.proofs.Acts.{act_stride}
 use Rattle.dual_pointer.proofs.Below.{contents_below}
-use Rattle.dual_pointer.proofs.InstallStep.{way_to}
+use Rattle.dual_pointer.proofs.Stands.{way_to}
 use Rattle.dual_pointer.proofs.Moves.{snap_unspotted, stands_free}
+use Rattle.dual_pointer.proofs.TreeBelow.{tree_contents}
 
 -- ---- what is kept
 
@@ -150,7 +151,10 @@ module _ (l : Layout) (words : List ℕ) (views : List View) (s : Shared) (id : 
 
   held : (y : At) → IsPointerAt v y sp at → holds_slot v.grip (slot_with y) ≡ true
   held (Root r) child = refl
-  held (In y) child = subst (λ t. has_slot v.grip.holds t ≡ true) child.slot (b.pages.ways child.way child.has).held
+  held (In y) (inl child) =
+      subst (λ t. has_slot v.grip.holds t ≡ true) child.slot (b.pages.ways child.way child.has).held
+  held (In y) (inr branch) =
+      subst (λ t. has_slot v.grip.holds t ≡ true) branch.slot (b.pages.ways branch.way branch.has).held
 
   may : is_trying v.seat.stage ≡ false → may_do s (seat_number v.role) (SeePointer x) ≡ true
   may resting =
@@ -179,6 +183,13 @@ module _ (l : Layout) (words : List ℕ) (views : List View) (s : Shared) (id : 
       sym (part-right s.table x k (covered k inside))
       ∙ contents_below l.decls s.resident s.table b.sound.declared b.sound.named b.sound.joint.pages.published.down sp n q.page
       named array k inside
+
+  tree-says : is_tree l.decls sp.storage ≡ true → (k : Key) → in_span sp k ≡ true
+      → found part k ≡ tree_content s.resident.pages sp n k
+  tree-says tree k inside =
+      sym (part-right s.table x k (covered k inside))
+      ∙ tree_contents l.decls s.resident s.table b.sound.declared b.sound.named b.sound.joint.pages.published.down sp n q.page
+      named tree k inside
 
   last : Vouches (last_write l.opening s.story.history s.story.decided) part
   last k has =
@@ -214,6 +225,8 @@ module _ (l : Layout) (words : List ℕ) (views : List View) (s : Shared) (id : 
     covered = covered;
     says = λ array k inside.
         says (ap (λ (y : Layout). is_array y.decls sp.storage) (sym b.own.layout) ∙ array) k inside;
+    tree = λ tree k inside.
+        tree-says (ap (λ (y : Layout). is_tree y.decls sp.storage) (sym b.own.layout) ∙ tree) k inside;
     history = s.story.history;
     decided = s.story.decided;
     drawn = b.fits.history;
@@ -239,6 +252,10 @@ module _ (l : Layout) (words : List ℕ) (views : List View) (s : Shared) (id : 
     known = b.pages.treed.known;
     heads = b.pages.treed.heads (seat_number v.role) (is_at v.role active);
     moved = b.pages.treed.moved;
+    sealed = b.pages.treed.sealed (seat_number v.role) (is_at v.role active);
+    inners = b.pages.treed.inners;
+    new_leaves = b.pages.treed.new_leaves;
+    new_inners = b.pages.treed.new_inners;
     shuts = b.pages.shuts (seat_number v.role) (is_at v.role active);
   }
 
@@ -277,6 +294,7 @@ module _ (l : Layout) (words : List ℕ) (views : List View) (s : Shared) (id : 
               own_longer v.role v.history m.history v.decided m.decided a f.history f.decided (f.mine_own a has);
           records = records_pointed l.decls l.opening m.history v.seat.kept part x q.page refl refl f.records;
           kept = low_pointed m.places v.seat.kept part x refl f.kept;
+          versions = f.versions;
           loaded = tt;
           tried = tried_longer p v.history m.history m.checks v.checked v.mine v.seat.stage f.history b.own.tried;
           took = b.own.took;

@@ -17,9 +17,10 @@ use Rattle.commit_core.specs.Serial.{last_write}
 use Rattle.snapshot_store.specs.ArrayPages.{array_format}
 use Rattle.snapshot_store.specs.Content.{deepest}
 use Rattle.snapshot_store.specs.Places.{find}
+use Rattle.snapshot_store.specs.TreePages.{tree_format}
 use Rattle.engine_pages.specs.declared.view.Lead.{Lead}
 use Rattle.engine_pages.specs.declared.view.View.{View}
-use Rattle.engine_pages.specs.Pages.{is_array}
+use Rattle.engine_pages.specs.Pages.{is_array, is_tree}
 use Rattle.engine_pages.specs.Pointers.{HasFollowed, StandsFor}
 use Rattle.engine_pages.specs.Resident.{found_content, place_for}
 use Rattle.engine_pages.specs.Steps.{glanced, keep_read}
@@ -51,6 +52,10 @@ part_stays v w x sp n part more is = record {
 -- what these pages of an array have for a key below the page with this number, which stands for these keys
 abbrev pub content_below : List (List ℕ) → Span → ℕ → Key → Content
 content_below pages sp n k = found_content (find array_format pages deepest k.key (place_for sp n))
+
+-- the same of pages of a tree
+abbrev pub tree_content : List (List ℕ) → Span → ℕ → Key → Content
+tree_content pages sp n k = found_content (find tree_format pages deepest k.key (place_for sp n))
 
 -- ---- the load
 
@@ -84,6 +89,8 @@ pub record HasSeenPointer (x : At) (sp : Span) (at : ℕ) (v : View) (n : ℕ) (
   pub covered : (k : Key) → in_span sp k ≡ true → covers part k ≡ true
   pub says : is_array v.layout.decls sp.storage ≡ true → (k : Key) → in_span sp k ≡ true
       → found part k ≡ content_below pages sp n k
+  pub tree : is_tree v.layout.decls sp.storage ≡ true → (k : Key) → in_span sp k ≡ true
+      → found part k ≡ tree_content pages sp n k
   pub history : List Attempt
   pub decided : List Number
   pub drawn : IsFront v.history history

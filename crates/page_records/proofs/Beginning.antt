@@ -117,9 +117,9 @@ begins laws l slots id me worker is undue =
           draws = refl;
           fits = own_fits l m m s.seats v w active g.fits (readied_part v worker v.role is g.fits.part) refl refl refl refl refl
               (λ place mark has. has)
-              record { history = c.history; decided = c.decided; heard = c.heard; mine = c.mine; mine_own = c.mine_own; records = c.records; kept = c.kept; loaded = c.loaded; tried = c.tried; took = c.took; locked = c.locked; low = c.low; epoch = c.epoch; past = c.past };
+              record { history = c.history; decided = c.decided; heard = c.heard; mine = c.mine; mine_own = c.mine_own; records = c.records; kept = c.kept; versions = c.versions; loaded = c.loaded; tried = c.tried; took = c.took; locked = c.locked; low = c.low; epoch = c.epoch; past = c.past };
           room = omega (arith, few_wait l words views s h);
-          now = record { within = now.within; ways = now.ways; drafts = now.drafts; copies = now.copies; blanks = now.blanks; resident = now.resident; leads = now.leads; fills = now.fills; known = now.known; shuts = now.shuts; heads = now.heads; moved = now.moved };
+          now = record { within = now.within; ways = now.ways; drafts = now.drafts; copies = now.copies; blanks = now.blanks; resident = now.resident; leads = now.leads; fills = now.fills; known = now.known; shuts = now.shuts; heads = now.heads; moved = now.moved; sealed = now.sealed; inners = now.inners; new_leaves = now.new_leaves; new_inners = now.new_inners };
           deals = record {
             touched = λ q k. omega (arith, takes_same q k v w refl);
             locks = λ k has. inl has;
@@ -151,9 +151,9 @@ begins laws l slots id me worker is undue =
           mine = refl;
           draws = refl;
           fits = own_fits l m m s.seats v w active g.fits g.fits.part refl refl refl refl refl (λ place mark has. has)
-              record { history = c.history; decided = c.decided; heard = c.heard; mine = c.mine; mine_own = c.mine_own; records = c.records; kept = c.kept; loaded = c.loaded; tried = c.tried; took = c.took; locked = c.locked; low = c.low; epoch = c.epoch; past = c.past };
+              record { history = c.history; decided = c.decided; heard = c.heard; mine = c.mine; mine_own = c.mine_own; records = c.records; kept = c.kept; versions = c.versions; loaded = c.loaded; tried = c.tried; took = c.took; locked = c.locked; low = c.low; epoch = c.epoch; past = c.past };
           room = room_same l words views s id v active g 0 (λ n. n) w refl;
-          now = record { within = now.within; ways = now.ways; drafts = now.drafts; copies = now.copies; blanks = now.blanks; resident = now.resident; leads = now.leads; fills = now.fills; known = now.known; shuts = now.shuts; heads = now.heads; moved = now.moved };
+          now = record { within = now.within; ways = now.ways; drafts = now.drafts; copies = now.copies; blanks = now.blanks; resident = now.resident; leads = now.leads; fills = now.fills; known = now.known; shuts = now.shuts; heads = now.heads; moved = now.moved; sealed = now.sealed; inners = now.inners; new_leaves = now.new_leaves; new_inners = now.new_inners };
           deals = rests_all l words views s id v g w
               record { role = refl; ways = refl; took = refl; gone = refl; touched = refl; blamed = refl; locks = refl } refl;
         } (

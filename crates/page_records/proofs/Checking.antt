@@ -1,14 +1,11 @@
 -- A check: a load of the word of a part.
-use Rattle.std.proofs.Common.{◌≡◌, inl, inr, ℕ, ◌+◌, ◌^◌, ◌<◌, Bool, true, false, true≢false, not, cond, eqb}
-use Rattle.std.proofs.Common.{ne_eqb, eqb-true, eq-eqb, List, [], ◌∷◌, ◌++◌, get_or, set, refl, sym, ap, ◌∙◌, subst}
-use Rattle.std.proofs.Common.{arith, Option, Some, None}
-use Rattle.std.specs.Prelude.{MatchBool, is_some, ◌&&◌, ◌||◌}
+use Rattle.std.proofs.Common.{◌≡◌, ◌⊎◌, inl, inr, ℕ, ◌+◌, ◌^◌, ◌<◌, Bool, true, false, true≢false, not, cond, eqb}
+use Rattle.std.proofs.Common.{List, [], ◌∷◌, ◌++◌, get_or, set, refl, sym, ap, ◌∙◌, subst, arith, Option, Some}
+use Rattle.std.specs.Prelude.{MatchBool, ◌&&◌, ◌||◌}
 use Rattle.std.specs.List.{Contains, slice_get, list_all, list_any}
 use Rattle.std.specs.Option.{option_map_or}
-use Rattle.std.proofs.lemmas.Bool.{and_from, and_left, and_parts, cases_Bool, false_from_ne_true}
-use Rattle.std.proofs.lemmas.Bool.Decides.{nat_tests}
+use Rattle.std.proofs.lemmas.Bool.{and_from, and_parts, cases_Bool}
 use Rattle.std.proofs.lemmas.List.{append-nil}
-use mathlib.Core.Bool.{beq}
 use Rattle.atomic_table.specs.Table.{Me, Allows}
 use Rattle.lists.specs.Elements.{in_head, in_tail, any_in, any_is, any_push_new}
 use Rattle.serial_model.specs.declared.key.Key.{Key}
@@ -20,7 +17,8 @@ use Rattle.homes.specs.declared.places.Home.TheVariants.{InSlot}
 use Rattle.homes.specs.declared.places.Spot.{Spot}
 use Rattle.homes.specs.Homes.{has_key, same_key, same_spot}
 use Rattle.homes.specs.Laws.{same_spot-true}
-use Rattle.wire_form.specs.Words.{number_word}
+use Rattle.wire_form.specs.Leaves.{tree_leaf}
+use Rattle.wire_form.specs.Words.{absent_field, at_bit, number_word}
 use Rattle.commit_core.specs.declared.attempt.Attempt.{Attempt}
 use Rattle.commit_core.specs.declared.attempt.Check.{Check}
 use Rattle.commit_core.specs.declared.event.Act.TheVariants.{Check as Look}
@@ -36,24 +34,23 @@ use Rattle.commit_core.specs.CoreState.{attempt_tried, check_of, is_checked, is_
 use Rattle.commit_core.specs.CoreState.{is_trying, last_marked}
 use Rattle.commit_core.specs.Event.{is_unchecked, is_as_seen as is_as_read, stays_as_seen, after_check, ended_check}
 use Rattle.commit_core.specs.Keys.{same_number}
-use Rattle.commit_core.specs.Lemmas.Keys.{same_number-self, same_number-true, same_word-self}
+use Rattle.commit_core.specs.Lemmas.Keys.{same_number-self, same_word-self}
 use Rattle.commit_core.specs.Opening.{Grows}
 use Rattle.commit_core.specs.Parts.{same_word, record_part, is_version, version_of}
-use Rattle.commit_core.specs.Places.{place_of, home_of, stands, holder_is, is_open_to}
+use Rattle.commit_core.specs.Places.{place_of, home_of, holder_is, is_open_to}
 use Rattle.commit_core.specs.Serial.{last_write}
-use Rattle.commit_core.specs.Sound.Homes.{HomeHeld}
 use Rattle.commit_core.specs.Sound.Reads.{TriesKept}
 use Rattle.drop_core.specs.declared.table.Table.{Table}
 use Rattle.engine_pages.specs.declared.layout.Layout.{Layout}
 use Rattle.engine_pages.specs.declared.view.Took.{Took}
 use Rattle.engine_pages.specs.declared.view.View.{View}
-use Rattle.engine_pages.specs.Pages.{Fenced}
-use Rattle.engine_pages.specs.Records.{IsRecordAt}
+use Rattle.engine_pages.specs.Pages.{Fenced, is_array}
+use Rattle.engine_pages.specs.Records.{IsAnyRecordAt}
 use Rattle.engine_pages.specs.Resident.{Published}
-use Rattle.engine_pages.specs.Rule.{Shared, has_word, KeptAreRecords, KeptIsLow, IsTrying, Tried, Shows}
+use Rattle.engine_pages.specs.Rule.{Shared, absence, has_word, IsBitAt, KeptAreRecords, KeptIsLow, IsTrying, Tried, Shows}
 use Rattle.engine_pages.specs.Touches.{has_took}
 use Rattle.engine_pages.specs.Views.{IsActive, seat_number, tries}
-use Rattle.engine_pages.specs.Words.{IsSmall, ShowsRecord, ShowsWords, lock_field}
+use Rattle.engine_pages.specs.Words.{IsSmall, ShowsWords, lock_field}
 use Rattle.engine_pages.proofs.CommitSteps.{commit_stride}
 use Rattle.engine_pages.proofs.Dealing.{own_took}
 use Rattle.engine_pages.proofs.Facing.{Deals}
@@ -62,97 +59,19 @@ use Rattle.engine_pages.proofs.OwnView.{own_fits, part_goes}
 use Rattle.engine_pages.proofs.Seats.{at_front, records_none, past_stays}
 use Rattle.engine_pages.proofs.Turns.{Stride, Begins, allows_at, marks_stay, tried_goes, unwritten}
 use Rattle.page_records.specs.Attempts.{CanCheck, is_as_seen, checked_at, failed_at, CheckedAt, HeldStays}
-use Rattle.page_records.specs.Locks.{lock_bit}
-use Rattle.page_records.proofs.Commits.{pages_kept, frame_kept}
-use Rattle.page_records.proofs.Contents.{IsProper, small_word, one_number, version_proper, kept_version, shown_is}
+use Rattle.page_records.specs.Locks.{IsOpenWord, array_absence, lock_bit}
+use Rattle.page_records.proofs.AnyRecord.{Stands, absence_one, any_stands, bit_free, bit_one, tree_absence}
+use Rattle.page_records.proofs.Commits.{unchanged, pages_kept, frame_kept}
+use Rattle.page_records.proofs.Contents.{IsProper, small_word, version_proper, kept_version, shown_is}
 use Rattle.page_records.proofs.Contents.{last_proper, free_last, stands_there}
-use Rattle.page_records.proofs.Leaves.{array_is, home, shown}
 use Rattle.page_records.proofs.Opening.{held_alive, taken_at}
 use Rattle.page_records.proofs.Placing.{low_none}
-use Rattle.page_records.proofs.Seeing.{free_alive, unchanged_by}
+use Rattle.page_records.proofs.Seeing.{free_alive}
 use Rattle.page_records.proofs.Settling.{settled_trying, settled_tried, settled_marks, settled_kept, settled_locks}
-use Rattle.page_records.proofs.Touching.{meet_deals}
+use Rattle.page_records.proofs.TreeTouching.{any_meet}
 use Rattle.page_records.proofs.Trying.{tried_at, attempt_here, never_idle, tried_over}
-
--- ---- a word and a version
-
-beq_true : (a b : Bool) → a ≡ b → beq a b ≡ true
-beq_true true true e = refl
-beq_true true false e = absurd (true≢false e)
-beq_true false true e = absurd (true≢false (sym e))
-beq_true false false e = refl
-
--- two contents of one number both have a value, or neither has
-both_valued : (q c : Content) → IsProper q → IsProper c → q.number ≡ c.number → is_some q.value ≡ is_some c.value
-both_valued q c of on same = by_values q.value c.value refl refl
-  where
-    by_values : (a b : Option ℕ) → q.value ≡ a → c.value ≡ b → is_some a ≡ is_some b
-    by_values None None x y = refl
-    by_values None (Some j) x y =
-        let none : c.value ≡ None = on.blank (sym same ∙ of.never x) in
-        absurd (true≢false (ap (λ (o : Option ℕ). is_some o) (sym y ∙ none)))
-    by_values (Some i) None x y =
-        let none : q.value ≡ None = of.blank (same ∙ on.never y) in
-        absurd (true≢false (ap (λ (o : Option ℕ). is_some o) (sym x ∙ none)))
-    by_values (Some i) (Some j) x y = refl
-
--- so a version is told by the number's word
-version_word : (q c : Content) → IsSmall q.number → IsSmall c.number → IsProper q → IsProper c
-    → is_version q (version_of c) ≡ eqb (number_word q.number) (number_word c.number)
-version_word q c s t of on = by_test (eqb (number_word q.number) (number_word c.number)) refl
-  where
-    by_test : (b : Bool) → eqb (number_word q.number) (number_word c.number) ≡ b → is_version q (version_of c) ≡ b
-    by_test true e =
-        let same = one_number q.number c.number s t (eqb-true (number_word q.number) (number_word c.number) e) in
-        and_from (same_number q.number c.number) (beq (is_some q.value) (is_some c.value))
-        (subst (λ n. same_number q.number n ≡ true) same (same_number-self q.number))
-        (beq_true (is_some q.value) (is_some c.value) (both_valued q c of on same))
-    by_test false e =
-        and_left (same_number q.number c.number) (beq (is_some q.value) (is_some c.value))
-        (false_from_ne_true (same_number q.number c.number) (λ hit.
-        true≢false (sym (eq-eqb (number_word q.number) (number_word c.number)
-        (ap number_word (same_number-true q.number c.number hit))) ∙ e)))
-
-or_false : (x : Bool) → (x || false) ≡ x
-or_false true = refl
-or_false false = refl
-
--- what the word tells is what the machine's check finds
-word_tells : (p : ℕ) (q c : Content) (h : Holder) (own : Bool) → IsSmall q.number → IsSmall c.number
-    → (own ≡ holder_is p h) → (is_open_to p h ≡ true → IsProper q) → IsProper c
-    → (is_open_to p h && is_version q (version_of c))
-    ≡ is_as_seen (number_word c.number) own (number_word q.number + lock_field h)
-word_tells p q c Free own s t mine of on =
-    let nq : ℕ = number_word q.number in
-    let nc : ℕ = number_word c.number in
-    let zero : nq + 0 ≡ nq = omega arith in
-    version_word q c s t (of refl) on
-    ∙ sym (ap (is_as_seen nc own) zero
-    ∙ (ap (λ o. eqb nq nc || (o && eqb nq (nc + lock_bit))) mine ∙ or_false (eqb nq nc)))
-word_tells p q c (Held x) own s t mine of on =
-    let nq : ℕ = number_word q.number in
-    let nc : ℕ = number_word c.number in
-    let few : nc < 2 ^ 60 = small_word c.number t in
-    let not_it : eqb (nq + lock_bit) nc ≡ false = ne_eqb (nq + lock_bit) nc (λ z. absurd (omega arith)) in
-    let locks : eqb (nq + lock_bit) (nc + lock_bit) ≡ eqb nq nc = grind (arith, nat_tests) in
-    let right : is_as_seen nc own (nq + lock_bit) ≡ (eqb x p && eqb nq nc) =
-    ap (λ y. y || (own && eqb (nq + lock_bit) (nc + lock_bit))) not_it
-    ∙ (ap (λ o. o && eqb (nq + lock_bit) (nc + lock_bit)) mine ∙ ap (λ y. eqb x p && y) locks) in
-    by_own (eqb x p) refl ∙ sym right
-  where
-    by_own : (b : Bool) → eqb x p ≡ b
-        → (eqb x p && is_version q (version_of c)) ≡ (eqb x p && eqb (number_word q.number) (number_word c.number))
-    by_own true e = ap (λ y. eqb x p && y) (version_word q c s t (of e) on)
-    by_own false e =
-        and_left (eqb x p) (is_version q (version_of c)) e
-        ∙ sym (and_left (eqb x p) (eqb (number_word q.number) (number_word c.number)) e)
-word_tells p q c Dead own s t mine of on =
-    let nq : ℕ = number_word q.number in
-    let nc : ℕ = number_word c.number in
-    let few : nc < 2 ^ 60 = small_word c.number t in
-    let not_it : eqb (nq + lock_bit) nc ≡ false = ne_eqb (nq + lock_bit) nc (λ z. absurd (omega arith)) in
-    sym (ap (λ y. y || (own && eqb (nq + lock_bit) (nc + lock_bit))) not_it
-    ∙ ap (λ o. o && eqb (nq + lock_bit) (nc + lock_bit)) mine)
+use Rattle.page_records.proofs.Undecided.{exact_bit, held_shows, undecided}
+use Rattle.page_records.proofs.WordTells.{tree_version, version_word, word_tells}
 
 -- ---- the parts of one record are one
 
@@ -208,6 +127,17 @@ over_given decided given_up n now =
     ends true = refl
     ends false = refl
 
+-- a word of a number with a bit of absence has no lock
+open_sum : (n bit : ℕ) → n < 2 ^ 60 → (bit ≡ 0) ⊎ (bit ≡ at_bit 61 1) → IsOpenWord (n + bit)
+open_sum n bit few (inl none) = inl (omega arith)
+open_sum n bit few (inr set) = inr (omega arith, omega arith)
+
+-- what a seat holds is open to it
+open_own : (p : ℕ) (h : Holder) → holder_is p h ≡ true → is_open_to p h ≡ true
+open_own p Free mine = refl
+open_own p (Held x) mine = mine
+open_own p Dead mine = absurd (true≢false (sym mine))
+
 -- an own lock is told by the word
 held_field : (p : ℕ) (h : Holder) → holder_is p h ≡ true → lock_field h ≡ lock_bit
 held_field p Free mine = absurd (true≢false (sym mine))
@@ -222,7 +152,7 @@ record Looks (s : Shared) (v : View) (p : ℕ) (x : Spot) (i : ℕ) (a : Attempt
   stays : stays_as_seen p s.story.places x a ≡ b
 
 module _ (l : Layout) (words : List ℕ) (views : List View) (s : Shared) (id : ℕ) (v : View)
-    (g : Begins l words views s id v) (k : Key) (x : Spot) (at : ℕ) (is : IsRecordAt v k x at) where
+    (g : Begins l words views s id v) (k : Key) (x : Spot) (at : ℕ) (is : IsAnyRecordAt v k x at) where
   abbrev p : ℕ
   p = seat_number v.role
 
@@ -232,9 +162,12 @@ module _ (l : Layout) (words : List ℕ) (views : List View) (s : Shared) (id : 
   abbrev q : Place
   q = place_of m.places x
 
+  stands_here : Stands l words s v k x at
+  stands_here = any_stands l words views s id v g k x at is
+
   -- a place that a seat holds is its key's home
   held_home : (o : Holder) → q.holder ≡ o → holder_is p o ≡ true → home_of m.homes k ≡ InSlot x
-  held_home o e held = home l words views s id v g k x at is (λ dead. held_alive p q.holder (ap (holder_is p) e ∙ held) dead)
+  held_home o e held = stands_here.home (λ dead. held_alive p q.holder (ap (holder_is p) e ∙ held) dead)
 
   -- a lock of the key is own here exactly where the seat holds this place
   own_here : has_took v.took k x ≡ holder_is p q.holder
@@ -257,8 +190,69 @@ module _ (l : Layout) (words : List ℕ) (views : List View) (s : Shared) (id : 
           ((seat_sound l s p g.few g.sound.joint).lock_owners.listed k
           (ap (λ (z : Place). holder_is p z.holder) now ∙ held)))
 
-  looks : (word : ℕ) (own-lock : Bool) (c : Content) → (can : CanCheck v k x c) → word ≡ number_word c.number
-      → own-lock ≡ has_took v.took k x → (b : Bool) → is_as_seen word own-lock (get_or words at 0) ≡ b
+  -- the bit of absence is that of the value, where the record is open to the pass
+  exact_here : (i : ℕ) → v.seat.stage ≡ Trying i → is_open_to p q.holder ≡ true → (bit : ℕ)
+      → IsBitAt l.decls m k q bit → bit ≡ absence l.decls k q.content.value
+  exact_here i stage may bit is = by_holder q.holder refl may
+    where
+      by_holder : (o : Holder) → q.holder ≡ o → is_open_to p o ≡ true → bit ≡ absence l.decls k q.content.value
+      by_holder Free e may = bit_free l.decls m k q bit e is
+      by_holder (Held y) e may =
+          exact_bit l words views s id v g k x (held_home (Held y) e may) (ap (holder_is p) e ∙ may)
+          (ap undecided stage) bit is
+      by_holder Dead e may = absurd (true≢false (sym may))
+
+  -- what is unlocked, or own, stands as it was last written
+  open_last : (i : ℕ) → v.seat.stage ≡ Trying i → is_array l.decls k.storage ≡ true → (o : Holder) → q.holder ≡ o
+      → is_open_to p o ≡ true → q.content ≡ last_write l.opening m.history m.decided k
+  open_last i stage array Free is-free may =
+      free_last l words views s k x g.sound array (stands_here.home (free_alive q.holder is-free)) is-free
+  open_last i stage array (Held y) is-held may =
+      shown_is m.horizon q.content (last_write l.opening m.history m.decided k)
+      (held_shows l words views s id v g k x (held_home (Held y) is-held may) (ap (holder_is p) is-held ∙ may)
+      (ap undecided stage))
+      (last_proper l words views s k g.sound array)
+  open_last i stage array Dead is-dead may = absurd (true≢false (sym may))
+
+  -- the word tells the version of what was kept
+  version_told : (i : ℕ) → v.seat.stage ≡ Trying i → (c : Content) → Contains v.seat.kept (record_part k x c)
+      → IsSmall c.number → (word : ℕ) → word ≡ number_word c.number + absence l.decls k c.value
+      → is_open_to p q.holder ≡ true
+      → is_version q.content (version_of c) ≡ eqb (number_word q.content.number + stands_here.absent) word
+  version_told i stage c has small word word-is may =
+      by_kind (is_array l.decls k.storage) refl
+      ∙ (ap (λ z. eqb (number_word q.content.number + z) (number_word c.number + absence l.decls k c.value))
+      (sym (exact_here i stage may stands_here.absent stands_here.bit))
+      ∙ ap (λ z. eqb (number_word q.content.number + stands_here.absent) z) (sym word-is))
+    where
+      by_kind : (b : Bool) → is_array l.decls k.storage ≡ b
+          → is_version q.content (version_of c)
+          ≡ eqb (number_word q.content.number + absence l.decls k q.content.value)
+          (number_word c.number + absence l.decls k c.value)
+      by_kind true array =
+          let version = kept_version l.decls l.opening m.history v.seat.kept k x c array g.fits.records has in
+          let on : IsProper c =
+          version_proper l.decls l.opening m.history k c array g.sound.blank g.sound.valued
+          (g.sound.joint.commits.story.ordered_numbers.rising k) version in
+          let of : IsProper q.content =
+          subst IsProper (sym (open_last i stage array q.holder refl may)) (last_proper l words views s k g.sound array) in
+          let left : number_word q.content.number ≡ number_word q.content.number + absence l.decls k q.content.value =
+          let none = array_absence l.decls k q.content.value array in omega arith in
+          let right : number_word c.number ≡ number_word c.number + absence l.decls k c.value =
+          let none = array_absence l.decls k c.value array in omega arith in
+          version_word q.content c stands_here.small small of on
+          ∙ (ap (λ z. eqb z (number_word c.number)) left
+          ∙ ap (λ z. eqb (number_word q.content.number + absence l.decls k q.content.value) z) right)
+      by_kind false tree =
+          tree_version q.content c stands_here.small small
+          ∙ (ap (λ z. eqb (number_word q.content.number + z) (number_word c.number + absent_field tree_leaf c.value))
+          (sym (tree_absence l.decls k q.content.value tree))
+          ∙ ap (λ z. eqb (number_word q.content.number + absence l.decls k q.content.value) (number_word c.number + z))
+          (sym (tree_absence l.decls k c.value tree)))
+
+  looks : (word : ℕ) (own-lock : Bool) (c : Content) → (can : CanCheck v k x c)
+      → word ≡ number_word c.number + absence l.decls k c.value → own-lock ≡ has_took v.took k x
+      → (b : Bool) → is_as_seen word own-lock (get_or words at 0) ≡ b
       → Looks s v p x can.index can.attempt b
   looks word own-lock c can word-is lock-is b e =
       let h = g.sound in
@@ -266,27 +260,24 @@ module _ (l : Layout) (words : List ℕ) (views : List View) (s : Shared) (id : 
       let own = g.own in
       let i = can.index in
       let a = can.attempt in
-      let array = array_is l words views s id v g k x at is in
-      let shows : ShowsRecord words at q = shown l words views s id v g k x at is in
+      let r = stands_here in
       let here : slice_get m.history i ≡ Some a = at_front v.history m.history i a f.history can.at in
       let stage : (s.seats p).stage ≡ Trying i = ap (λ (t : Seat). t.stage) (sym own.seat) ∙ can.stage in
       let t = tried_at p v.history m.checks v.checked v.mine v.seat.stage i a can.stage can.at own.tried in
       let kept : a.parts ≡ v.seat.kept =
       subst (TriesKept m.history (s.seats p).kept) stage (seat_sound l s p g.few h.joint).tries_kept a here
       ∙ ap (λ (y : Seat). y.kept) (sym own.seat) in
-      let version =
-      kept_version l.decls l.opening m.history v.seat.kept k x c array f.records
-      (subst (λ (y : List Part). Contains y (record_part k x c)) kept can.has) in
-      let on : IsProper c =
-      version_proper l.decls l.opening m.history k c array h.blank h.valued
-      (h.joint.commits.story.ordered_numbers.rising k) version in
+      let has-kept = subst (λ (y : List Part). Contains y (record_part k x c)) kept can.has in
       let mine : own-lock ≡ holder_is p q.holder = lock-is ∙ own_here in
-      let of : is_open_to p q.holder ≡ true → IsProper q.content = λ open-to.
-      subst IsProper (sym (open_last q.holder refl stage open-to here)) (last_proper l words views s k h array) in
-      let tells = word_tells p q.content c q.holder own-lock shows.small can.small mine of on in
+      let open-word : IsOpenWord word =
+      subst IsOpenWord (sym word-is) (open_sum (number_word c.number) (absence l.decls k c.value)
+      (small_word c.number can.small) (absence_one l.decls k c.value)) in
+      let tells =
+      word_tells p (number_word q.content.number) r.absent word (is_version q.content (version_of c)) own-lock q.holder
+      (small_word q.content.number r.small) (bit_one l.decls m k q r.absent r.bit) open-word mine
+      (version_told i can.stage c has-kept can.small word word-is) in
       let seen : is_as_read p q (record_part k x c) ≡ b =
-      tells ∙ (ap (is_as_seen (number_word c.number) own-lock) (sym shows.word)
-      ∙ (ap (λ y. is_as_seen y own-lock (get_or words at 0)) (sym word-is) ∙ e)) in
+      tells ∙ (ap (is_as_seen word own-lock) (sym r.word) ∙ e) in
       let has : list_any (λ part. same_word part.word (Record x)) a.parts ≡ true =
       any_in (λ (part : Part). same_word part.word (Record x)) a.parts (record_part k x c) can.has
       (same_word-self (Record x)) in record {
@@ -298,32 +289,18 @@ module _ (l : Layout) (words : List ℕ) (views : List View) (s : Shared) (id : 
         stays = all_of_word x (is_as_read p q) b a.parts has
             (λ part in-parts word. ap (is_as_read p q) (can.one part in-parts word) ∙ seen);
       }
-    where
-      open_last : (o : Holder) → q.holder ≡ o → (s.seats p).stage ≡ Trying can.index → is_open_to p o ≡ true
-          → slice_get m.history can.index ≡ Some can.attempt
-          → q.content ≡ last_write l.opening m.history m.decided k
-      open_last Free is-free stage open-to here =
-          free_last l words views s k x g.sound (array_is l words views s id v g k x at is)
-          (home l words views s id v g k x at is (free_alive q.holder is-free)) is-free
-      open_last (Held y) is-held stage open-to here =
-          let now = stands_there s k x (held_home (Held y) is-held open-to) in
-          let held : holder_is p (stands m.places m.homes k).holder ≡ true =
-          ap (λ (z : Place). holder_is p z.holder) now ∙ (ap (holder_is p) is-held ∙ open-to) in
-          let at-home = subst (HomeHeld m.horizon l.opening m.history m.decided (s.seats p).put k
-          (stands m.places m.homes k).content) stage ((seat_sound l s p g.few g.sound.joint).locked_homes k held) in
-          sym (ap (λ (z : Place). z.content) now)
-          ∙ shown_is m.horizon (stands m.places m.homes k).content
-          (last_write l.opening m.history m.decided k) at-home.0
-          (last_proper l words views s k g.sound (array_is l words views s id v g k x at is))
-      open_last Dead is-dead stage open-to here = absurd (true≢false (sym open-to))
 
   -- what the pass has locked stands as it locked it
-  held_stays : HeldStays k x v (get_or words at 0)
-  held_stays found has =
-      let held = taken_at l words views s id v k x found g has in
-      (shown l words views s id v g k x at is).word
-      ∙ (ap (λ z. number_word q.content.number + z) (held_field p q.holder held.own)
-      ∙ ap (λ z. z + lock_bit) held.number)
+  held_stays : (i : ℕ) → v.seat.stage ≡ Trying i → HeldStays k x v (get_or words at 0)
+  held_stays i stage found has =
+      let t = taken_at l words views s id v k x found g has in
+      let number = t.number in
+      let may : is_open_to p q.holder ≡ true = open_own p q.holder t.own in
+      let here = exact_here i stage may stands_here.absent stands_here.bit in
+      let then' = exact_here i stage may t.absent t.bit in
+      let field : lock_field q.holder ≡ lock_bit = held_field p q.holder t.own in
+      let word = stands_here.word in
+      omega (arith, number, here, then', field, word)
 
 -- ---- the step
 
@@ -359,14 +336,18 @@ given_shown l words m d k r given h = record {
 }
 
 pub checks_word : Laws → (l : Layout) (slots id : ℕ) (me : Me (Unit {0}) View) (k : Key) (x : Spot)
-    (at word : ℕ) (own-lock : Bool) (c : Content) → IsActive me.0.role → IsRecordAt me.0 k x at → CanCheck me.0 k x c
-    → word ≡ number_word c.number → own-lock ≡ has_took me.0.took k x
+    (at word : ℕ) (own-lock : Bool) (c : Content) → IsActive me.0.role → IsAnyRecordAt me.0 k x at → CanCheck me.0 k x c
+    → word ≡ number_word c.number + absence me.0.layout.decls k c.value → own-lock ≡ has_took me.0.took k x
     → Allows (λ s. Shows l s.words s.views) slots id me at (λ n. n)
     (λ n now. (now.1 ≡ me.1) × CheckedAt k x at word own-lock me.0 n now.0)
 checks_word laws l slots id me k x at word own-lock c active is can word-is lock-is =
     allows_at laws l slots id me at (λ n. n) (CheckedAt k x at word own-lock) active (λ words views s g.
     by_word words views s g (is_as_seen word own-lock (get_or words at 0)) refl)
   where
+    word_in : {words : List ℕ} {views : List View} {s : Shared} → Begins l words views s id me.0
+        → word ≡ number_word c.number + absence l.decls k c.value
+    word_in g = subst (λ (y : Layout). word ≡ number_word c.number + absence y.decls k c.value) g.own.layout word-is
+
     by_word : (words : List ℕ) (views : List View) (s : Shared) → Begins l words views s id me.0 → (b : Bool)
         → is_as_seen word own-lock (get_or words at 0) ≡ b
         → Stride l words views s (seat_number me.0.role) me.0 at (λ n. n) (CheckedAt k x at word own-lock)
@@ -381,10 +362,10 @@ checks_word laws l slots id me k x at word own-lock c active is can word-is lock
         let a = can.attempt in
         let n : ℕ = get_or words at 0 in
         let words' = set words at n in
-        let look = looks l words views s id v g k x at is word own-lock c can word-is lock-is true e in
+        let look = looks l words views s id v g k x at is word own-lock c can (word_in g) lock-is true e in
         let next : Story = record m { checks = m.checks ++ check_of a.number (Record x) ∷ [] } in
         let w = checked_at x at n v in
-        let one = unchanged_by l words views s id v g k x at is next refl in
+        let one = unchanged l words s next x.slot at (any_stands l words views s id v g k x at is).known refl in
         let now = pages_kept laws l words words' views s id v active g next x.slot one in
         commit_stride laws l words views s id v active g at (λ n. n) (Look x) next w (CheckedAt k x at word own-lock) record {
           lets = refl;
@@ -414,6 +395,7 @@ checks_word laws l slots id me k x at word own-lock c active is can word-is lock
             mine_own = f.mine_own;
             records = f.records;
             kept = f.kept;
+            versions = f.versions;
             loaded = tt;
             tried = subst (Tried p v.history next.checks w.checked v.mine) (sym can.stage) (
               a,
@@ -426,7 +408,14 @@ checks_word laws l slots id me k x at word own-lock c active is can word-is lock
             );
             took = λ t has. let held = own.took t has in (
               held.0,
-              record { spot = held.1.spot; home = held.1.home; own = held.1.own; number = held.1.number },
+              record {
+                spot = held.1.spot;
+                home = held.1.home;
+                own = held.1.own;
+                absent = held.1.absent;
+                number = held.1.number;
+                bit = held.1.bit;
+              },
             );
             locked = own.locked;
             low = f.low;
@@ -437,14 +426,14 @@ checks_word laws l slots id me k x at word own-lock c active is can word-is lock
           drew = refl;
           few = omega arith;
           room = omega (arith, h.sums.room);
-          now = record { within = now.within; ways = now.ways; drafts = now.drafts; copies = now.copies; blanks = now.blanks; resident = now.resident; leads = now.leads; fills = now.fills; known = now.known; shuts = now.shuts; heads = now.heads; moved = now.moved };
+          now = record { within = now.within; ways = now.ways; drafts = now.drafts; copies = now.copies; blanks = now.blanks; resident = now.resident; leads = now.leads; fills = now.fills; known = now.known; shuts = now.shuts; heads = now.heads; moved = now.moved; sealed = now.sealed; inners = now.inners; new_leaves = now.new_leaves; new_inners = now.new_inners };
           frame = frame_kept laws l words words' views s id v active g next x.slot one;
           deals = subst (λ (z : List ℕ). Deals l words z s p views v w) (sym (unwritten words at))
-              (meet_deals l words views s id v g k x at is w at (omega arith) (omega arith)
+              (any_meet l words views s id v g k x at is w at (omega arith) (omega arith)
               record { role = refl; ways = refl; took = refl; gone = refl; touched = refl; blamed = refl; locks = refl } refl);
         } (
           subst (λ b. MatchBool b (w ≡ checked_at x at n v) (w ≡ failed_at at n v)) (sym e) refl,
-          held_stays l words views s id v g k x at is,
+          held_stays l words views s id v g k x at is i can.stage,
         )
     by_word words views s g false e =
         let v = me.0 in
@@ -457,7 +446,7 @@ checks_word laws l slots id me k x at word own-lock c active is can word-is lock
         let a = can.attempt in
         let n : ℕ = get_or words at 0 in
         let words' = set words at n in
-        let look = looks l words views s id v g k x at is word own-lock c can word-is lock-is false e in
+        let look = looks l words views s id v g k x at is word own-lock c can (word_in g) lock-is false e in
         let next : Story = record m { given_up = m.given_up ++ a.number ∷ [] } in
         let s' : Seat = record v.seat { stage = Ended } in
         let w = failed_at at n v in
@@ -471,7 +460,7 @@ checks_word laws l slots id me k x at word own-lock c active is can word-is lock
         } in
         let was : tries v ≡ 1 = ap (λ y. cond (is_trying y) 1 0) can.stage in
         let over : tries w ≡ 0 = ap (λ b. cond b 1 0) (settled_trying s') in
-        let one = unchanged_by l words views s id v g k x at is next refl in
+        let one = unchanged l words s next x.slot at (any_stands l words views s id v g k x at is).known refl in
         let now = pages_kept laws l words words' views s id v active g next x.slot one in
         commit_stride laws l words views s id v active g at (λ n. n) (Look x) next w (CheckedAt k x at word own-lock) record {
           lets = refl;
@@ -507,11 +496,19 @@ checks_word laws l slots id me k x at word own-lock c active is can word-is lock
                 mine_own = f.mine_own;
                 records = settled_kept (KeptAreRecords l.decls l.opening m.history) s' f.records (records_none l.decls l.opening m.history);
                 kept = settled_kept (KeptIsLow m.places) s' f.kept (low_none m.places);
+                versions = f.versions;
                 loaded = tt;
                 tried = settled_tried p v.history m.checks v.checked v.mine s' tt;
                 took = λ t has. let held = own.took t has in (
                   held.0,
-                  record { spot = held.1.spot; home = held.1.home; own = held.1.own; number = held.1.number },
+                  record {
+                    spot = held.1.spot;
+                    home = held.1.home;
+                    own = held.1.own;
+                    absent = held.1.absent;
+                    number = held.1.number;
+                    bit = held.1.bit;
+                  },
                 );
                 locked = λ j has. own.locked j (subst (λ (z : List Key). has_key z j ≡ true) (settled_locks s') has);
                 low = f.low;
@@ -522,12 +519,12 @@ checks_word laws l slots id me k x at word own-lock c active is can word-is lock
           drew = refl;
           few = omega arith;
           room = omega (arith, h.sums.room);
-          now = record { within = now.within; ways = now.ways; drafts = now.drafts; copies = now.copies; blanks = now.blanks; resident = now.resident; leads = now.leads; fills = now.fills; known = now.known; shuts = now.shuts; heads = now.heads; moved = now.moved };
+          now = record { within = now.within; ways = now.ways; drafts = now.drafts; copies = now.copies; blanks = now.blanks; resident = now.resident; leads = now.leads; fills = now.fills; known = now.known; shuts = now.shuts; heads = now.heads; moved = now.moved; sealed = now.sealed; inners = now.inners; new_leaves = now.new_leaves; new_inners = now.new_inners };
           frame = frame_kept laws l words words' views s id v active g next x.slot one;
           deals = subst (λ (z : List ℕ). Deals l words z s p views v w) (sym (unwritten words at))
-              (meet_deals l words views s id v g k x at is w at (omega arith) (omega arith)
+              (any_meet l words views s id v g k x at is w at (omega arith) (omega arith)
               record { role = refl; ways = refl; took = refl; gone = refl; touched = refl; blamed = refl; locks = settled_locks s' } refl);
         } (
           subst (λ b. MatchBool b (w ≡ checked_at x at n v) (w ≡ failed_at at n v)) (sym e) refl,
-          held_stays l words views s id v g k x at is,
+          held_stays l words views s id v g k x at is i can.stage,
         )

@@ -138,7 +138,7 @@ pub version_proper : (decls : List Decl) (opening : List (Key × Content)) (hist
     → is_array decls k.storage ≡ true → StartsBlank decls opening → WriteValues decls history
     → RisesFrom (content_at opening k).number history → IsVersion opening history k c → IsProper c
 version_proper decls opening history k c array starts values rises (inl e) =
-    subst IsProper (sym e) record { never = starts.never k array; blank = starts.blank k array }
+    subst IsProper (sym e) record { never = starts.never k array; blank = starts.blank k }
 version_proper decls opening history k c array starts values rises (inr a) = record {
   never = λ none. absurd (value_written decls history k a.0 c.value array values a.1 a.3 none);
   blank = λ number.

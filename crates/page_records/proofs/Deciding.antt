@@ -6,6 +6,7 @@ use Rattle.std.specs.Prelude.{◌&&◌, ◌||◌}
 use Rattle.std.specs.List.{Contains, slice_get, list_all}
 use Rattle.std.specs.Option.{option_map_or}
 use Rattle.std.proofs.lemmas.List.{append-nil}
+use Rattle.commit_core.specs.Places.{place_of}
 use Rattle.atomic_table.specs.Table.{Me, Allows}
 use Rattle.lists.specs.Elements.{at_in, in_head, in_tail, in_push_cases}
 use Rattle.lists.specs.Fronts.{front_refl, front_grown}
@@ -42,7 +43,7 @@ use Rattle.engine_pages.proofs.Dealing.{rests_low}
 use Rattle.engine_pages.proofs.Joint.{Laws, may_do, joint_act}
 use Rattle.engine_pages.proofs.OwnView.{own_fits, part_goes}
 use Rattle.engine_pages.proofs.PagesStay.{words_same}
-use Rattle.engine_pages.proofs.Seats.{at_front, own_longer, records_none, past_stays}
+use Rattle.engine_pages.proofs.Seats.{at_front, held_bit_grown, own_longer, records_none, past_stays}
 use Rattle.engine_pages.proofs.Turns.{allows_at, marks_stay, written}
 use Rattle.page_records.specs.Attempts.{CanDecide, chose, HasChosen}
 use Rattle.engine_pages.proofs.CommitSteps.{commit_stride}
@@ -122,6 +123,8 @@ decides laws serial l slots id me active can =
       clock = wr.others 0 (λ e. absurd (omega arith)) ∙ h.shown.clock;
       decisions = wr.here ∙ y-is;
       places = refl;
+      history = grows.history;
+      decided = grows.decided;
     } in
     let pages = first_kept l words words' views s id v next active g two in
     let counts : is_decided next.decided a.number ≡ true = decided_new m.decided a.number a.number refl in
@@ -171,12 +174,21 @@ decides laws serial l slots id me active can =
             ];
             records = settled_kept (KeptAreRecords l.decls l.opening m.history) s' f.records (records_none l.decls l.opening m.history);
             kept = settled_kept (KeptIsLow m.places) s' f.kept (low_none m.places);
+            versions = f.versions;
             loaded = tt;
             tried = settled_tried p m.history m.checks v.checked w.mine s'
                 (subst (λ z. Tried p m.history m.checks v.checked w.mine (decided_stage z)) (sym can.stage) (a, here));
             took = λ z has. let held = g.own.took z has in (
               held.0,
-              record { spot = held.1.spot; home = held.1.home; own = held.1.own; number = held.1.number },
+              record {
+                spot = held.1.spot;
+                home = held.1.home;
+                own = held.1.own;
+                absent = held.1.absent;
+                number = held.1.number;
+                bit = held_bit_grown l.decls m next z.key (place_of m.places held.0) held.1.absent grows.history
+                    grows.decided held.1.bit;
+              },
             );
             locked = λ k has. g.own.locked k (subst (λ (z : List Key). has_key z k ≡ true) (settled_locks s') has);
             low = f.low;
@@ -191,7 +203,7 @@ decides laws serial l slots id me active can =
       drew = refl;
       few = omega (arith, more);
       room = omega (arith, h.sums.room);
-      now = record { within = pages.within; ways = pages.ways; drafts = pages.drafts; copies = pages.copies; blanks = pages.blanks; resident = pages.resident; leads = pages.leads; fills = pages.fills; known = pages.known; shuts = pages.shuts; heads = pages.heads; moved = pages.moved };
+      now = record { within = pages.within; ways = pages.ways; drafts = pages.drafts; copies = pages.copies; blanks = pages.blanks; resident = pages.resident; leads = pages.leads; fills = pages.fills; known = pages.known; shuts = pages.shuts; heads = pages.heads; moved = pages.moved; sealed = pages.sealed; inners = pages.inners; new_leaves = pages.new_leaves; new_inners = pages.new_inners };
       frame = words_same l words words' s p (λ j low. wr.others j (λ e. absurd (omega arith)));
       deals = rests_low l words views s id v g words' w
           record { role = refl; ways = refl; took = refl; gone = refl; touched = refl; blamed = refl; locks = settled_locks s' } refl

@@ -3,13 +3,18 @@ use Rattle.std.proofs.Common.{◌≡◌, inl, inr, ℕ, ◌+◌, ◌%◌, ◌^�
 use Rattle.std.proofs.Common.{List, [], ◌∷◌, ◌++◌, length, length-append, get_or, set, refl, sym, ap, ◌∙◌, subst}
 use Rattle.std.proofs.Common.{arith}
 use Rattle.std.specs.Prelude.{is_some}
+use Rattle.std.proofs.lemmas.List.{append-nil}
+use Rattle.commit_core.specs.Places.{place_of}
 use Rattle.std.specs.List.{Contains}
 use Rattle.std.proofs.lemmas.Bool.{and_from, false_from_ne_true}
 use Rattle.atomic_table.specs.Table.{Me, Allows}
 use Rattle.lists.specs.Elements.{in_push_cases, at_push_new}
 use Rattle.lists.specs.Fronts.{front_refl, front_grown}
+use Rattle.serial_model.specs.declared.decl.Decl.{Decl}
+use Rattle.serial_model.specs.declared.key.Key.{Key}
 use Rattle.serial_model.specs.declared.number.Change.{Change}
 use Rattle.serial_model.specs.Numbers.{IsBelow, not_below_itself}
+use Rattle.homes.specs.declared.places.Content.{Content}
 use Rattle.wire_form.specs.Words.{number_word}
 use Rattle.commit_core.specs.declared.attempt.Attempt.{Attempt}
 use Rattle.commit_core.specs.declared.event.Act.TheVariants.{Draw}
@@ -22,22 +27,30 @@ use Rattle.views.specs.Sums.{term_at_most}
 use Rattle.engine_pages.specs.declared.layout.Layout.{Layout}
 use Rattle.engine_pages.specs.declared.view.Role.{Role}
 use Rattle.engine_pages.specs.declared.view.Role.TheVariants.{Keeper}
+use Rattle.engine_pages.specs.declared.view.Version.{Version}
 use Rattle.engine_pages.specs.declared.view.View.{View}
 use Rattle.engine_pages.specs.Pages.{is_array}
-use Rattle.engine_pages.specs.Rule.{Shows}
+use Rattle.engine_pages.specs.Rule.{IsOneOf, Shows}
 use Rattle.engine_pages.specs.Views.{IsActive, HasPart, seat_number, waits, tries}
 use Rattle.engine_pages.specs.Words.{IsSmall}
 use Rattle.engine_pages.proofs.Dealing.{rests_low}
 use Rattle.engine_pages.proofs.Joint.{Laws, seat_sound}
 use Rattle.engine_pages.proofs.OwnView.{own_fits, part_goes}
 use Rattle.engine_pages.proofs.PagesStay.{words_same}
-use Rattle.engine_pages.proofs.Seats.{in_front, own_longer, records_longer}
+use Rattle.engine_pages.proofs.Seats.{held_bit_grown, in_front, own_longer, records_longer, version_grown}
 use Rattle.engine_pages.proofs.Turns.{allows_at, marks_stay, written}
 use Rattle.page_records.specs.Attempts.{attempt_of, drew, HasDrawn}
 use Rattle.engine_pages.proofs.CommitSteps.{commit_stride}
 use Rattle.engine_pages.proofs.FirstWords.{FirstTen, first_kept, first_shown}
 use Rattle.page_records.proofs.Opening.{not_trying}
 use Rattle.page_records.proofs.Trying.{tried_drawn}
+
+-- what was seen to have stood at a key is one of those that stood there still
+version_drawn : (decls : List Decl) (opening : List (Key × Content)) (history : List Attempt) (a : Attempt) (x : Version)
+    → IsOneOf decls opening history x → IsOneOf decls opening (history ++ a ∷ []) x
+version_drawn decls opening history a x (inl lost) = inl lost
+version_drawn decls opening history a x (inr version) =
+    inr (version_grown opening history (history ++ a ∷ []) x.key x.content (a ∷ [], refl) version)
 
 pub draws : Laws → (l : Layout) (slots id : ℕ) (me : Me (Unit {0}) View) (writes : List Change)
     → IsActive me.0.role → me.0.due ≡ true → can_begin me.0.seat.stage ≡ true → same_keys me.0.seat.locks writes ≡ true
@@ -71,6 +84,8 @@ draws laws l slots id me writes active due idle same values =
       clock = wr.here ∙ y-is;
       decisions = wr.others 1 (λ e. absurd (omega arith)) ∙ h.shown.decisions;
       places = refl;
+      history = (a ∷ [], refl);
+      decided = ([], append-nil m.decided);
     } in
     let pages = first_kept l words words' views s id v next active g two in
     commit_stride laws l words views s id v active g 0 (λ n. (n + 1) % 2 ^ 64) (Draw writes) next w (HasDrawn writes) record {
@@ -124,6 +139,7 @@ draws laws l slots id me writes active due idle same values =
                 (front_grown v.history m.history (a ∷ []) f.history) (front_refl v.decided) (f.mine_own b has);
             records = records_longer l.decls l.opening m.history a v.seat.kept f.records;
             kept = f.kept;
+            versions = λ x has. version_drawn l.decls l.opening m.history a x (f.versions x has);
             loaded = tt;
             tried = (
               a,
@@ -137,7 +153,15 @@ draws laws l slots id me writes active due idle same values =
             );
             took = λ t has. let held = g.own.took t has in (
               held.0,
-              record { spot = held.1.spot; home = held.1.home; own = held.1.own; number = held.1.number },
+              record {
+                spot = held.1.spot;
+                home = held.1.home;
+                own = held.1.own;
+                absent = held.1.absent;
+                number = held.1.number;
+                bit = held_bit_grown l.decls m next t.key (place_of m.places held.0) held.1.absent (a ∷ [], refl)
+                    ([], append-nil m.decided) held.1.bit;
+              },
             );
             locked = g.own.locked;
             low = omega arith;
@@ -148,7 +172,7 @@ draws laws l slots id me writes active due idle same values =
       drew = omega (arith, more);
       few = omega (arith, more);
       room = omega (arith, more, h.sums.room);
-      now = record { within = pages.within; ways = pages.ways; drafts = pages.drafts; copies = pages.copies; blanks = pages.blanks; resident = pages.resident; leads = pages.leads; fills = pages.fills; known = pages.known; shuts = pages.shuts; heads = pages.heads; moved = pages.moved };
+      now = record { within = pages.within; ways = pages.ways; drafts = pages.drafts; copies = pages.copies; blanks = pages.blanks; resident = pages.resident; leads = pages.leads; fills = pages.fills; known = pages.known; shuts = pages.shuts; heads = pages.heads; moved = pages.moved; sealed = pages.sealed; inners = pages.inners; new_leaves = pages.new_leaves; new_inners = pages.new_inners };
       frame = words_same l words words' s p (λ j low. wr.others j (λ e. absurd (omega arith)));
       deals = rests_low l words views s id v g words' w
           record { role = refl; ways = refl; took = refl; gone = refl; touched = refl; blamed = refl; locks = refl } refl

@@ -1,5 +1,5 @@
 -- A transaction ends before its draw: what was kept is dropped.
-use Rattle.std.proofs.Common.{◌≡◌, ◌⊎◌, inl, inr, ℕ, suc, ◌*◌, ◌<◌, ◌≤◌, ◌^◌, Bool, true, false, true≢false}
+use Rattle.std.proofs.Common.{◌≡◌, ◌⊎◌, inl, inr, ℕ, suc, ◌+◌, ◌*◌, ◌<◌, ◌≤◌, ◌^◌, Bool, true, false, true≢false}
 use Rattle.std.proofs.Common.{List, [], ◌∷◌, ◌++◌, length, get_or, set, refl, sym, ap, ◌∙◌, subst, arith, Option, Some, None}
 use Rattle.std.specs.Prelude.{nat_lt, unwrap_or}
 use Rattle.std.proofs.lemmas.Bool.Decides.{nat_tests}
@@ -23,7 +23,7 @@ use Rattle.engine_pages.specs.declared.view.Role.TheVariants.{Keeper, Worker, No
 use Rattle.engine_pages.specs.declared.view.Touch.{Touch}
 use Rattle.engine_pages.specs.declared.view.View.{View}
 use Rattle.engine_pages.specs.Layout.{page_at, root_at, slot_at}
-use Rattle.engine_pages.specs.Pointers.{IsPointerAt}
+use Rattle.engine_pages.specs.Pointers.{IsPointerAt, one_kind}
 use Rattle.engine_pages.specs.Records.{IsRecordAt, IsRecordIn}
 use Rattle.engine_pages.specs.Rule.{Faces, Shared, Shows}
 use Rattle.engine_pages.specs.Touches.{AreBlamed, IsFacing, Other, Touched, has_took, touch}
@@ -40,9 +40,10 @@ use Rattle.engine_pages.proofs.PagesStay.{words_same}
 use Rattle.engine_pages.proofs.Seats.{records_none}
 use Rattle.engine_pages.proofs.Turns.{Begins, allows_at, marks_stay, tried_goes, unwritten}
 use Rattle.engine_pages.proofs.WayLaws.{ways_agree}
-use Rattle.page_records.specs.Ends.{HasForgotten, IsDue, IsInTheWay, IsMetFor}
+use Rattle.page_records.specs.Ends.{HasForgotten, IsDue, IsInTheWay, IsMetFor, IsTreeWordAt}
 use Rattle.page_records.specs.Ends.{forgot_for, worker_of}
 use Rattle.page_records.proofs.Placing.{low_none}
+use Rattle.engine_pages.specs.Pages.{decl_of, is_array}
 
 pub worker_acts : (role : Role) (worker : ℕ) → role ≡ Worker worker → IsActive role
 worker_acts Keeper worker e = tt
@@ -114,7 +115,7 @@ module _ (l : Layout) (words : List ℕ) (views : List View) (s : Shared) (id : 
       let low : r < length l.decls = subst (λ (z : Layout). r < length z.decls) b.own.layout root.0 in
       let word : at ≡ page_at v.layout.slots x.slot (2 * x.index) = a.word in
       let place : at ≡ root_at r = root.2 in absurd (omega arith)
-  no_pointer k x (In y) sp at a child =
+  no_pointer k x (In y) sp at a (inl child) =
       let word : at ≡ page_at v.layout.slots x.slot (2 * x.index) = a.word in
       let place : at ≡ page_at v.layout.slots y.slot y.index = child.word in
       let index : x.index < 32 = a.index in
@@ -123,6 +124,30 @@ module _ (l : Layout) (words : List ℕ) (views : List View) (s : Shared) (id : 
       let agree = ways_agree l s.table s.trees v.grip.holds v.ways b.pages.ways a.way child.way a.has child.has
       (a.slot ∙ (same ∙ sym child.slot)) in
       true≢false (sym a.leaf ∙ (agree.2 ∙ child.inner))
+  no_pointer k x (In y) sp at a (inr branch) =
+      let in-page = b.pages.treed.inners branch.inner branch.knows in
+      let few : length branch.inner.separators < 30 = in-page.few in
+      let word : at ≡ page_at v.layout.slots x.slot (2 * x.index) = a.word in
+      let place : at ≡ page_at v.layout.slots y.slot (4 + y.index) = branch.word in
+      let index : x.index < 32 = a.index in
+      let less = branch.index in
+      let same : x.slot ≡ y.slot = omega arith in
+      let agree = ways_agree l s.table s.trees v.grip.holds v.ways b.pages.ways a.way branch.way a.has branch.has
+      (a.slot ∙ (same ∙ sym branch.slot)) in
+      one_kind (decl_of v.layout.decls (branch.way).span.storage)
+      (ap (λ (z : ℕ). is_array v.layout.decls z) (sym agree.0) ∙ a.kind) branch.kind
+
+  no_tree : (k : Key) (x : Spot) (t i at : ℕ) → IsRecordAt v k x at → IsTreeWordAt v t i at → ⊥
+  no_tree k x t i at a tree =
+      let word : at ≡ page_at v.layout.slots x.slot (2 * x.index) = a.word in
+      let place = tree.word in
+      let index : x.index < 32 = a.index in
+      let few = tree.index in
+      let same : x.slot ≡ t = omega arith in
+      let agree = ways_agree l s.table s.trees v.grip.holds v.ways b.pages.ways a.way tree.way a.has tree.has
+      (a.slot ∙ (same ∙ sym tree.slot)) in
+      one_kind (decl_of v.layout.decls (tree.way).span.storage)
+      (ap (λ (z : ℕ). is_array v.layout.decls z) (sym agree.0) ∙ a.kind) tree.kind
 
   no_slot : (k : Key) (x : Spot) (t at : ℕ) → IsRecordAt v k x at → t < v.layout.slots → at ≡ slot_at t → ⊥
   no_slot k x t at a within place =
@@ -148,6 +173,7 @@ module _ (l : Layout) (words : List ℕ) (views : List View) (s : Shared) (id : 
           keyed = λ q y here. ap (λ (z : Key). touch p z ∷ []) (sym (one_key k q x y at due.2.place here));
           pointer = λ y sp here. absurd (no_pointer k x y sp at due.2.place here);
           slot = λ t within here. absurd (no_slot k x t at due.2.place within here);
+          tree = λ t i here. absurd (no_tree k x t i at due.2.place here);
         };
         blamed = λ c has. elim (in_push_cases c (touch p k) v.blamed has) [
           | inl old ↦ blamed l words views s id v b c old
@@ -161,15 +187,27 @@ module _ (l : Layout) (words : List ℕ) (views : List View) (s : Shared) (id : 
       keyed = λ q y here. absurd (no_pointer q y due.0 due.1 at here due.2.place);
       pointer = λ y sp here. refl;
       slot = λ t within here. refl;
+      tree = λ t i here. refl;
     };
     blamed = nobody_met;
   }
-  met_by (Some (Conflict at expected seen)) (inr (inr due)) = record {
+  met_by (Some (Conflict at expected seen)) (inr (inr (inr due))) = record {
+    met = [];
+    of = record {
+      keyed = λ q y here. absurd (no_tree q y due.0 due.1 at here due.2.place.word);
+      pointer = λ y sp here. refl;
+      slot = λ t within here. refl;
+      tree = λ t i here. refl;
+    };
+    blamed = nobody_met;
+  }
+  met_by (Some (Conflict at expected seen)) (inr (inr (inl due))) = record {
     met = [];
     of = record {
       keyed = λ q y here. absurd (no_slot q y due.0 at here due.1.within due.1.place);
       pointer = λ y sp here. refl;
       slot = λ t within here. refl;
+      tree = λ t i here. refl;
     };
     blamed = nobody_met;
   }
@@ -201,6 +239,8 @@ forgets laws l slots id me why worker idle due =
       clock = ap (λ (z : List ℕ). get_or z 0 0) same ∙ h.shown.clock;
       decisions = ap (λ (z : List ℕ). get_or z 1 0) same ∙ h.shown.decisions;
       places = refl;
+      history = ([], append-nil m.history);
+      decided = ([], append-nil m.decided);
     } in
     let pages = first_kept l words words' views s id v m active b ten in
     commit_stride laws l words views s id v active b 0 (λ n. n) Forget m w (λ v _ w. HasForgotten why v w) record {
@@ -230,6 +270,7 @@ forgets laws l slots id me why worker idle due =
             mine_own = f.mine_own;
             records = records_none l.decls l.opening m.history;
             kept = low_none m.places;
+            versions = f.versions;
             loaded = tt;
             tried = own.tried;
             took = own.took;
@@ -242,7 +283,7 @@ forgets laws l slots id me why worker idle due =
       drew = refl;
       few = omega arith;
       room = omega (arith, h.sums.room);
-      now = record { within = pages.within; ways = pages.ways; drafts = pages.drafts; copies = pages.copies; blanks = pages.blanks; resident = pages.resident; leads = pages.leads; fills = pages.fills; known = pages.known; shuts = pages.shuts; heads = pages.heads; moved = pages.moved };
+      now = record { within = pages.within; ways = pages.ways; drafts = pages.drafts; copies = pages.copies; blanks = pages.blanks; resident = pages.resident; leads = pages.leads; fills = pages.fills; known = pages.known; shuts = pages.shuts; heads = pages.heads; moved = pages.moved; sealed = pages.sealed; inners = pages.inners; new_leaves = pages.new_leaves; new_inners = pages.new_inners };
       frame = words_same l words words' s p (λ j low. ap (λ (z : List ℕ). get_or z j 0) same);
       deals = record {
         touched = λ q k. omega (arith, takes_same q k v w refl);

@@ -1,5 +1,5 @@
 -- A record is locked by a compare_exchange of its word.
-use Rattle.std.proofs.Common.{◌≡◌, inl, inr, ℕ, ◌+◌, ◌^◌, ◌<◌, Bool, true, false, true≢false, eqb, eq-eqb, List}
+use Rattle.std.proofs.Common.{◌≡◌, inl, inr, ℕ, ◌+◌, ◌<◌, Bool, true, false, true≢false, eqb, eq-eqb, List}
 use Rattle.std.proofs.Common.{get_or, set, refl, sym, ap, ◌∙◌, subst, arith, Some}
 use Rattle.std.specs.Prelude.{MatchBool}
 use Rattle.std.proofs.lemmas.Bool.{and_from}
@@ -26,34 +26,34 @@ use Rattle.commit_core.specs.CoreState.{last_marked}
 use Rattle.engine_pages.specs.declared.layout.Layout.{Layout}
 use Rattle.engine_pages.specs.declared.view.Took.{Took}
 use Rattle.engine_pages.specs.declared.view.View.{View}
-use Rattle.engine_pages.specs.Rule.{Shared, IsHeld, Shows}
+use Rattle.engine_pages.specs.Rule.{Shared, IsBitAt, IsHeld, Shows}
 use Rattle.engine_pages.specs.Views.{IsActive, seat_number}
-use Rattle.engine_pages.specs.Words.{lock_field, ShowsRecord}
+use Rattle.engine_pages.specs.Words.{lock_field}
 use Rattle.engine_pages.proofs.Joint.{Laws}
 use Rattle.engine_pages.proofs.Looks.{look_stride}
 use Rattle.engine_pages.proofs.OwnView.{own_fits}
 use Rattle.engine_pages.proofs.Turns.{Stride, Begins, allows_at, marks_stay, tried_goes, written}
-use Rattle.page_records.specs.Locks.{lock_bit, took_at, locked, Locked}
+use Rattle.page_records.specs.Locks.{IsOpenWord, lock_bit, took_at, locked, Locked}
 use Rattle.page_records.specs.Reads.{read_at}
-use Rattle.engine_pages.specs.Records.{IsRecordAt}
+use Rattle.engine_pages.specs.Records.{IsAnyRecordAt}
 use Rattle.engine_pages.proofs.CommitSteps.{commit_stride}
 use Rattle.page_records.proofs.Commits.{pages_kept, frame_kept}
-use Rattle.page_records.proofs.Contents.{free_below}
-use Rattle.page_records.proofs.Leaves.{header_is, home, known, leaf_keys, page_is, shown, tree_is, word_is}
+use Rattle.page_records.proofs.Contents.{small_word}
+use Rattle.page_records.proofs.AnyRecord.{Stands, any_leaf, any_shows, any_stands, bit_free, bit_one, free_word}
 use Rattle.page_records.proofs.Looks.{pages_same}
-use Rattle.page_records.proofs.Placing.{Replaced, replaced_leaf, replaced_shows, low_replaced, held_other}
+use Rattle.page_records.proofs.Placing.{Restored, low_replaced, held_other}
 use Rattle.page_records.proofs.Seeing.{free_alive}
-use Rattle.page_records.proofs.Touching.{lock_deals, meet_deals}
+use Rattle.page_records.proofs.TreeTouching.{any_lock, any_meet}
 
 -- nobody holds what is free
 free_not_held : (p : ℕ) (h : Holder) → h ≡ Free → holder_is p h ≡ true → ⊥
 free_not_held p h free held = true≢false (sym held ∙ ap (holder_is p) free)
 
 pub locks : Laws → (l : Layout) (slots id : ℕ) (me : Me (Unit {0}) View) (k : Key) (x : Spot) (at expected : ℕ)
-    → IsActive me.0.role → can_begin me.0.seat.stage ≡ true → IsRecordAt me.0 k x at → expected < 2 ^ 60
+    → IsActive me.0.role → can_begin me.0.seat.stage ≡ true → IsAnyRecordAt me.0 k x at → IsOpenWord expected
     → Allows (λ s. Shows l s.words s.views) slots id me at (λ n. either (eqb n expected) (expected + lock_bit) n)
     (λ n now. (now.1 ≡ me.1) × Locked k x at expected me.0 n now.0)
-locks laws l slots id me k x at expected active idle is few =
+locks laws l slots id me k x at expected active idle is open-word =
     allows_at laws l slots id me at (λ n. either (eqb n expected) (expected + lock_bit) n) (Locked k x at expected)
     active (λ words views s b. by_found words views s b (eqb (get_or words at 0) expected) refl)
   where
@@ -70,41 +70,38 @@ locks laws l slots id me k x at expected active idle is few =
         let own = b.own in
         let n : ℕ = get_or words at 0 in
         let is_expected : n ≡ expected = grind (arith, nat_tests) in
-        let shows : ShowsRecord words at (place_of m.places x) = shown l words views s id v b k x at is in
+        let r : Stands l words s v k x at = any_stands l words views s id v b k x at is in
         let q = place_of m.places x in
+        let one-bit = bit_one l.decls m k q r.absent r.bit in
         let free : q.holder ≡ Free =
-        free_below (number_word q.content.number) q.holder (let found = shows.word in omega arith) in
-        let found : number_word q.content.number ≡ n =
-        let word = shows.word in let none : lock_field q.holder ≡ 0 = ap lock_field free in omega arith in
+        free_word (number_word q.content.number) r.absent q.holder (small_word q.content.number r.small) one-bit
+        (subst IsOpenWord (sym is_expected ∙ r.word) open-word) in
+        let found : number_word q.content.number + r.absent ≡ n =
+        let word = r.word in let none : lock_field q.holder ≡ 0 = ap lock_field free in omega arith in
         let alive : q.holder ≡ Dead → ⊥ = free_alive q.holder free in
-        let at-home = home l words views s id v b k x at is alive in
+        let at-home = r.home alive in
         let spot-is : spot_at m.homes k ≡ Some x = ap spot_of at-home in
         let q' : Place = place q.content (Held p) in
         let next : Story = record m { places = placed m.places x q' } in
         let f : ℕ → ℕ = λ n. either (eqb n expected) (expected + lock_bit) n in
         let y : ℕ = f n in
-        let y-is : y ≡ number_word q.content.number + lock_bit =
-        ap (λ b. either b (expected + lock_bit) n) e ∙ ap (λ z. z + lock_bit) (sym (found ∙ is_expected)) in
-        let word = word_is l words views s id v b k x at is in
-        let wr = written words at y (let long = h.shown.long in let c = word.slot in let i = word.within in omega arith) in
+        let y-is : y ≡ n + lock_bit =
+        ap (λ b. either b (expected + lock_bit) n) e ∙ ap (λ z. z + lock_bit) (sym is_expected) in
+        let wr = written words at y (let long = h.shown.long in let within = r.within in omega arith) in
         let w = locked k x at n v in
         let words' = set words at y in
-        let leaf = page_is l words views s id v b k x at is in
-        let keys = leaf_keys l words views s id v b k x at is in
-        let new : Replaced l words words' m x at q' = record {
-          word = word;
+        let new : Restored l words words' m k x at q' = record {
           alive = alive;
           long = wr.long;
           others = λ j other _. wr.others j other;
-          shows = record {
-            word = wr.here ∙ y-is;
-            value = wr.others (at + 1) (λ e. absurd (omega arith)) ∙ shows.value;
-            never = shows.never;
-            small = shows.small;
-          };
+          absent = r.absent;
+          word = let here = wr.here in omega (arith, y-is, found);
+          bit = inl (bit_free l.decls m k q r.absent free r.bit);
+          value = wr.others (at + 1) (λ e. absurd (omega arith)) ∙ r.value;
+          never = r.never;
+          small = r.small;
         } in
-        let one = replaced_leaf l words words' s x at q' keys (known l words views s id v b k x at is)
-        (header_is l words views s id v b k x at is) leaf new in
+        let one = any_leaf l words views s id v b k x at words' q' new is in
         let now = pages_kept laws l words words' views s id v active b next x.slot one in
         commit_stride laws l words views s id v active b at f (Lock k) next w (Locked k x at expected) record {
           lets = refl;
@@ -117,10 +114,9 @@ locks laws l slots id me k x at expected active idle is few =
           made = refl;
           small = record { first = h.small.first; drawn = h.small.drawn; clock = h.small.clock };
           valued = h.valued;
-          shown = replaced_shows l words words' m s.table s.trees s.resident x at q' keys h.few.1 leaf
-              (tree_is l words views s id v b k x at is) h.shown new;
+          shown = any_shows l words views s id v b k x at words' q' new is;
           marks = marks_stay words words' s.seats p v.seat w.seat h.marks own.seat refl
-              (λ j lo hi. wr.others j (λ e. let a = word.word in absurd (omega arith)));
+              (λ j lo hi. wr.others j (λ e. let a = r.behind in absurd (omega arith)));
           marked = λ place mark has. has;
           marks_low = subst (λ (z : Seat). last_marked z.marks < m.epoch) (sym own.seat) (h.marked p);
           drawn = λ a has. inl has;
@@ -133,25 +129,29 @@ locks laws l slots id me k x at expected active idle is few =
             mine_own = fv.mine_own;
             records = fv.records;
             kept = low_replaced m.places x q' v.seat.kept alive (inl refl) fv.kept;
+            versions = fv.versions;
             loaded = tt;
             tried = own.tried;
             took = λ t has. elim (in_push_cases t (took_at k x n) v.took has) [
               | inl old ↦
                   let held = own.took t old in (
                     held.0,
-                    held_other m p x held.0 q' t
+                    held_other l.decls m p x held.0 q' t
                         (λ e. free_not_held p q.holder free
                         (subst (λ z. holder_is p (place_of m.places z).holder ≡ true) (sym e) held.1.own))
                         held.1,
                   )
               | inr new ↦
-                  subst (λ (t : Took). (z : Spot) × IsHeld next p t z) new (
+                  subst (λ (t : Took). (z : Spot) × IsHeld l.decls next p t z) new (
                     x,
                     let here = place_of-placed_same m.places x q' alive in record {
                       spot = refl;
                       home = at-home;
                       own = subst (λ (z : Place). holder_is p z.holder ≡ true) (sym here) (eq-eqb p p refl);
-                      number = ap (λ (z : Place). number_word z.content.number) here ∙ found;
+                      absent = r.absent;
+                      number = ap (λ (z : Place). number_word z.content.number + r.absent) here ∙ found;
+                      bit = subst (λ (z : Place). IsBitAt l.decls m k z r.absent) (sym here)
+                          (inl (bit_free l.decls m k q r.absent free r.bit));
                     },
                   )
             ];
@@ -168,11 +168,11 @@ locks laws l slots id me k x at expected active idle is few =
           drew = refl;
           few = omega arith;
           room = omega (arith, h.sums.room);
-          now = record { within = now.within; ways = now.ways; drafts = now.drafts; copies = now.copies; blanks = now.blanks; resident = now.resident; leads = now.leads; fills = now.fills; known = now.known; shuts = now.shuts; heads = now.heads; moved = now.moved };
+          now = record { within = now.within; ways = now.ways; drafts = now.drafts; copies = now.copies; blanks = now.blanks; resident = now.resident; leads = now.leads; fills = now.fills; known = now.known; shuts = now.shuts; heads = now.heads; moved = now.moved; sealed = now.sealed; inners = now.inners; new_leaves = now.new_leaves; new_inners = now.new_inners };
           frame = frame_kept laws l words words' views s id v active b next x.slot one;
-          deals = lock_deals l words views s id v b k x at is n words' record {
+          deals = any_lock l words views s id v b k x at is n words' record {
             long = wr.long;
-            here = wr.here ∙ (ap (λ b. either b (expected + lock_bit) n) e ∙ ap (λ z. z + lock_bit) (sym is_expected));
+            here = wr.here ∙ y-is;
             others = wr.others;
           };
         }
@@ -184,9 +184,9 @@ locks laws l slots id me k x at expected active idle is few =
         let now = pages_same l words views s id v active b in
         look_stride l words views s id v active b at (λ n. either (eqb n expected) (expected + lock_bit) n) w (Locked k x at expected)
         (ap (λ b. either b (expected + lock_bit) n) e)
-        record { layout = refl; role = refl; made = refl; past = refl; parked = refl; epoch = refl; mine = refl; draws = refl; due = refl; seat = refl; checked = refl; took = refl; loaded = refl; met = refl; heard = refl; history = refl; decided = refl }
+        record { layout = refl; role = refl; made = refl; past = refl; parked = refl; epoch = refl; mine = refl; draws = refl; due = refl; seat = refl; checked = refl; took = refl; loaded = refl; met = refl; heard = refl; history = refl; decided = refl; versions = refl }
         refl
-        record { within = now.within; ways = now.ways; drafts = now.drafts; copies = now.copies; blanks = now.blanks; resident = now.resident; leads = now.leads; fills = now.fills; known = now.known; shuts = now.shuts; heads = now.heads; moved = now.moved }
-        (meet_deals l words views s id v b k x at is w at (omega arith) (omega arith)
+        record { within = now.within; ways = now.ways; drafts = now.drafts; copies = now.copies; blanks = now.blanks; resident = now.resident; leads = now.leads; fills = now.fills; known = now.known; shuts = now.shuts; heads = now.heads; moved = now.moved; sealed = now.sealed; inners = now.inners; new_leaves = now.new_leaves; new_inners = now.new_inners }
+        (any_meet l words views s id v b k x at is w at (omega arith) (omega arith)
         record { role = refl; ways = refl; took = refl; gone = refl; touched = refl; blamed = refl; locks = refl } refl)
         (subst (λ b. MatchBool b (w ≡ locked k x at n v) (w ≡ read_at at n v)) (sym e) refl)

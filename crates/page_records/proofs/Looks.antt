@@ -1,11 +1,13 @@
--- Loads that are no act, where the view may have another value loaded.
+-- Loads that are no act, where the view may have another value loaded, or see more of what stood at keys.
 use Rattle.std.proofs.Common.{◌≡◌, ℕ, List, get_or, sym, subst, IfSome}
+use Rattle.std.specs.List.{Contains}
 use Rattle.lists.specs.Fronts.{IsFront, front_refl}
 use Rattle.serial_model.specs.declared.number.Number.{Number}
 use Rattle.commit_core.specs.declared.attempt.Attempt.{Attempt}
 use Rattle.engine_pages.specs.declared.layout.Layout.{Layout}
+use Rattle.engine_pages.specs.declared.view.Version.{Version}
 use Rattle.engine_pages.specs.declared.view.View.{View}
-use Rattle.engine_pages.specs.Rule.{Shared, StillLoaded}
+use Rattle.engine_pages.specs.Rule.{Shared, IsOneOf, StillLoaded}
 use Rattle.engine_pages.specs.Views.{IsActive, seat_number}
 use Rattle.engine_pages.proofs.Facing.{Deals}
 use Rattle.engine_pages.proofs.Joint.{shared_now}
@@ -15,7 +17,7 @@ use Rattle.engine_pages.proofs.Seats.{is_at}
 use Rattle.engine_pages.proofs.SlotSteps.{PagesNow}
 use Rattle.engine_pages.proofs.Turns.{Stride, Begins}
 
--- the view has the same part of the commits, but for the value that it loaded
+-- the view has the same part of the commits, but for the value that it loaded and what it saw to have stood at keys
 pub record SameRest (v w : View) : Type 0 where
   pub layout : w.layout ≡ v.layout
   pub role : w.role ≡ v.role
@@ -51,16 +53,21 @@ module _ (l : Layout) (words : List ℕ) (views : List View) (s : Shared) (id : 
     shuts = b.pages.shuts (seat_number v.role) (is_at v.role active);
     heads = b.pages.treed.heads (seat_number v.role) (is_at v.role active);
     moved = b.pages.treed.moved;
+    sealed = b.pages.treed.sealed (seat_number v.role) (is_at v.role active);
+    inners = b.pages.treed.inners;
+    new_leaves = b.pages.treed.new_leaves;
+    new_inners = b.pages.treed.new_inners;
   }
 
 module _ (l : Layout) (words : List ℕ) (views : List View) (s : Shared) (id : ℕ) (v : View) (active : IsActive v.role)
     (b : Begins l words views s id v) (i : ℕ) (f : ℕ → ℕ) (w : View) where
   pub look_loaded : (tells : View → ℕ → View → Type 0) → f (get_or words i 0) ≡ get_or words i 0 → SameRest v w
       → IfSome w.loaded (StillLoaded s.story.history s.story.decided s.story.places v.seat.kept)
+      → ((x : Version) → Contains w.versions x → IsOneOf l.decls l.opening s.story.history x)
       → w.grip ≡ v.grip → PagesNow l words (shared_now s (seat_number v.role) s.story s.table s.trees s.resident w) w
       → Deals l words words s (seat_number v.role) views v w → tells v (get_or words i 0) w
       → Stride l words views s (seat_number v.role) v i f tells
-  look_loaded tells keeps same loaded grip now deals tells-so =
+  look_loaded tells keeps same loaded versions grip now deals tells-so =
       let m = s.story in
       load_stride l words views s id v active b i f w tells keeps record {
         role = same.role;
@@ -71,6 +78,7 @@ module _ (l : Layout) (words : List ℕ) (views : List View) (s : Shared) (id : 
         draws = same.draws;
         fits = seen_fits l m s.seats v w active b.fits same.layout same.role same.made same.past same.parked same.epoch
             same.mine same.due same.seat same.checked same.took loaded same.met same.heard
+            versions
             (subst (λ (x : List Attempt). IsFront v.history x) (sym same.history) (front_refl v.history))
             (subst (λ (x : List Number). IsFront v.decided x) (sym same.decided) (front_refl v.decided))
             (subst (λ (x : List Attempt). IsFront x m.history) (sym same.history) b.fits.history)

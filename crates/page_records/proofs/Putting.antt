@@ -4,6 +4,7 @@ use Rattle.std.proofs.Common.{sym, ap, ◌∙◌, subst, arith, Option, Some, No
 use Rattle.std.specs.Prelude.{is_some, unwrap_or}
 use Rattle.std.specs.Option.{option_map_or}
 use Rattle.std.proofs.lemmas.Bool.{and_from}
+use Rattle.lists.specs.Elements.{at_in}
 use Rattle.atomic_table.specs.Table.{Me, Allows}
 use Rattle.serial_model.specs.declared.key.Key.{Key}
 use Rattle.homes.specs.declared.places.Holder.TheVariants.{Dead}
@@ -20,24 +21,25 @@ use Rattle.commit_core.specs.CoreState.{last_marked}
 use Rattle.commit_core.specs.Places.{place, place_of, placed, spot_at, spot_of, is_held_at, holder_is}
 use Rattle.engine_pages.specs.declared.layout.Layout.{Layout}
 use Rattle.engine_pages.specs.declared.view.View.{View}
-use Rattle.engine_pages.specs.Rule.{Shows}
+use Rattle.engine_pages.specs.Rule.{IsBitAt, Shows}
 use Rattle.engine_pages.specs.Views.{IsActive, seat_number}
-use Rattle.engine_pages.specs.Words.{ShowsRecord}
 use Rattle.engine_pages.proofs.Joint.{Laws}
 use Rattle.engine_pages.proofs.OwnView.{own_fits}
 use Rattle.engine_pages.proofs.Seats.{at_front}
 use Rattle.engine_pages.proofs.Turns.{allows_at, marks_stay, tried_goes, written}
 use Rattle.page_records.specs.Locks.{put_at, CanPut}
-use Rattle.engine_pages.specs.Records.{IsRecordAt}
+use Rattle.engine_pages.specs.Records.{IsAnyRecordAt}
 use Rattle.engine_pages.proofs.CommitSteps.{commit_stride}
 use Rattle.page_records.proofs.Commits.{pages_kept, frame_kept}
-use Rattle.page_records.proofs.Leaves.{header_is, known, leaf_keys, page_is, shown, tree_is, word_is}
+use Rattle.page_records.proofs.AnyRecord.{Stands, any_leaf, any_shows, any_stands}
+use Rattle.page_records.proofs.Contents.{value_written}
 use Rattle.page_records.proofs.Opening.{held_alive, taken_home, taken_held}
-use Rattle.page_records.proofs.Touching.{put_deals}
-use Rattle.page_records.proofs.Placing.{Replaced, replaced_leaf, replaced_shows, low_replaced, held_same}
+use Rattle.page_records.proofs.Placing.{Restored, low_replaced, held_same}
+use Rattle.page_records.proofs.TreeTouching.{any_put}
+use Rattle.page_records.proofs.Undecided.{put_bit}
 
 pub puts : Laws → (l : Layout) (slots id : ℕ) (me : Me (Unit {0}) View) (k : Key) (x : Spot)
-    (at value : ℕ) → IsActive me.0.role → IsRecordAt me.0 k x at → CanPut me.0 k x value
+    (at value : ℕ) → IsActive me.0.role → IsAnyRecordAt me.0 k x at → CanPut me.0 k x value
     → Allows (λ s. Shows l s.words s.views) slots id me (at + 1) (λ _. value)
     (λ _ now. (now.1 ≡ me.1) × (now.0 ≡ put_at k (at + 1) value me.0))
 puts laws l slots id me k x at value active is can =
@@ -50,7 +52,7 @@ puts laws l slots id me k x at value active is can =
     let f = b.fits in
     let own = b.own in
     let a = can.attempt in
-    let shows : ShowsRecord words at (place_of m.places x) = shown l words views s id v b k x at is in
+    let r : Stands l words s v k x at = any_stands l words views s id v b k x at is in
     let q = place_of m.places x in
     let at-home = taken_home l words views s id v k x can.found b can.took in
     let spot-is : spot_at m.homes k ≡ Some x = ap spot_of at-home in
@@ -58,28 +60,26 @@ puts laws l slots id me k x at value active is can =
     let alive : q.holder ≡ Dead → ⊥ = held_alive p q.holder held in
     let chosen : attempt_decided m.history v.seat.stage ≡ Some a =
     ap (attempt_decided m.history) can.stage ∙ at_front v.history m.history can.index a f.history can.at in
-    let q' : Place = place (content_of q.content.number (Some value)) q.holder in
+    let q' : Place = place (content_of q.content.number can.value) q.holder in
     let next : Story = record m { places = placed m.places x q' } in
     let w = put_at k (at + 1) value v in
-    let word = word_is l words views s id v b k x at is in
-    let wr = written words (at + 1) value (let long = h.shown.long in let c = word.slot in let i = word.within in let a = word.word in omega arith) in
+    let wr = written words (at + 1) value (let long = h.shown.long in let within = r.within in omega arith) in
     let words' = set words (at + 1) value in
-    let leaf = page_is l words views s id v b k x at is in
-    let keys = leaf_keys l words views s id v b k x at is in
-    let new : Replaced l words words' m x at q' = record {
-      word = word;
+    let here = at_front v.history m.history can.index a f.history can.at in
+    let new : Restored l words words' m k x at q' = record {
       alive = alive;
       long = wr.long;
       others = λ j _ other. wr.others j other;
-      shows = record {
-        word = wr.others at (λ e. absurd (omega arith)) ∙ shows.word;
-        value = wr.here;
-        never = λ none. absurd (cc);
-        small = shows.small;
-      };
+      absent = r.absent;
+      word = wr.others at (λ e. absurd (omega arith)) ∙ r.word;
+      bit = put_bit l words views s id v b k x at-home held can.index a can.value can.stage can.at can.writes r.absent r.bit;
+      value = wr.here ∙ can.is;
+      never = λ array none.
+          absurd (value_written l.decls m.history k a can.value array h.valued (at_in m.history can.index a here) can.writes
+          none);
+      small = r.small;
     } in
-    let one = replaced_leaf l words words' s x at q' keys (known l words views s id v b k x at is)
-    (header_is l words views s id v b k x at is) leaf new in
+    let one = any_leaf l words views s id v b k x at words' q' new is in
     let now = pages_kept laws l words words' views s id v active b next x.slot one in
     commit_stride laws l words views s id v active b (at + 1) (λ _. value) (Put k) next w
     (λ v _ w. w ≡ put_at k (at + 1) value v) record {
@@ -92,17 +92,16 @@ puts laws l slots id me k x at value active is can =
       story-is = ap (λ o. let z : Story = record m { places = valued_places (value_to_put k o) m.places (spot_at m.homes k) } in z) chosen
           ∙ (ap (λ (o : Option (Option ℕ)). let z : Story = record m { places = valued_places (unwrap_or o None) m.places (spot_at m.homes k) } in z)
           can.writes
-          ∙ ap (λ o. let z : Story = record m { places = valued_places (Some value) m.places o } in z) spot-is);
+          ∙ ap (λ o. let z : Story = record m { places = valued_places can.value m.places o } in z) spot-is);
       seat-is = refl;
       grip = refl;
       role = refl;
       made = refl;
       small = record { first = h.small.first; drawn = h.small.drawn; clock = h.small.clock };
       valued = h.valued;
-      shown = replaced_shows l words words' m s.table s.trees s.resident x at q' keys h.few.1 leaf
-          (tree_is l words views s id v b k x at is) h.shown new;
+      shown = any_shows l words views s id v b k x at words' q' new is;
       marks = marks_stay words words' s.seats p v.seat w.seat h.marks own.seat refl
-          (λ j lo hi. wr.others j (λ e. let a = word.word in absurd (omega arith)));
+          (λ j lo hi. wr.others j (λ e. let a = r.behind in absurd (omega arith)));
       marked = λ place mark has. has;
       marks_low = subst (λ (z : Seat). last_marked z.marks < m.epoch) (sym own.seat) (h.marked p);
       drawn = λ a has. inl has;
@@ -115,10 +114,21 @@ puts laws l slots id me k x at value active is can =
         mine_own = f.mine_own;
         records = f.records;
         kept = low_replaced m.places x q' v.seat.kept alive (inl refl) f.kept;
+        versions = f.versions;
         loaded = tt;
         tried = own.tried;
         took = λ t has.
-            let old = own.took t has in (old.0, held_same m p x old.0 q' t alive refl refl old.1);
+            let old = own.took t has in (
+              old.0,
+              held_same l.decls m p x old.0 q' t alive refl refl
+                  (λ absent e bit.
+                  let same : t.key ≡ k = h.joint.commits.story.homes_apart t.key k x
+                  (ap spot_of old.1.home ∙ ap Some (sym e)) spot-is in
+                  subst (λ (z : Key). IsBitAt l.decls m z q' absent) (sym same)
+                  (put_bit l words views s id v b k x at-home held can.index a can.value can.stage can.at can.writes absent
+                  (subst (λ (z : Key). IsBitAt l.decls m z q absent) same bit)))
+                  old.1,
+            );
         locked = own.locked;
         low = f.low;
         epoch = λ keeper. (f.keepers keeper).epoch;
@@ -128,8 +138,8 @@ puts laws l slots id me k x at value active is can =
       drew = refl;
       few = omega arith;
       room = omega (arith, h.sums.room);
-      now = record { within = now.within; ways = now.ways; drafts = now.drafts; copies = now.copies; blanks = now.blanks; resident = now.resident; leads = now.leads; fills = now.fills; known = now.known; shuts = now.shuts; heads = now.heads; moved = now.moved };
+      now = record { within = now.within; ways = now.ways; drafts = now.drafts; copies = now.copies; blanks = now.blanks; resident = now.resident; leads = now.leads; fills = now.fills; known = now.known; shuts = now.shuts; heads = now.heads; moved = now.moved; sealed = now.sealed; inners = now.inners; new_leaves = now.new_leaves; new_inners = now.new_inners };
       frame = frame_kept laws l words words' views s id v active b next x.slot one;
-      deals = put_deals l words views s id v b k x at is value words' wr;
+      deals = any_put l words views s id v b k x at is value words' wr;
     }
     refl)

@@ -46,7 +46,7 @@ use Rattle.page_records.proofs.Touching.{meet_deals}
 -- ---- the load of the value
 
 -- what stands at the key is what decided attempts left, or what one of them put above it
-stands_left : (l : Layout) (words : List ℕ) (views : List View) (s : Shared) (k : Key) → Sound l words views s
+pub stands_left : (l : Layout) (words : List ℕ) (views : List View) (s : Shared) (k : Key) → Sound l words views s
     → IsLeftOrPut l.opening s.story k (stands s.story.places s.story.homes k).content
 stands_left l words views s k h = by_holder (stands s.story.places s.story.homes k).holder refl
   where
@@ -138,8 +138,8 @@ loads laws l slots id me k x at active is =
     record { layout = refl; role = refl; made = refl; past = refl; parked = refl; epoch = refl; mine = refl; draws = refl; due = refl; seat = refl; checked = refl; took = refl; met = refl; heard = refl; history = refl; decided = refl }
     (subst (λ y. StillLoaded s.story.history s.story.decided s.story.places v.seat.kept (loaded_at k x y)) (sym shows.value)
     (still l words views s id v k x at b is))
-    refl
-    record { within = now.within; ways = now.ways; drafts = now.drafts; copies = now.copies; blanks = now.blanks; resident = now.resident; leads = now.leads; fills = now.fills; known = now.known; shuts = now.shuts; heads = now.heads; moved = now.moved }
+    b.fits.versions refl
+    record { within = now.within; ways = now.ways; drafts = now.drafts; copies = now.copies; blanks = now.blanks; resident = now.resident; leads = now.leads; fills = now.fills; known = now.known; shuts = now.shuts; heads = now.heads; moved = now.moved; sealed = now.sealed; inners = now.inners; new_leaves = now.new_leaves; new_inners = now.new_inners }
     (meet_deals l words views s id v b k x at is w (at + 1) (omega arith) (omega arith)
     record { role = refl; ways = refl; took = refl; gone = refl; touched = refl; blamed = refl; locks = refl } refl)
     refl)
@@ -182,8 +182,8 @@ confirms laws l slots id me k x at active is =
     let array = array_is l words views s id v b k x at is in
     look_loaded l words views s id v active b at (λ n. n) w (Confirmed k x at) refl
     record { layout = refl; role = refl; made = refl; past = refl; parked = refl; epoch = refl; mine = refl; draws = refl; due = refl; seat = refl; checked = refl; took = refl; met = refl; heard = refl; history = refl; decided = refl }
-    f.loaded refl
-    record { within = now.within; ways = now.ways; drafts = now.drafts; copies = now.copies; blanks = now.blanks; resident = now.resident; leads = now.leads; fills = now.fills; known = now.known; shuts = now.shuts; heads = now.heads; moved = now.moved }
+    f.loaded f.versions refl
+    record { within = now.within; ways = now.ways; drafts = now.drafts; copies = now.copies; blanks = now.blanks; resident = now.resident; leads = now.leads; fills = now.fills; known = now.known; shuts = now.shuts; heads = now.heads; moved = now.moved; sealed = now.sealed; inners = now.inners; new_leaves = now.new_leaves; new_inners = now.new_inners }
     (meet_deals l words views s id v b k x at is w at (omega arith) (omega arith)
     record { role = refl; ways = refl; took = refl; gone = refl; touched = refl; blamed = refl; locks = refl } refl)
     record {

@@ -21,7 +21,7 @@ use Rattle.commit_core.specs.Event.{decided_stage}
 use Rattle.commit_core.specs.Serial.{ReadsFrom, state_below}
 use Rattle.engine_pages.specs.declared.view.View.{View}
 use Rattle.engine_pages.specs.Pages.{is_array}
-use Rattle.engine_pages.specs.Rule.{has_word}
+use Rattle.engine_pages.specs.Rule.{absence, has_word}
 use Rattle.engine_pages.specs.Steps.{read_at}
 use Rattle.engine_pages.specs.Views.{seat_number}
 use Rattle.engine_pages.specs.Words.{IsSmall}
@@ -87,9 +87,10 @@ pub record CanCheck (v : View) (k : Key) (x : Spot) (c : Content) : Type 0 where
   pub unchecked : has_word v.checked (Record x) ≡ false
   pub small : IsSmall c.number
 
--- so it is of the part of a key's record whose number has this word
+-- so it is of the part of a key's record that had this word
 abbrev pub CanCheckWord : View → Key → Spot → ℕ → Type 0
-CanCheckWord v k x word = (c : Content) × CanCheck v k x c × (word ≡ number_word c.number)
+CanCheckWord v k x word =
+    (c : Content) × CanCheck v k x c × (word ≡ number_word c.number + absence v.layout.decls k c.value)
 
 -- the word is the one that was seen, maybe with an own lock
 abbrev pub is_as_seen : ℕ → Bool → ℕ → Bool

@@ -1,5 +1,5 @@
 -- How a transaction begins, and how it ends before its draw: what it was refused for has to be due.
-use Rattle.std.specs.Prelude.{◌≡◌, ◌≢◌, ◌⊎◌, ℕ, suc, ◌+◌, ◌%◌, ◌^◌, ◌<◌, ◌≤◌, Bool, true, false, List, [], ◌∷◌, ◌++◌}
+use Rattle.std.specs.Prelude.{◌≡◌, ◌≢◌, ◌⊎◌, ℕ, suc, ◌+◌, ◌/◌, ◌%◌, ◌^◌, ◌<◌, ◌≤◌, Bool, true, false, List, [], ◌∷◌, ◌++◌}
 use Rattle.std.specs.Prelude.{nat_lt, length, Option, Some, None, Contains, MatchBool, unwrap_or, ⊤}
 use Rattle.std.specs.List.{last_or, list_all}
 use Rattle.atomic_table.specs.Table.{Step}
@@ -9,15 +9,21 @@ use Rattle.homes.specs.declared.places.At.{At}
 use Rattle.homes.specs.declared.places.At.TheVariants.{Root, In}
 use Rattle.homes.specs.declared.places.Span.{Span}
 use Rattle.homes.specs.declared.places.Spot.{Spot}
+use Rattle.wire_form.specs.Leaves.{tree_leaf, word_in}
 use Rattle.drop_core.specs.Table.{has_slot}
 use Rattle.engine_pages.specs.declared.view.Glance.{Glance}
+use Rattle.engine_pages.specs.declared.view.Head.{Head}
+use Rattle.engine_pages.specs.declared.view.Known.{Known}
 use Rattle.engine_pages.specs.declared.view.RefusalCause.{RefusalCause}
 use Rattle.engine_pages.specs.declared.view.RefusalCause.TheVariants.{Conflict, Full, Wide, NumberLimit}
 use Rattle.engine_pages.specs.declared.view.Role.{Role}
 use Rattle.engine_pages.specs.declared.view.Role.TheVariants.{Keeper, Worker, Note, Spent}
+use Rattle.engine_pages.specs.declared.view.Took.{Took}
 use Rattle.engine_pages.specs.declared.view.Touch.{Touch}
 use Rattle.engine_pages.specs.declared.view.View.{View}
-use Rattle.engine_pages.specs.Layout.{slot_at}
+use Rattle.engine_pages.specs.declared.view.Way.{Way}
+use Rattle.engine_pages.specs.Layout.{page_at, slot_at}
+use Rattle.engine_pages.specs.Pages.{is_tree}
 use Rattle.engine_pages.specs.Pointers.{IsPointerAt}
 use Rattle.engine_pages.specs.Records.{IsRecordAt}
 use Rattle.engine_pages.specs.Slots.{first_retired, is_taken_word, is_usable_word, looks}
@@ -88,6 +94,40 @@ pub record IsPointerInTheWay (x : At) (sp : Span) (at expected seen : ℕ) (v : 
   pub known : (expected ≡ unwrap_or was seen) ⊎ (kept ≡ Some expected)
   pub cause : (2 ^ 60 ≤ seen) ⊎ (seen ≢ expected)
 
+-- a word of the page of a tree's slot that the pass has a way into
+pub record IsTreeWordAt (v : View) (t i at : ℕ) : Type 0 where
+  pub way : Way
+  pub has : Contains v.ways way
+  pub slot : way.slot ≡ t
+  pub kind : is_tree v.layout.decls way.span.storage ≡ true
+  pub there : t < v.layout.slots
+  pub index : i < 64
+  pub word : at ≡ page_at v.layout.slots t i
+
+-- the word of the header of a leaf that the pass knows, or of a record in it
+pub record IsLeafWordAt (v : View) (t i at : ℕ) : Type 0 where
+  pub word : IsTreeWordAt v t i at
+  pub leaf : Known
+  pub knows : Contains v.known leaf
+  pub same : leaf.slot ≡ t
+  pub is : (i ≡ 0) ⊎ ((j : ℕ) × (j < length leaf.keys) × (i ≡ word_in tree_leaf j))
+
+-- So it is at a word of a known leaf, its header's or a record's, that the pass has not locked, in a slot that it has not
+-- left: the word is locked, or is not what it keeps of it as a part, or, where it keeps none, what this transaction saw or
+-- left there before.
+pub record IsTreeWordInTheWay (t i at expected seen : ℕ) (v : View) : Type 0 where
+  pub place : IsLeafWordAt v t i at
+  pub free : (y : Took) → Contains v.took y → (y.spot).slot ≡ t → i ≡ word_in tree_leaf (y.spot).index → ⊥
+  pub unheld : (y : Head) → Contains v.heads y → y.slot ≡ t → i ≡ 0 → ⊥
+  pub here : has_slot v.gone t ≡ false
+  pub step : ℕ
+  pub last : v.last ≡ Some (glance step at seen)
+  pub was : Option ℕ
+  pub kept : Option ℕ
+  pub stands : Contains v.reads (record { word = at; seen = seen; was = was; kept = kept })
+  pub known : (kept ≡ Some expected) ⊎ ((kept ≡ None) × (expected ≡ unwrap_or was seen))
+  pub cause : ((seen / 2 ^ 60) % 2 ≡ 1) ⊎ (seen ≢ expected)
+
 -- The last search for a usable slot found each slot before this one taken, and this one usable, with the expected word;
 -- and the step right behind it found another word there.
 pub record IsSlotChanged (t at expected seen : ℕ) (v : View) : Type 0 where
@@ -114,14 +154,15 @@ pub record AreTaken (told : Option (ℕ × ℕ)) (v : View) : Type 0 where
   pub earlier : Option Glance
   pub last : v.last ≡ last_or earlier (looks step 0 words)
 
--- A transaction that ends is refused for what its pass met: at a record, at a pointer, at a slot, or at all slots. That
--- a set was full is told by who has it. A begin alone is refused a number.
+-- A transaction that ends is refused for what its pass met: at a record, at a pointer, at a slot, at a tree's page, or at
+-- all slots. That a set was full is told by who has it. A begin alone is refused a number.
 abbrev pub IsDue : Option RefusalCause → View → Type 0
 IsDue None v = ⊤
 IsDue (Some (Conflict at expected seen)) v =
     ((k : Key) × (x : Spot) × IsInTheWay k x at expected seen v)
     ⊎ (((x : At) × (sp : Span) × IsPointerInTheWay x sp at expected seen v)
-    ⊎ ((t : ℕ) × IsSlotChanged t at expected seen v))
+    ⊎ (((t : ℕ) × IsSlotChanged t at expected seen v)
+    ⊎ ((t : ℕ) × (i : ℕ) × IsTreeWordInTheWay t i at expected seen v)))
 IsDue (Some (Full held)) v = AreTaken held v
 IsDue (Some (Wide set)) v = ⊤
 IsDue (Some (NumberLimit clock)) v = ⊥
@@ -141,11 +182,13 @@ with_why refused (Some r) = refused ++ r ∷ []
 abbrev pub forgot_for : Option RefusalCause → List Touch → View → View
 forgot_for why met v = record (forgot v) { refused = with_why v.refused why; blamed = v.blamed ++ met }
 
--- A conflict at a record's word is one at its key; at a pointer's word, and at a slot's, it is at none.
+-- A conflict at the word of an array's record is one at its key; at a pointer's word, at a slot's, and at one of a tree's
+-- page, it is at none.
 pub record IsMetAt (at : ℕ) (met : List Touch) (v : View) : Type 0 where
   pub keyed : (k : Key) (x : Spot) → IsRecordAt v k x at → met ≡ touch (seat_number v.role) k ∷ []
   pub pointer : (x : At) (sp : Span) → IsPointerAt v x sp at → met ≡ []
   pub slot : (t : ℕ) → t < v.layout.slots → at ≡ slot_at t → met ≡ []
+  pub tree : (t i : ℕ) → IsTreeWordAt v t i at → met ≡ []
 
 -- at which keys a refusal met somebody
 abbrev pub IsMetFor : Option RefusalCause → List Touch → View → Type 0

@@ -1,24 +1,50 @@
 -- What locking, putting and opening tell.
-use Rattle.std.specs.Prelude.{◌≡◌, ℕ, ◌+◌, ◌==◌, true, not, List, [], ◌∷◌, ◌++◌, filter, slice_get, Some, None}
-use Rattle.std.specs.Prelude.{Contains, MatchBool}
+use Rattle.std.specs.Prelude.{◌≡◌, ◌⊎◌, ℕ, ◌+◌, ◌/◌, ◌%◌, ◌^◌, ◌<◌, ◌≤◌, ◌==◌, nat_lt, Bool, true, false, not, List, [], ◌∷◌, ◌++◌, filter}
+use Rattle.std.specs.Prelude.{slice_get, Option, Some, None, cond, Contains, MatchBool, unwrap_or}
+use Rattle.std.proofs.Common.{ap, inl, inr, refl, arith}
+use Rattle.std.proofs.lemmas.Bool.Decides.{nat_tests}
 use Rattle.atomic_table.specs.Table.{Step}
+use Rattle.serial_model.specs.declared.decl.Decl.{Decl}
 use Rattle.serial_model.specs.declared.key.Key.{Key}
 use Rattle.homes.specs.declared.places.Spot.{Spot}
-use Rattle.wire_form.specs.Words.{at_bit, number_word}
+use Rattle.wire_form.specs.Leaves.{tree_leaf}
+use Rattle.wire_form.specs.Words.{absent_field, at_bit, number_word}
 use Rattle.commit_core.specs.declared.attempt.Attempt.{Attempt}
 use Rattle.commit_core.specs.declared.seat.Stage.TheVariants.{Decided}
 use Rattle.commit_core.specs.Keys.{same_key, has_key, written}
 use Rattle.commit_core.specs.CoreState.{can_begin, settled}
 use Rattle.engine_pages.specs.declared.view.Took.{Took}
 use Rattle.engine_pages.specs.declared.view.View.{View}
+use Rattle.engine_pages.specs.Pages.{is_array}
+use Rattle.engine_pages.specs.Rule.{absence}
 use Rattle.engine_pages.specs.Steps.{glanced}
 use Rattle.engine_pages.specs.Touches.{touch}
 use Rattle.engine_pages.specs.Views.{seat_number}
 use Rattle.page_records.specs.Reads.{with_read, read_at}
 
+-- ---- words of records
+
 -- the lock bit of a word
 abbrev pub lock_bit : ℕ
 lock_bit = at_bit 60 1
+
+-- it may be the word of a record that nobody has locked: a number, maybe with the bit of absence
+abbrev pub IsOpenWord : ℕ → Type 0
+IsOpenWord n = (n < 2 ^ 60) ⊎ ((2 ^ 61 ≤ n) × (n < 2 ^ 61 + 2 ^ 60))
+
+-- so it is of a word that was loaded, where its lock bit isn't set
+pub open_bits : (n : ℕ) → n < 2 ^ 62 → (n / 2 ^ 60) % 2 ≡ 0 → IsOpenWord n
+open_bits n few even = by_test (nat_lt n (2 ^ 60)) refl
+  where
+    by_test : (b : Bool) → nat_lt n (2 ^ 60) ≡ b → IsOpenWord n
+    by_test true low = inl (grind (arith, nat_tests))
+    by_test false high =
+        let from : 2 ^ 60 ≤ n = grind (arith, nat_tests) in inr (omega arith, omega arith)
+
+-- the word of an array's record says nothing of its value
+pub array_absence : (decls : List Decl) (k : Key) (value : Option ℕ) → is_array decls k.storage ≡ true
+    → absence decls k value ≡ 0
+array_absence decls k value array = ap (λ (c : Bool). cond c 0 (absent_field tree_leaf value)) array
 
 -- ---- locks
 
@@ -70,7 +96,8 @@ pub record CanOpenAgain (v : View) (k : Key) (x : Spot) (n : ℕ) : Type 0 where
   pub locked : has_key v.seat.locks k ≡ true
   pub took : Contains v.took (took_at k x n)
 
--- the lock stands at this place, and the decided attempt, which has this number, has put its value of the key
+-- The lock stands at this place, and the decided attempt has put its value of the key. The word has that attempt's
+-- number, and whether a tree's record has a value then.
 pub record CanOpenAnew (v : View) (k : Key) (x : Spot) (n : ℕ) : Type 0 where
   pub found : ℕ
   pub took : Contains v.took (took_at k x found)
@@ -80,7 +107,9 @@ pub record CanOpenAnew (v : View) (k : Key) (x : Spot) (n : ℕ) : Type 0 where
   pub at : slice_get v.history index ≡ Some attempt
   pub locked : has_key v.seat.locks k ≡ true
   pub put : has_key v.seat.put k ≡ true
-  pub number : n ≡ number_word attempt.number
+  pub value : Option ℕ
+  pub writes : written k attempt.writes ≡ Some value
+  pub number : n ≡ number_word attempt.number + absence v.layout.decls k value
 
 -- ---- values
 
@@ -97,8 +126,8 @@ put_at k at n v = record v {
 abbrev pub Puts : Key → Step (Unit {0}) → View → ℕ → View → Type 0
 Puts k s v n w = w ≡ put_at k s.word s.first v
 
--- the lock stands at this place, and the decided attempt writes this value to the key
-pub record CanPut (v : View) (k : Key) (x : Spot) (value : ℕ) : Type 0 where
+-- the lock stands at this place, and the decided attempt writes this value to the key, or removes it, which puts 0
+pub record CanPut (v : View) (k : Key) (x : Spot) (n : ℕ) : Type 0 where
   pub found : ℕ
   pub took : Contains v.took (took_at k x found)
   pub index : ℕ
@@ -106,4 +135,6 @@ pub record CanPut (v : View) (k : Key) (x : Spot) (value : ℕ) : Type 0 where
   pub stage : v.seat.stage ≡ Decided index
   pub at : slice_get v.history index ≡ Some attempt
   pub locked : has_key v.seat.locks k ≡ true
-  pub writes : written k attempt.writes ≡ Some (Some value)
+  pub value : Option ℕ
+  pub writes : written k attempt.writes ≡ Some value
+  pub is : n ≡ unwrap_or value 0

@@ -1,5 +1,5 @@
 -- What the loads of a read tell.
-use Rattle.std.specs.Prelude.{◌≡◌, ℕ, ◌^◌, true, nat_lt, List, Some, None, Contains, MatchBool, unwrap_or}
+use Rattle.std.specs.Prelude.{◌≡◌, ℕ, ◌/◌, ◌%◌, ◌^◌, ◌<◌, true, nat_lt, List, Some, None, Contains, MatchBool, unwrap_or}
 use Rattle.atomic_table.specs.Table.{Step}
 use Rattle.lists.specs.Fronts.{IsFront}
 use Rattle.serial_model.specs.declared.key.Key.{Key}
@@ -13,6 +13,7 @@ use Rattle.commit_core.specs.Keys.{opening_number}
 use Rattle.commit_core.specs.Parts.{record_part, with_part}
 use Rattle.commit_core.specs.Serial.{last_write}
 use Rattle.engine_pages.specs.declared.view.Loaded.{Loaded}
+use Rattle.engine_pages.specs.declared.view.Moved.{Moved}
 use Rattle.engine_pages.specs.declared.view.View.{View}
 pub use Rattle.engine_pages.specs.Steps.{seen_at, with_read, read_at}
 use Rattle.engine_pages.specs.Words.{IsSmall}
@@ -51,6 +52,23 @@ Saw k x at v n w = MatchBool (nat_lt n (2 ^ 60)) (SawFree k x at v n w) (w ≡ r
 -- the same of the step
 abbrev pub SeesRecord : Key → Spot → Step (Unit {0}) → View → ℕ → View → Type 0
 SeesRecord k x s v n w = Saw k x s.word v n w
+
+-- ---- a load that keeps nothing
+
+-- The word of a record in this slot was loaded: it has no bit above that of absence, and its number fits; it is locked
+-- where the slot's leaf is known to have been split.
+pub record LoadedWord (t at : ℕ) (v : View) (n : ℕ) (w : View) : Type 0 where
+  pub is : w ≡ read_at at n v
+  pub few : n < 2 ^ 62
+  -- its number
+  pub number : Number
+  pub small : IsSmall number
+  pub says : n % 2 ^ 60 ≡ number_word number
+  pub dead : (x : Moved) → Contains v.moved x → x.slot ≡ t → (n / 2 ^ 60) % 2 ≡ 1
+
+-- the same of the step
+abbrev pub LoadsWord : Spot → Step (Unit {0}) → View → ℕ → View → Type 0
+LoadsWord x s v n w = LoadedWord x.slot s.word v n w
 
 -- ---- the value
 

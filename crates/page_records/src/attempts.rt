@@ -1,7 +1,7 @@
 // Draws, checks and decisions of attempts.
 ghost use Rattle.std.specs.Prelude.{◌≡◌, ℕ};
 ghost use Rattle.engine_pages.specs.Passes.{view, IsPassOf};
-ghost use Rattle.engine_pages.specs.Records.{IsRecordAt};
+ghost use Rattle.engine_pages.specs.Records.{IsAnyRecordAt};
 ghost use Rattle.engine_pages.specs.Touches.{has_took};
 ghost use Rattle.engine_pages.specs.Views.{IsActive};
 ghost use Rattle.page_records.specs.Attempts.{CanDraw, HasDrawn, CanCheckWord, Checked, HeldStays, CanDecide, HasChosen};
@@ -51,7 +51,7 @@ pub fn check(
 ) -> u64
     requires of { IsPassOf engine.now pass.old }
     requires pass { IsActive (view pass.old).role }
-    requires place { IsRecordAt (view pass.old) key spot at }
+    requires place { IsAnyRecordAt (view pass.old) key spot at }
     requires part { CanCheckWord (view pass.old) key spot word }
     requires own { own ≡ has_took (view pass.old).took key spot }
     ensures of { IsPassOf engine.now pass.new }
@@ -72,7 +72,7 @@ fn check_as<J: Compared>(
 ) -> u64
     requires of { IsPassOf engine.now pass.old }
     requires pass { IsActive (view pass.old).role }
-    requires place { IsRecordAt (view pass.old) key spot at }
+    requires place { IsAnyRecordAt (view pass.old) key spot at }
     requires part { CanCheckWord (view pass.old) key spot word }
     requires own { own ≡ has_took (view pass.old).took key spot }
     requires named { (key ≡ J.key) × (spot ≡ J.spot) × (word ≡ J.word) × (own ≡ J.own) }

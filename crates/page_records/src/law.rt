@@ -32,6 +32,18 @@ impl<J: Placed> Play<(), View> for Seeing<J> {
     ghost then = { told (SeesRecord J.key J.spot) };
 }
 
+/// A load of a record's word that keeps nothing.
+pub struct LoadingWord<J: Placed> {
+    of: PhantomData<J>,
+}
+
+impl<J: Placed> Play<(), View> for LoadingWord<J> {
+    ghost use Rattle.engine_pages.specs.Steps.{told};
+    ghost use Rattle.page_records.specs.Reads.{LoadsWord};
+
+    ghost then = { told (LoadsWord J.spot) };
+}
+
 /// The load of a value.
 pub struct Loading<J: Placed> {
     of: PhantomData<J>,

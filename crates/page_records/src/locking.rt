@@ -1,10 +1,11 @@
 // Locks of records, and what is put under them.
-ghost use Rattle.std.specs.Prelude.{◌≡◌, ◌+◌, ◌<◌, ◌^◌, true};
+ghost use Rattle.std.specs.Prelude.{◌≡◌, ◌+◌, true};
 ghost use Rattle.commit_core.specs.CoreState.{can_begin};
 ghost use Rattle.engine_pages.specs.Passes.{view, IsPassOf};
 ghost use Rattle.engine_pages.specs.Views.{IsActive};
-ghost use Rattle.page_records.specs.Locks.{Locked, opened, put_at, CanOpenAgain, CanOpenAnew, CanPut};
-ghost use Rattle.engine_pages.specs.Records.{IsRecordAt};
+ghost use Rattle.page_records.specs.Locks.{IsOpenWord, Locked, opened, put_at, CanOpenAgain};
+ghost use Rattle.page_records.specs.Locks.{CanOpenAnew, CanPut};
+ghost use Rattle.engine_pages.specs.Records.{IsAnyRecordAt};
 
 use crate::law::{Locking, Opening, Placed, Putting};
 use crate::laws::laws;
@@ -21,8 +22,8 @@ pub fn lock(engine: &Engine, pass: &mut Pass, key: Key, spot: Spot, at: u32, exp
     requires of { IsPassOf engine.now pass.old }
     requires pass { IsActive (view pass.old).role }
     requires idle { can_begin (view pass.old).seat.stage ≡ true }
-    requires place { IsRecordAt (view pass.old) key spot at }
-    requires expected { expected < 2 ^ 60 }
+    requires place { IsAnyRecordAt (view pass.old) key spot at }
+    requires expected { IsOpenWord expected }
     ensures of { IsPassOf engine.now pass.new }
     ensures locks { Locked key spot at expected (view pass.old) result (view pass.new) }
 {
@@ -40,8 +41,8 @@ fn lock_as<J: Placed>(
     requires of { IsPassOf engine.now pass.old }
     requires pass { IsActive (view pass.old).role }
     requires idle { can_begin (view pass.old).seat.stage ≡ true }
-    requires place { IsRecordAt (view pass.old) key spot at }
-    requires expected { expected < 2 ^ 60 }
+    requires place { IsAnyRecordAt (view pass.old) key spot at }
+    requires expected { IsOpenWord expected }
     requires named { (key ≡ J.key) × (spot ≡ J.spot) }
     ensures of { IsPassOf engine.now pass.new }
     ensures locks { Locked key spot at expected (view pass.old) result (view pass.new) }
@@ -53,11 +54,12 @@ fn lock_as<J: Placed>(
         .compare_exchange::<Locking<J>>(pass, at as usize, expected, expected + LOCK)
 }
 
-/// Puts the value that the decided attempt writes to a key, whose record's word stands here.
+/// Puts the value that the decided attempt writes to a key, whose record's word stands here, or 0 where it removes the
+/// key.
 pub fn put(engine: &Engine, pass: &mut Pass, key: Key, spot: Spot, at: u32, value: u64)
     requires of { IsPassOf engine.now pass.old }
     requires pass { IsActive (view pass.old).role }
-    requires place { IsRecordAt (view pass.old) key spot at }
+    requires place { IsAnyRecordAt (view pass.old) key spot at }
     requires writes { CanPut (view pass.old) key spot value }
     ensures of { IsPassOf engine.now pass.new }
     ensures puts { view pass.new ≡ put_at key (at + 1) value (view pass.old) }
@@ -68,7 +70,7 @@ pub fn put(engine: &Engine, pass: &mut Pass, key: Key, spot: Spot, at: u32, valu
 fn put_as<J: Placed>(engine: &Engine, pass: &mut Pass, key: Key, spot: Spot, at: u32, value: u64)
     requires of { IsPassOf engine.now pass.old }
     requires pass { IsActive (view pass.old).role }
-    requires place { IsRecordAt (view pass.old) key spot at }
+    requires place { IsAnyRecordAt (view pass.old) key spot at }
     requires writes { CanPut (view pass.old) key spot value }
     requires named { (key ≡ J.key) × (spot ≡ J.spot) }
     ensures of { IsPassOf engine.now pass.new }
@@ -85,7 +87,7 @@ fn put_as<J: Placed>(engine: &Engine, pass: &mut Pass, key: Key, spot: Spot, at:
 pub fn open_again(engine: &Engine, pass: &mut Pass, key: Key, spot: Spot, at: u32, word: u64)
     requires of { IsPassOf engine.now pass.old }
     requires pass { IsActive (view pass.old).role }
-    requires place { IsRecordAt (view pass.old) key spot at }
+    requires place { IsAnyRecordAt (view pass.old) key spot at }
     requires word { CanOpenAgain (view pass.old) key spot word }
     ensures of { IsPassOf engine.now pass.new }
     ensures opens { view pass.new ≡ opened key at word (view pass.old) }
@@ -103,7 +105,7 @@ fn open_again_as<J: Placed>(
 )
     requires of { IsPassOf engine.now pass.old }
     requires pass { IsActive (view pass.old).role }
-    requires place { IsRecordAt (view pass.old) key spot at }
+    requires place { IsAnyRecordAt (view pass.old) key spot at }
     requires word { CanOpenAgain (view pass.old) key spot word }
     requires named { (key ≡ J.key) × (spot ≡ J.spot) }
     ensures of { IsPassOf engine.now pass.new }
@@ -116,11 +118,12 @@ fn open_again_as<J: Placed>(
         .store::<Opening<J>>(pass, at as usize, word);
 }
 
-/// Opens the lock of a key, whose record's word stands here, with the number of the attempt that counts.
+/// Opens the lock of a key, whose record's word stands here, with the number of the attempt that counts, and with the bit
+/// of absence where a tree's key was removed.
 pub fn open_anew(engine: &Engine, pass: &mut Pass, key: Key, spot: Spot, at: u32, word: u64)
     requires of { IsPassOf engine.now pass.old }
     requires pass { IsActive (view pass.old).role }
-    requires place { IsRecordAt (view pass.old) key spot at }
+    requires place { IsAnyRecordAt (view pass.old) key spot at }
     requires word { CanOpenAnew (view pass.old) key spot word }
     ensures of { IsPassOf engine.now pass.new }
     ensures opens { view pass.new ≡ opened key at word (view pass.old) }
@@ -138,7 +141,7 @@ fn open_anew_as<J: Placed>(
 )
     requires of { IsPassOf engine.now pass.old }
     requires pass { IsActive (view pass.old).role }
-    requires place { IsRecordAt (view pass.old) key spot at }
+    requires place { IsAnyRecordAt (view pass.old) key spot at }
     requires word { CanOpenAnew (view pass.old) key spot word }
     requires named { (key ≡ J.key) × (spot ≡ J.spot) }
     ensures of { IsPassOf engine.now pass.new }

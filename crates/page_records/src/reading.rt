@@ -3,10 +3,10 @@ ghost use Rattle.std.specs.Prelude.{◌≡◌, ◌+◌, false};
 ghost use Rattle.commit_core.specs.CoreState.{is_trying};
 ghost use Rattle.engine_pages.specs.Passes.{view, IsPassOf};
 ghost use Rattle.engine_pages.specs.Views.{IsActive};
-ghost use Rattle.page_records.specs.Reads.{valued, Confirmed, Saw};
-ghost use Rattle.engine_pages.specs.Records.{IsRecordAt};
+ghost use Rattle.page_records.specs.Reads.{valued, Confirmed, LoadedWord, Saw};
+ghost use Rattle.engine_pages.specs.Records.{IsAnyRecordAt, IsRecordAt};
 
-use crate::law::{Confirming, Loading, Placed, Seeing};
+use crate::law::{Confirming, Loading, LoadingWord, Placed, Seeing};
 use crate::laws::laws;
 use engine_pages::{Engine, Pass};
 use homes::Spot;
@@ -35,6 +35,34 @@ fn see_as<J: Placed>(engine: &Engine, pass: &mut Pass, key: Key, spot: Spot, at:
 {
     laws();
     engine.table.shared.load::<Seeing<J>>(pass, at as usize)
+}
+
+/// Loads the record word of a key, of an array or of a tree, which stands here, and keeps nothing of it.
+pub fn load_word(engine: &Engine, pass: &mut Pass, key: Key, spot: Spot, at: u32) -> u64
+    requires of { IsPassOf engine.now pass.old }
+    requires pass { IsActive (view pass.old).role }
+    requires place { IsAnyRecordAt (view pass.old) key spot at }
+    ensures of { IsPassOf engine.now pass.new }
+    ensures loads { LoadedWord spot.slot at (view pass.old) result (view pass.new) }
+{
+    load_word_as::<Brand>(engine, pass, key, spot, at)
+}
+
+fn load_word_as<J: Placed>(engine: &Engine, pass: &mut Pass, key: Key, spot: Spot, at: u32) -> u64
+    requires of { IsPassOf engine.now pass.old }
+    requires pass { IsActive (view pass.old).role }
+    requires place { IsAnyRecordAt (view pass.old) key spot at }
+    requires named { (key ≡ J.key) × (spot ≡ J.spot) }
+    ensures of { IsPassOf engine.now pass.new }
+    ensures loads { LoadedWord spot.slot at (view pass.old) result (view pass.new) }
+{
+    let _ = key;
+    let _ = spot;
+    laws();
+    engine
+        .table
+        .shared
+        .load::<LoadingWord<J>>(pass, at as usize)
 }
 
 /// Loads the value of a key, whose record's word stands here. Whether it belongs to what was seen of the record,

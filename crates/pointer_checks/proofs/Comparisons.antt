@@ -1,93 +1,34 @@
 -- What the machine finds of a pointer that an attempt kept is what its whole word tells.
-use Rattle.std.proofs.Common.{◌≡◌, ◌≢◌, inl, inr, ℕ, ◌+◌, ◌^◌, ◌<◌, Bool, true, false, true≢false, not}
-use Rattle.std.proofs.Common.{eqb, eqb-true, eq-eqb, ne_eqb, List, [], ◌∷◌, ◌++◌, get_or, refl, sym, ap, ◌∙◌, subst, arith}
+use Rattle.std.proofs.Common.{◌≡◌, ◌≢◌, ℕ, ◌+◌, ◌^◌, ◌<◌, Bool, true, false, true≢false}
+use Rattle.std.proofs.Common.{eqb, eqb-true, eq-eqb, ne_eqb, List, get_or, refl, sym, ap, ◌∙◌, subst, arith}
 use Rattle.std.proofs.Common.{Option, Some, None}
-use Rattle.std.specs.Prelude.{◌&&◌, ◌||◌, is_none}
-use Rattle.std.specs.List.{Contains, slice_get, list_all, list_any}
-use Rattle.std.proofs.lemmas.Bool.{and_from, and_left, cases_Bool}
-use Rattle.lists.specs.Elements.{in_head, in_tail, any_in, any_push_new}
-use Rattle.serial_model.specs.declared.number.Number.{Number}
+use Rattle.std.specs.Prelude.{◌&&◌, is_none}
+use Rattle.std.proofs.lemmas.Bool.{and_from, and_left}
 use Rattle.homes.specs.declared.places.At.{At}
 use Rattle.homes.specs.declared.places.Holder.{Holder}
 use Rattle.homes.specs.declared.places.Holder.TheVariants.{Free, Held, Dead}
 use Rattle.homes.specs.declared.places.Span.{Span}
 use Rattle.wire_form.specs.Words.{at_bit, slot_field}
 use Rattle.commit_core.specs.declared.attempt.Attempt.{Attempt}
-use Rattle.commit_core.specs.declared.attempt.Check.{Check}
-use Rattle.commit_core.specs.declared.part.Part.{Part}
 use Rattle.commit_core.specs.declared.part.Version.TheVariants.{Leads}
-use Rattle.commit_core.specs.declared.part.Word.{Word}
-use Rattle.commit_core.specs.declared.part.Word.TheVariants.{Pointer as PointerOf}
 use Rattle.commit_core.specs.declared.seat.Stage.{Stage}
 use Rattle.commit_core.specs.declared.seat.Stage.TheVariants.{Idle, Trying}
-use Rattle.commit_core.specs.CoreState.{attempt_tried, check_of, is_checked, is_decided, is_given_up, is_in_progress}
-use Rattle.commit_core.specs.Event.{is_unchecked}
-use Rattle.commit_core.specs.Keys.{same_number}
-use Rattle.commit_core.specs.Lemmas.Keys.{same_number-self, same_word-self}
-use Rattle.commit_core.specs.Parts.{same_word}
 use Rattle.commit_core.specs.Places.{is_open_to}
 use Rattle.drop_core.specs.declared.table.Pointer.{Pointer}
 use Rattle.drop_core.specs.Table.{pointer_of}
-use Rattle.engine_rule.specs.JointState.{is_pointer_so, leads_so, pointer_stays}
+use Rattle.engine_rule.specs.JointState.{is_pointer_so, leads_so}
 use Rattle.engine_pages.specs.declared.layout.Layout.{Layout}
 use Rattle.engine_pages.specs.declared.view.Role.{Role}
 use Rattle.engine_pages.specs.declared.view.Role.TheVariants.{Keeper, Worker, Note, Spent}
 use Rattle.engine_pages.specs.declared.view.View.{View}
 use Rattle.engine_pages.specs.Resident.{IsNamed}
-use Rattle.engine_pages.specs.Rule.{Shared, IsTrying, has_word}
+use Rattle.engine_pages.specs.Rule.{Shared}
 use Rattle.engine_pages.specs.Views.{HasPart, IsActive, seat_number}
 use Rattle.engine_pages.specs.Words.{lock_field}
 use Rattle.engine_pages.proofs.PointerLaws.{PointerIs, pointer_is, open_pointer}
-use Rattle.engine_pages.proofs.Seats.{at_front}
 use Rattle.engine_pages.proofs.Turns.{Begins}
 use Rattle.dual_pointer.proofs.Names.{named_same, number_same}
-use Rattle.page_records.proofs.Trying.{tried_at, attempt_here}
 use Rattle.pointer_checks.specs.Checks.{CanCheckPointer}
-
--- ---- the parts of one word are one
-
-all_of_word : (w : Word) (f : Part → Bool) (b : Bool) (xs : List Part) → list_any (λ part. same_word part.word w) xs ≡ true
-    → ((part : Part) → Contains xs part → same_word part.word w ≡ true → f part ≡ b)
-    → list_all (λ part. not (same_word part.word w) || f part) xs ≡ b
-all_of_word w f b xs has each = all_given xs each ∙ ap (λ y. not y || b) has
-  where
-    all_given : (xs : List Part) → ((part : Part) → Contains xs part → same_word part.word w ≡ true → f part ≡ b)
-        → list_all (λ part. not (same_word part.word w) || f part) xs
-        ≡ (not (list_any (λ part. same_word part.word w) xs) || b)
-    all_given [] each = refl
-    all_given (y ∷ xs) each =
-        let rest = all_given xs (λ z has. each z (in_tail z y xs has)) in
-        elim (cases_Bool (same_word y.word w)) [
-          | inl hit ↦ let here = each y (in_head y xs) hit in grind arith
-          | inr miss ↦ grind arith
-        ]
-
--- one more at the end
-any_push : {A : Type 0} (f : A → Bool) (xs : List A) (y : A) → list_any f (xs ++ y ∷ []) ≡ (list_any f xs || f y)
-any_push f [] y = grind (arith)
-any_push f (x ∷ xs) y = rw (any_push f xs y) (grind (arith))
-
-pub exact_push : (checks : List Check) (checked : List Word) (n : Number) (w : Word)
-    → ((x : Word) → is_checked checks n x ≡ has_word checked x) → (x : Word)
-    → is_checked (checks ++ check_of n w ∷ []) n x ≡ has_word (checked ++ w ∷ []) x
-exact_push checks checked n w h x =
-    any_push (λ c. same_number c.number n && same_word c.word x) checks (check_of n w)
-    ∙ (ap (λ b. list_any (λ c. same_number c.number n && same_word c.word x) checks || (b && same_word w x))
-    (same_number-self n)
-    ∙ (ap (λ b. b || same_word w x) (h x) ∙ sym (any_push (λ q. same_word q x) checked w)))
-
--- an attempt that is given up is in progress no more
-pub over_given : (decided given_up : List Number) (n : Number) → is_in_progress decided (given_up ++ n ∷ []) n ≡ true → ⊥
-over_given decided given_up n now =
-    let given : is_given_up (given_up ++ n ∷ []) n ≡ true =
-    any_push_new (λ (y : Number). same_number y n) given_up n (same_number-self n) in
-    true≢false (sym now ∙ (ap (λ b. not (is_decided decided n || b)) given ∙ ends (is_decided decided n)))
-  where
-    ends : (b : Bool) → not (b || true) ≡ false
-    ends true = refl
-    ends false = refl
-
--- ---- what the word tells
 
 -- the keeper has no attempt
 worker_tries : (role : Role) → IsActive role → (made : List ℕ) (due : Bool) (stage : Stage) (mine : List Attempt) (i : ℕ)
@@ -97,13 +38,6 @@ worker_tries Keeper active made due stage mine i tries part e =
 worker_tries (Worker w) active made due stage mine i tries part e = absurd (omega arith)
 worker_tries Note active made due stage mine i tries part e = absurd active
 worker_tries Spent active made due stage mine i tries part e = absurd active
-
-pub record Looks (s : Shared) (v : View) (p : ℕ) (x : At) (i : ℕ) (a : Attempt) (b : Bool) : Type 0 where
-  pub tried : attempt_tried s.story.history v.seat.stage ≡ Some a
-  pub here : slice_get s.story.history i ≡ Some a
-  pub trying : IsTrying p v.history s.story.checks v.checked v.mine i a
-  pub unchecked : is_unchecked s.story.checks (PointerOf x) a ≡ true
-  pub stays : pointer_stays p s.table x a ≡ b
 
 module _ (l : Layout) (words : List ℕ) (views : List View) (s : Shared) (id : ℕ) (v : View) (active : IsActive v.role)
     (g : Begins l words views s id v) (x : At) (sp : Span) (at word : ℕ) (can : CanCheckPointer v x sp at word) where
@@ -187,27 +121,6 @@ module _ (l : Layout) (words : List ℕ) (views : List View) (s : Shared) (id : 
           (ap (is_open_to p) is ∙ ne_eqb o p (λ e. worker (sym e ∙ keeper)))
       by_holder Dead is = and_left (is_open_to p q.holder) (leads_so q (Leads name)) (ap (is_open_to p) is)
 
-  pub looks : (b : Bool) → eqb n word ≡ b → Looks s v p x can.index can.attempt b
-  looks b e =
-      let m = s.story in
-      let i = can.index in
-      let a = can.attempt in
-      let here : slice_get m.history i ≡ Some a = at_front v.history m.history i a g.fits.history can.stands in
-      let t = tried_at p v.history m.checks v.checked v.mine v.seat.stage i a can.stage can.stands g.own.tried in
-      let has : list_any (λ part. same_word part.word (PointerOf x)) a.parts ≡ true =
-      any_in (λ (part : Part). same_word part.word (PointerOf x)) a.parts can.part can.has
-      (ap (λ (w : Word). same_word w (PointerOf x)) can.of.word ∙ same_word-self (PointerOf x)) in record {
-        tried = attempt_here v.history m.history v.seat.stage i a can.stage can.stands g.fits.history;
-        here = here;
-        trying = t;
-        unchecked = and_from (list_any (λ part. same_word part.word (PointerOf x)) a.parts)
-            (not (is_checked m.checks a.number (PointerOf x))) has (ap not (t.exact (PointerOf x) ∙ can.unchecked));
-        stays = all_of_word (PointerOf x) (λ part. is_pointer_so p q part.version) b a.parts has
-            (λ part in-parts word-is.
-            ap (λ (z : Part). is_pointer_so p q z.version) (can.one part in-parts word-is)
-            ∙ (ap (is_pointer_so p q) can.of.version ∙ by_word b e));
-      }
-    where
-      by_word : (b : Bool) → eqb n word ≡ b → is_pointer_so p q (Leads name) ≡ b
-      by_word true e = same_word_is (eqb-true n word e)
-      by_word false e = other_word_is (λ same. true≢false (sym (eq-eqb n word same) ∙ e))
+  pub decides : (b : Bool) → eqb n word ≡ b → is_pointer_so p q (Leads name) ≡ b
+  decides true e = same_word_is (eqb-true n word e)
+  decides false e = other_word_is (λ same. true≢false (sym (eq-eqb n word same) ∙ e))

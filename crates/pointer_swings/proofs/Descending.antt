@@ -67,7 +67,7 @@ descends laws l slots id me sp number j active same can =
     let one : Lead = record { span = child_span sp j; page = k; name = name } in
     let w = descended sp number j name k v in
     look_stride l words views s id v active b at (λ k. k) w (λ v k w. HasDescended sp number j v k w) refl
-    record { layout = refl; role = refl; made = refl; past = refl; parked = refl; epoch = refl; mine = refl; draws = refl; due = refl; seat = refl; checked = refl; took = refl; loaded = refl; met = refl; heard = refl; history = refl; decided = refl }
+    record { layout = refl; role = refl; made = refl; past = refl; parked = refl; epoch = refl; mine = refl; draws = refl; due = refl; seat = refl; checked = refl; took = refl; loaded = refl; met = refl; heard = refl; history = refl; decided = refl; versions = refl }
     refl
     record {
       within = b.pages.within;
@@ -85,6 +85,10 @@ descends laws l slots id me sp number j active same can =
       known = b.pages.treed.known;
       heads = b.pages.treed.heads (seat_number v.role) (is_at v.role active);
       moved = b.pages.treed.moved;
+      sealed = b.pages.treed.sealed (seat_number v.role) (is_at v.role active);
+      inners = b.pages.treed.inners;
+      new_leaves = b.pages.treed.new_leaves;
+      new_inners = b.pages.treed.new_inners;
       shuts = b.pages.shuts (seat_number v.role) (is_at v.role active);
     }
     (rests_all l words views s id v b w

@@ -1,5 +1,6 @@
 -- What was seen is let go: the maintenance thread keeps nothing, and may leave each slot.
-use Rattle.std.proofs.Common.{◌≡◌, inl, ℕ, ◌<◌, List, length, get_or, set, refl, sym, ap, ◌∙◌, subst, arith}
+use Rattle.std.proofs.Common.{◌≡◌, inl, ℕ, ◌<◌, List, [], length, get_or, set, refl, sym, ap, ◌∙◌, subst, arith}
+use Rattle.std.proofs.lemmas.List.{append-nil}
 use Rattle.atomic_table.specs.Table.{Me, Allows}
 use Rattle.commit_core.specs.declared.event.Act.TheVariants.{Forget}
 use Rattle.commit_core.specs.declared.seat.Seat.{Seat}
@@ -50,6 +51,8 @@ lets_go laws l slots id me keeper =
       clock = ap (λ (z : List ℕ). get_or z 0 0) same ∙ h.shown.clock;
       decisions = ap (λ (z : List ℕ). get_or z 1 0) same ∙ h.shown.decisions;
       places = refl;
+      history = ([], append-nil m.history);
+      decided = ([], append-nil m.decided);
     } in
     let pages = first_kept l words words' views s id v m active b ten in
     commit_stride laws l words views s id v active b 0 (λ n. n) Forget m w (λ v n w. w ≡ let_go n v) record {
@@ -77,6 +80,7 @@ lets_go laws l slots id me keeper =
         mine_own = f.mine_own;
         records = records_none l.decls l.opening m.history;
         kept = low_none m.places;
+        versions = f.versions;
         loaded = tt;
         tried = own.tried;
         took = own.took;
@@ -89,7 +93,7 @@ lets_go laws l slots id me keeper =
       drew = refl;
       few = omega arith;
       room = omega (arith, h.sums.room);
-      now = record { within = pages.within; ways = pages.ways; drafts = pages.drafts; copies = pages.copies; blanks = pages.blanks; resident = pages.resident; leads = pages.leads; fills = pages.fills; known = pages.known; shuts = pages.shuts; heads = pages.heads; moved = pages.moved };
+      now = record { within = pages.within; ways = pages.ways; drafts = pages.drafts; copies = pages.copies; blanks = pages.blanks; resident = pages.resident; leads = pages.leads; fills = pages.fills; known = pages.known; shuts = pages.shuts; heads = pages.heads; moved = pages.moved; sealed = pages.sealed; inners = pages.inners; new_leaves = pages.new_leaves; new_inners = pages.new_inners };
       frame = words_same l words words' s p (λ j low. ap (λ (z : List ℕ). get_or z j 0) same);
       deals = rests l words views s id v b words' w
           record { role = refl; ways = refl; took = refl; gone = refl; touched = refl; blamed = refl; locks = refl } refl

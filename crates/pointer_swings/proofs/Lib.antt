@@ -1,4 +1,3 @@
-pub mod Places
 pub mod Steps
 pub mod Misses
 pub mod Plain

@@ -1,5 +1,5 @@
 -- What stands in a leaf whose records the pass has locked: what it keeps of them, and so what the snapshot page says.
-use Rattle.std.proofs.Common.{◌≡◌, ℕ, ◌/◌, ◌%◌, ◌^◌, ◌≤◌, Bool, true, false, cond, eqb, eqb-true, eq-eqb, List}
+use Rattle.std.proofs.Common.{◌≡◌, inl, inr, ℕ, ◌/◌, ◌%◌, ◌^◌, ◌≤◌, Bool, true, false, true≢false, cond, eqb, eqb-true, eq-eqb, List}
 use Rattle.std.proofs.Common.{length, refl, sym, ap, ◌∙◌, subst, arith, Option, Some, None}
 use Rattle.std.specs.Prelude.{unwrap_or}
 use Rattle.serial_model.specs.declared.key.Key.{Key}
@@ -25,13 +25,13 @@ use Rattle.engine_pages.specs.declared.view.Role.TheVariants.{Keeper}
 use Rattle.engine_pages.specs.declared.view.View.{View}
 use Rattle.engine_pages.specs.Pages.{is_array}
 use Rattle.engine_pages.specs.Resident.{array_record, array_value, array_word, found_content}
-use Rattle.engine_pages.specs.Rule.{Shared, IsHeld}
+use Rattle.engine_pages.specs.Rule.{Shared, IsBitAt, IsHeld}
 use Rattle.engine_pages.specs.Views.{seat_number}
 use Rattle.engine_pages.specs.Words.{IsSmall, spot}
 use Rattle.engine_pages.proofs.Joint.{seat_sound}
 use Rattle.engine_pages.proofs.Named.{page_longer}
 use Rattle.engine_pages.proofs.Turns.{Begins}
-use Rattle.page_records.specs.Locks.{took_at}
+use Rattle.page_records.specs.Locks.{array_absence, took_at}
 use Rattle.page_records.proofs.Contents.{IsProper, kept_version, last_proper, one_number, shown_is, version_proper}
 use Rattle.page_records.proofs.Contents.{version_small}
 use Rattle.page_records.proofs.Opening.{taken_at}
@@ -100,7 +100,7 @@ module _ (l : Layout) (words : List ℕ) (views : List View) (s : Shared) (id : 
   abbrev q : Place
   q = place_of m.places (spot t i)
 
-  held : IsHeld m p (took_at key (spot t i) (number_word k.content.number)) (spot t i)
+  held : IsHeld l.decls m p (took_at key (spot t i) (number_word k.content.number)) (spot t i)
   held = taken_at l words views s id v key (spot t i) (number_word k.content.number) b k.took
 
   pub locked_home : home_of m.homes key ≡ InSlot (spot t i)
@@ -136,7 +136,14 @@ module _ (l : Layout) (words : List ℕ) (views : List View) (s : Shared) (id : 
       version_same l.opening m.history key q.content k.content (b.sound.joint.commits.story.ordered_numbers.rising key)
       version kept_is
       (one_number q.content.number k.content.number (version_small l.opening s key q.content b.sound.small version)
-      (version_small l.opening s key k.content b.sound.small kept_is) held.number)
+      (version_small l.opening s key k.content b.sound.small kept_is)
+      (let number = held.number in
+      let none = no_bit held.bit in omega (arith, number, none)))
+    where
+      -- an array's record has no bit of absence
+      no_bit : {absent : ℕ} → IsBitAt l.decls m key q absent → absent ≡ 0
+      no_bit (inl is) = is ∙ array_absence l.decls key q.content.value array
+      no_bit (inr tree) = absurd (true≢false (sym array ∙ tree.0))
 
   pub locked_proper : IsProper q.content
   locked_proper =

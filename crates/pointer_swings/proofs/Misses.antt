@@ -12,7 +12,7 @@ use Rattle.engine_pages.proofs.Dealing.{meets}
 use Rattle.engine_pages.proofs.Looks.{look_stride}
 use Rattle.engine_pages.proofs.Seats.{is_at}
 use Rattle.engine_pages.proofs.Turns.{Stride, Begins}
-use Rattle.dual_pointer.proofs.InstallStep.{way_to}
+use Rattle.dual_pointer.proofs.Stands.{way_to}
 
 -- the word stays, and was met
 pub missed : (l : Layout) (words : List ℕ) (views : List View) (s : Shared) (id : ℕ) (v : View) → IsActive v.role
@@ -23,7 +23,7 @@ missed l words views s id v active b x sp at place f tells keeps tells-so =
     let n : ℕ = get_or words at 0 in
     let w = read_at at n v in
     look_stride l words views s id v active b at f w tells keeps
-    record { layout = refl; role = refl; made = refl; past = refl; parked = refl; epoch = refl; mine = refl; draws = refl; due = refl; seat = refl; checked = refl; took = refl; loaded = refl; met = refl; heard = refl; history = refl; decided = refl }
+    record { layout = refl; role = refl; made = refl; past = refl; parked = refl; epoch = refl; mine = refl; draws = refl; due = refl; seat = refl; checked = refl; took = refl; loaded = refl; met = refl; heard = refl; history = refl; decided = refl; versions = refl }
     refl
     record {
       within = b.pages.within;
@@ -37,6 +37,10 @@ missed l words views s id v active b x sp at place f tells keeps tells-so =
       known = b.pages.treed.known;
       heads = b.pages.treed.heads (seat_number v.role) (is_at v.role active);
       moved = b.pages.treed.moved;
+      sealed = b.pages.treed.sealed (seat_number v.role) (is_at v.role active);
+      inners = b.pages.treed.inners;
+      new_leaves = b.pages.treed.new_leaves;
+      new_inners = b.pages.treed.new_inners;
       shuts = b.pages.shuts (seat_number v.role) (is_at v.role active);
     }
     (meets l words views s id v b w at

@@ -1,5 +1,5 @@
 -- Steps that change one pointer and take nothing away: no key moves, and no slot is gone.
-use Rattle.std.proofs.Common.{◌≡◌, inl, inr, ℕ, Bool, true, false, true≢false, cond, List, [], get_or, refl, sym, ap, ◌∙◌}
+use Rattle.std.proofs.Common.{◌≡◌, inl, inr, ℕ, Bool, false, true≢false, cond, List, [], get_or, refl, sym, ap, ◌∙◌}
 use Rattle.homes.specs.declared.places.At.{At}
 use Rattle.homes.specs.declared.places.At.TheVariants.{Root, In}
 use Rattle.homes.specs.declared.places.Span.{Span}
@@ -16,7 +16,7 @@ use Rattle.engine_pages.specs.Views.{IsActive}
 use Rattle.engine_pages.specs.Words.{ShowsPointer}
 use Rattle.engine_pages.proofs.Joint.{Laws}
 use Rattle.engine_pages.proofs.Turns.{Begins}
-use Rattle.pointer_swings.proofs.Places.{at_cases}
+use Rattle.dual_pointer.proofs.Stands.{at_cases}
 use Rattle.pointer_swings.proofs.Steps.{Repointed}
 
 pub in_none_gone : (y : At) → is_in [] y ≡ false

@@ -1,19 +1,23 @@
 -- The maintenance thread leads a pointer's lower half to the newest snapshot page over its keys.
-use Rattle.std.proofs.Common.{◌≡◌, ℕ, zero, suc, ◌+◌, ◌-◌, ◌<◌, ◌≤◌, ◌^◌, Bool, true, false, eqb, eqb-true, eq-eqb, ltb, leb, not, List, [], length}
-use Rattle.std.proofs.Common.{get_or, refl, sym, ap, ◌∙◌, subst, arith, inl, inr, Option, Some, None}
-use Rattle.std.specs.Prelude.{◌&&◌, MatchBool, is_none, nat_le}
-use Rattle.std.proofs.lemmas.Bool.{and_from, cases_Bool}
+use Rattle.std.proofs.Common.{◌≡◌, ℕ, zero, suc, ◌+◌, ◌<◌, ◌≤◌, ◌^◌, Bool, true, false, eqb, eqb-true, eq-eqb, ltb, leb, not, List, [], ◌∷◌, length}
+use Rattle.std.proofs.Common.{get_or, refl, sym, ap, ◌∙◌, subst, arith, Option, Some, None}
+use Rattle.std.specs.Prelude.{◌&&◌, MatchBool, is_none}
+use Rattle.std.proofs.lemmas.Bool.{and_from}
 use Rattle.std.proofs.lemmas.Bool.Decides.{nat_tests}
 use prog.Atomic.{either}
 use Rattle.atomic_table.specs.Table.{Me, Allows}
 use Rattle.lists.specs.Elements.{at_below}
-use Rattle.serial_model.specs.declared.decl.Decl.TheVariants.{Array}
+use Rattle.serial_model.specs.declared.decl.Decl.{Decl}
+use Rattle.serial_model.specs.Keys.{id_of}
 use Rattle.homes.specs.declared.places.At.{At}
 use Rattle.homes.specs.declared.places.Holder.TheVariants.{Free, Held}
 use Rattle.homes.specs.declared.places.Span.{Span}
 use Rattle.homes.specs.Homes.{is_free, same_span}
 use Rattle.wire_form.specs.Words.{at_bit, slot_field}
-use Rattle.snapshot_store.specs.ArrayPages.{indexes_at, last_at, leaf_room}
+use Rattle.snapshot_store.specs.declared.place.PagePlace.{PagePlace}
+use Rattle.snapshot_store.specs.ArrayPages.{indexes_at, last_at}
+use Rattle.snapshot_store.specs.Content.{format_of}
+use Rattle.snapshot_store.specs.Places.{places_below, words_at}
 use Rattle.commit_core.specs.declared.seat.Seat.{Seat}
 use Rattle.drop_core.specs.declared.event.Act.TheVariants.{Renew}
 use Rattle.drop_core.specs.declared.grip.Grip.{Grip}
@@ -23,11 +27,11 @@ use Rattle.drop_core.specs.Event.{is_open, is_page_over, is_allowed as page_allo
 use Rattle.drop_core.specs.Table.{page_span, pointer_of, is_live, snap_of}
 use Rattle.engine_rule.specs.declared.event.JointAct.TheVariants.{Turn as TurnPages}
 use Rattle.engine_rule.specs.Event.{Joined, commit_lets, may_move}
+use Rattle.engine_rule.specs.Reading.{page_from, span_of}
 use Rattle.engine_pages.specs.declared.layout.Layout.{Layout}
 use Rattle.engine_pages.specs.declared.view.Lead.{Lead}
 use Rattle.engine_pages.specs.declared.view.Shut.{Shut}
 use Rattle.engine_pages.specs.declared.view.View.{View}
-use Rattle.engine_pages.specs.Pages.{is_array, is_leaf_span}
 use Rattle.engine_pages.specs.Resident.{IsNamed, place_for}
 use Rattle.engine_pages.specs.Rule.{Shared, IsLead, IsShut, Shows}
 use Rattle.engine_pages.specs.Steps.{read_at}
@@ -35,20 +39,14 @@ use Rattle.engine_pages.specs.Views.{IsActive, seat_number}
 use Rattle.engine_pages.specs.Words.{lock_field}
 use Rattle.engine_pages.proofs.Joint.{Laws, may_do}
 use Rattle.engine_pages.proofs.OwnView.{own_fits}
-use Rattle.engine_pages.proofs.PointerLaws.{PointerIs, open_pointer, pointer_is}
+use Rattle.engine_pages.proofs.PointerLaws.{PointerIs, named_entry, open_pointer, pointer_is}
 use Rattle.engine_pages.proofs.Seats.{is_at}
 use Rattle.engine_pages.proofs.Turns.{Stride, Begins, allows_at}
-use Rattle.dual_pointer.proofs.Names.{array_entry}
-use Rattle.dual_pointer.proofs.SnapWords.{inner_page_is, leaf_page_is}
 use Rattle.pointer_swings.specs.Renewals.{CanRenew, HasRenewed, renewed, renewed_word}
 use Rattle.pointer_swings.proofs.Misses.{missed}
 use Rattle.pointer_swings.proofs.Plain.{e as now_with, in_none_gone, repointed}
 use Rattle.pointer_swings.proofs.Shutting.{keeper_active}
 use Rattle.pointer_swings.proofs.Steps.{Repointed, old_now, pointer_stride, shut_still}
-
-room_fits : nat_le 32 leaf_room ≡ true
-unfolding leaf_room
-room_fits = refl
 
 -- a range of some height is not empty, and above the leaves it is wider than a leaf's
 indexes_some : (height : ℕ) → 0 < indexes_at height
@@ -72,35 +70,32 @@ pub record IsTargetPage (d : Table) (sp : Span) (name : ℕ) : Type 0 where
   pub span : page_span (snap_of d name) ≡ sp
 
 pub target_page : (l : Layout) (words : List ℕ) (views : List View) (s : Shared) (id : ℕ) (v : View)
-    → Begins l words views s id v → (sp : Span) (number name height : ℕ) → IsNamed s.resident.places sp number name
-    → is_array l.decls sp.storage ≡ true → sp.high ≡ sp.low + last_at height → 0 < number
-    → IsTargetPage s.table sp name
-target_page l words views s id v b sp number name height named array exact some =
+    → Begins l words views s id v → (sp : Span) (number name : ℕ) → IsNamed s.resident.places sp number name
+    → 0 < number → IsTargetPage s.table sp name
+target_page l words views s id v b sp number name named some =
     let d = s.table in
-    let there = array_entry l.decls s.resident d sp number name b.sound.declared b.sound.named named array some in
-    let decl = Array sp.storage there.size in
-    let less = at_below s.resident.places there.index (decl, place_for sp number) there.at in
+    let r = s.resident in
+    let there = named_entry r.places sp number name named some in
+    let e : Decl × PagePlace = (there.decl, place_for sp number) in
+    let less = at_below r.places there.index e there.at in
     let is = there.is in
     let count = b.sound.named.count in
-    let says = b.sound.named.says there.index (decl, place_for sp number) there.at in record {
+    let says = b.sound.named.says there.index e there.at in record {
       some = omega arith;
       most = omega arith;
-      span = ap (λ i. page_span (snap_of d i)) is ∙ elim (cases_Bool (is_leaf_span sp)) [
-        | inl leaf ↦
-            let end : sp.high ≡ sp.low + 31 = leaf_end height exact leaf in
-            let fits : nat_le ((sp.high + 1) - sp.low) leaf_room ≡ true =
-            ap (λ k. nat_le k leaf_room) (let many : (sp.high + 1) - sp.low ≡ 32 = omega arith in many) ∙ room_fits in
-            ap page_span (says ∙ leaf_page_is s.resident.pages s.resident.places sp.storage there.size (place_for sp number) fits)
-        | inr inner ↦
-            ap page_span (says ∙ inner_page_is s.resident.pages s.resident.places sp there.size number inner)
-      ];
+      span =
+          ap (λ i. page_span (snap_of d i)) is
+          ∙ (ap page_span says
+          ∙ (page_over there.decl (words_at r.pages e.1) (places_below (format_of there.decl) r.pages e.1)
+          ∙ ap (λ i. let z : Span = record { storage = i; low = sp.low; high = sp.high } in z) there.storage));
     }
   where
-    leaf_end : (height : ℕ) → sp.high ≡ sp.low + last_at height → is_leaf_span sp ≡ true → sp.high ≡ sp.low + 31
-    leaf_end zero exact leaf = exact
-    leaf_end (suc height) exact leaf =
-        let near : sp.high < sp.low + 32 = grind (arith, nat_tests) in
-        let many = last_more height in absurd (omega (arith, exact, near, many))
+    -- a page is over the keys of its place
+    page_over : (decl : Decl) (ws : List ℕ) (below : List PagePlace)
+        → page_span (page_from s.resident.places decl ws (place_for sp number) below)
+        ≡ span_of (id_of decl) (place_for sp number)
+    page_over decl ws [] = refl
+    page_over decl ws (q ∷ below) = refl
 
 -- ---- the step
 
@@ -137,11 +132,8 @@ module _ (laws : Laws) (l : Layout) (words : List ℕ) (views : List View) (s : 
       subst (λ (z : Span). IsNamed s.resident.places z number lead.name) c.lead.2
       (subst (λ k. IsNamed s.resident.places lead.span k lead.name) c.lead.3 lead-is.named)
 
-  array : is_array l.decls sp.storage ≡ true
-  array = ap (λ (y : Layout). is_array y.decls sp.storage) (sym b.own.layout) ∙ c.array
-
   target : IsTargetPage d sp lead.name
-  target = target_page l words views s id v b sp number lead.name c.height named array c.exact c.some
+  target = target_page l words views s id v b sp number lead.name named c.some
 
   abbrev r : Pointer
   r = record q { page = lead.name }
@@ -238,6 +230,7 @@ module _ (laws : Laws) (l : Layout) (words : List ℕ) (views : List View) (s : 
           mine_own = fv.mine_own;
           records = fv.records;
           kept = fv.kept;
+          versions = fv.versions;
           loaded = fv.loaded;
           tried = b.own.tried;
           took = b.own.took;
@@ -258,6 +251,10 @@ module _ (laws : Laws) (l : Layout) (words : List ℕ) (views : List View) (s : 
           known = old.known;
           heads = old.heads;
           moved = old.moved;
+          sealed = old.sealed;
+          inners = old.inners;
+          new_leaves = old.new_leaves;
+          new_inners = old.new_inners;
           shuts = λ z has.
               let was = b.pages.shuts p (is_at v.role active) z has in
               shut_still laws l words views s id v active b x sp at value c.place s.story.places s.story.homes s.story.horizon e r [] point z was

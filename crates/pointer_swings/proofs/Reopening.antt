@@ -1,5 +1,5 @@
 -- The maintenance thread opens a pointer that it has shut.
-use Rattle.std.proofs.Common.{◌≡◌, ℕ, true, false, true≢false, eq-eqb, not, List, []}
+use Rattle.std.proofs.Common.{◌≡◌, ℕ, true, true≢false, eq-eqb, not, List, []}
 use Rattle.std.proofs.Common.{get_or, refl, sym, ap, ◌∙◌, subst, arith}
 use Rattle.std.specs.Prelude.{◌&&◌}
 use Rattle.std.proofs.lemmas.Bool.{and_from}
@@ -105,6 +105,7 @@ module _ (laws : Laws) (l : Layout) (words : List ℕ) (views : List View) (s : 
           mine_own = fv.mine_own;
           records = fv.records;
           kept = fv.kept;
+          versions = fv.versions;
           loaded = fv.loaded;
           tried = b.own.tried;
           took = b.own.took;
@@ -125,6 +126,10 @@ module _ (laws : Laws) (l : Layout) (words : List ℕ) (views : List View) (s : 
           known = old.known;
           heads = old.heads;
           moved = old.moved;
+          sealed = old.sealed;
+          inners = old.inners;
+          new_leaves = old.new_leaves;
+          new_inners = old.new_inners;
           shuts = λ z has.
               let before = in_filter (λ (y : Shut). not (same_at y.at x)) z v.shuts has in
               let other = filter_only (λ (y : Shut). not (same_at y.at x)) z v.shuts has in

@@ -39,7 +39,7 @@ use Rattle.engine_pages.proofs.Seats.{is_at}
 use Rattle.engine_pages.proofs.Turns.{Stride, Begins, allows_at}
 use Rattle.pointer_swings.specs.Shuts.{CanShut, HasShut, shut_at, shut_of}
 use Rattle.pointer_swings.proofs.Misses.{missed}
-use Rattle.pointer_swings.proofs.Places.{stands_at_place}
+use Rattle.dual_pointer.proofs.Stands.{stands_at_place}
 use Rattle.pointer_swings.proofs.Plain.{e as now_with, in_none_gone, pointer_new, repointed}
 use Rattle.pointer_swings.proofs.Steps.{Repointed, old_now, pointer_stride, shut_still}
 use Rattle.drop_core.specs.Table.{has_pointer}
@@ -59,15 +59,15 @@ pub within_holds : (l : Layout) (words : List ℕ) (views : List View) (s : Shar
 within_holds l words views s id v (Root r) sp at b is = tt
 within_holds l words views s id v (In y) sp at b is =
     let place = stands_at_place l words views s id v (In y) sp at b is in
-    let way = b.pages.ways is.way is.has in
-    let index = place.index in (
-      subst (λ t. has_held t) is.slot way.held,
-      place.known,
-      ap (λ (z : Page). has_pointer z y.index) place.page ∙ grind (arith, nat_tests),
-    )
+    let index = place.index in
+    (held is, place.known, ap (λ (z : Page). has_pointer z y.index) place.page ∙ grind (arith, nat_tests))
   where
     has_held : ℕ → Type 0
     has_held t = has_slot v.grip.holds t ≡ true
+
+    held : IsPointerAt v (In y) sp at → has_slot v.grip.holds y.slot ≡ true
+    held (inl child) = subst (λ t. has_held t) child.slot (b.pages.ways child.way child.has).held
+    held (inr branch) = subst (λ t. has_held t) branch.slot (b.pages.ways branch.way branch.has).held
 
 -- ---- a pointer is shut
 
@@ -173,6 +173,7 @@ module _ (laws : Laws) (l : Layout) (words : List ℕ) (views : List View) (s : 
           mine_own = fv.mine_own;
           records = fv.records;
           kept = fv.kept;
+          versions = fv.versions;
           loaded = fv.loaded;
           tried = b.own.tried;
           took = b.own.took;
@@ -193,6 +194,10 @@ module _ (laws : Laws) (l : Layout) (words : List ℕ) (views : List View) (s : 
           known = old.known;
           heads = old.heads;
           moved = old.moved;
+          sealed = old.sealed;
+          inners = old.inners;
+          new_leaves = old.new_leaves;
+          new_inners = old.new_inners;
           shuts = λ z has. elim (in_cases z (shut_of x (get_or words at 0)) v.shuts has) [
             | inl new ↦ subst (λ y. IsShut e s.resident p v.grip.holds y) new new_shut
             | inr before ↦

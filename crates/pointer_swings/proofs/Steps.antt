@@ -1,7 +1,7 @@
 -- A step of the keeper on a pointer's word: what the pointer leads to changes, and the pages from which it is taken away
 -- are dead from then on.
-use Rattle.std.proofs.Common.{◌≡◌, ◌≢◌, inl, inr, ℕ, ◌+◌, ◌*◌, ◌<◌, ◌≤◌, ◌^◌, Bool, true, false, true≢false, cond}
-use Rattle.std.proofs.Common.{eqb-true, not, List, length, get_or, set, refl, sym, ap, ◌∙◌, subst, arith}
+use Rattle.std.proofs.Common.{◌≡◌, ◌≢◌, ◌⊎◌, inl, inr, ℕ, ◌+◌, ◌*◌, ◌<◌, ◌≤◌, ◌^◌, Bool, true, false, true≢false, cond}
+use Rattle.std.proofs.Common.{eqb-true, List, length, get_or, set, refl, sym, ap, ◌∙◌, subst, arith}
 use Rattle.std.proofs.Common.{Some, None}
 use Rattle.std.specs.Prelude.{unwrap_or}
 use Rattle.std.specs.List.{Contains, slice_get}
@@ -45,8 +45,11 @@ use Rattle.engine_pages.specs.declared.view.Copied.{Copied}
 use Rattle.engine_pages.specs.declared.view.Draft.{Draft}
 use Rattle.engine_pages.specs.declared.view.Filled.{Filled}
 use Rattle.engine_pages.specs.declared.view.Head.{Head}
+use Rattle.engine_pages.specs.declared.view.Inner.{Inner as InnerOf}
 use Rattle.engine_pages.specs.declared.view.Known.{Known}
 use Rattle.engine_pages.specs.declared.view.Moved.{Moved}
+use Rattle.engine_pages.specs.declared.view.NewInner.{NewInner}
+use Rattle.engine_pages.specs.declared.view.NewLeaf.{NewLeaf}
 use Rattle.engine_pages.specs.declared.view.Role.TheVariants.{Keeper, Worker}
 use Rattle.engine_pages.specs.declared.view.Shut.{Shut}
 use Rattle.engine_pages.specs.declared.view.View.{View}
@@ -56,12 +59,13 @@ use Rattle.engine_pages.specs.Pages.{keys_from, is_array, is_leaf_span, child_sp
 use Rattle.engine_pages.specs.Pointers.{IsPointerAt}
 use Rattle.engine_pages.specs.Resident.{IsNamed, ArePages}
 use Rattle.engine_pages.specs.Rule.{Shared, all_seats, IsWay, IsDraft, IsCopy, IsBlank, IsFilled, IsKnownLeaf, IsHead, IsMoved, IsShut}
+use Rattle.engine_pages.specs.Rule.{IsInner, IsNewInner, IsNewLeaf, IsSealed}
 use Rattle.engine_pages.specs.Rule.{Fits, RecordStands}
 use Rattle.engine_pages.specs.Stays.{IsKnown}
 use Rattle.engine_pages.specs.Touches.{AreBlamed, Touched}
 use Rattle.engine_pages.specs.Views.{IsActive, seat_number, tries, waits}
 use Rattle.engine_pages.specs.Words.{IsSmall, ShowsWords, ShowsPointer, ShowsPage, ShowsRecord, ShowsTree, is_shown}
-use Rattle.engine_pages.specs.Words.{state_number}
+use Rattle.engine_pages.specs.Words.{IsOverwritten, state_number}
 use Rattle.engine_pages.specs.Words.{lock_field, spot}
 use Rattle.engine_pages.proofs.Dealing.{blamed}
 use Rattle.engine_pages.proofs.EachSeat.{at_seat}
@@ -74,11 +78,13 @@ use Rattle.engine_pages.proofs.PointerLaws.{PointerIs, pointer_is}
 use Rattle.engine_pages.proofs.Seats.{is_at, put_seat}
 use Rattle.engine_pages.proofs.SlotFacts.{head_same, moved_same, known_same, draft_same, within_same, shut_same}
 use Rattle.engine_pages.proofs.SlotSteps.{PagesNow, acted_as, own_pages, trees_same}
+use Rattle.engine_pages.proofs.TreeFacts.{inner_at, new_inner_at, new_leaf_at, same_fence, sealed_at}
 use Rattle.engine_pages.proofs.Turns.{Turn, Stride, Begins, marks_stay, tried_goes, written}
 use Rattle.engine_pages.proofs.Words.{tree_shown}
 use Rattle.views.specs.Sums.{total}
-use Rattle.pointer_swings.proofs.Places.{at_cases, stand, IsAmong, apart, IsInner, StandsAt, array_over, stands_at_place}
-use Rattle.pointer_swings.proofs.Places.{among, laid_spans}
+use Rattle.dual_pointer.proofs.Stands.{at_cases, words_before, stand, IsAmong, apart, IsInPage, StandsAt, array_over}
+use Rattle.dual_pointer.proofs.Stands.{before_none, before_some, stands_at_place, among, IsOfPage, of_page, tree_pointed}
+use Rattle.dual_pointer.proofs.Stands.{laid_spans}
 
 -- a slot from which what led to it is taken away
 pub record IsGone (s : Shared) (e : Table) (u : ℕ) : Type 0 where
@@ -149,19 +155,19 @@ module _ (laws : Laws) (l : Layout) (words : List ℕ) (views : List View) (s : 
   pub pointer-facts : PointerIs l words s v x sp at
   pointer-facts = pointer_is l words views s id v x sp at b here
 
-  inner : (y : Spot) → x ≡ In y → IsInner l s y at
+  inner : (y : Spot) → x ≡ In y → IsInPage l s y at
   inner y is-in = subst (StandsAt l s at) is-in place
 
   pub elsewhere : (u j : ℕ) → is_never (slot_of d u).led ≡ true → x ≡ at_index u j → ⊥
   elsewhere u j unled same = true≢false (sym unled ∙ (inner (record { slot = u; index = j }) same).known)
 
-  at-is : (at ≡ stand l x) × IsAmong l x
+  at-is : (at ≡ stand l s.trees x) × IsAmong l s.trees x
   at-is = among l s at x place
 
   within : at < length words
   within = by_at x at-is.0 at-is.1 b.sound.shown.long
     where
-      by_at : (z : At) → at ≡ stand l z → IsAmong l z → length words ≡ (32 + 65 * l.slots) + 64 * l.resident → at < length words
+      by_at : (z : At) → at ≡ stand l s.trees z → IsAmong l s.trees z → length words ≡ (32 + 65 * l.slots) + 64 * l.resident → at < length words
       by_at (Root r) e few long = omega arith
       by_at (In y) e few long = omega (arith, few.0, few.1)
 
@@ -176,29 +182,29 @@ module _ (laws : Laws) (l : Layout) (words : List ℕ) (views : List View) (s : 
   not_low : (j : ℕ) → j < 10 → j ≢ at
   not_low j few = by_at x at-is.0 at-is.1
     where
-      by_at : (z : At) → at ≡ stand l z → IsAmong l z → j ≢ at
+      by_at : (z : At) → at ≡ stand l s.trees z → IsAmong l s.trees z → j ≢ at
       by_at (Root r) e less same = absurd (omega arith)
       by_at (In y) e less same = absurd (omega arith)
 
   not_slot : (j : ℕ) → 26 ≤ j → j < 32 + l.slots → j ≢ at
   not_slot j from few = by_at x at-is.0 at-is.1
     where
-      by_at : (z : At) → at ≡ stand l z → IsAmong l z → j ≢ at
+      by_at : (z : At) → at ≡ stand l s.trees z → IsAmong l s.trees z → j ≢ at
       by_at (Root r) e less same = absurd (omega arith)
       by_at (In y) e less same = absurd (omega arith)
 
   not_snap : (j : ℕ) → 32 + 65 * l.slots ≤ j → j ≢ at
   not_snap j from = by_at x at-is.0 at-is.1
     where
-      by_at : (z : At) → at ≡ stand l z → IsAmong l z → j ≢ at
+      by_at : (z : At) → at ≡ stand l s.trees z → IsAmong l s.trees z → j ≢ at
       by_at (Root r) e less same = absurd (omega arith)
       by_at (In y) e less same = absurd (omega (arith, less.0, less.1))
 
   -- a page in which the pointer isn't has not its word
-  not_page : (u i : ℕ) → i < 64 → ((y : Spot) → x ≡ In y → IsInner l s y at → u ≡ y.slot → ⊥) → page_at l.slots u i ≢ at
+  not_page : (u i : ℕ) → i < 64 → ((y : Spot) → x ≡ In y → IsInPage l s y at → u ≡ y.slot → ⊥) → page_at l.slots u i ≢ at
   not_page u i less other same = by_at x at-is.0 at-is.1 refl
     where
-      by_at : (z : At) → at ≡ stand l z → IsAmong l z → x ≡ z → ⊥
+      by_at : (z : At) → at ≡ stand l s.trees z → IsAmong l s.trees z → x ≡ z → ⊥
       by_at (Root r) e some is-z = absurd (omega arith)
       by_at (In y) e some is-z = other y is-z (inner y is-z) (omega (arith, some.1))
 
@@ -209,16 +215,12 @@ module _ (laws : Laws) (l : Layout) (words : List ℕ) (views : List View) (s : 
   not_leaf : (u i : ℕ) (ks : List Key) → i < 64 → page_of d u ≡ Leaf ks → page_at l.slots u i ≢ at
   not_leaf u i ks less is =
       not_page u i less (λ y is-in in-page same.
-      let no : Leaf ks ≡ Inner 64 = sym is ∙ (ap (page_of d) same ∙ in-page.page) in absurd (cc))
+      let no : Leaf ks ≡ Inner in-page.count = sym is ∙ (ap (page_of d) same ∙ in-page.page) in absurd (cc))
 
   not_split : (u i : ℕ) → i < 64 → page_of d u ≡ Split → page_at l.slots u i ≢ at
   not_split u i less is =
       not_page u i less (λ y is-in in-page same.
-      let no : Split ≡ Inner 64 = sym is ∙ (ap (page_of d) same ∙ in-page.page) in absurd (cc))
-
-  not_tree : (u : ℕ) (f : Fenced) → s.trees u ≡ Some f → (y : Spot) → x ≡ In y → IsInner l s y at → u ≡ y.slot → ⊥
-  not_tree u f tree y is-in in-page same =
-      let no : Some f ≡ None = sym tree ∙ (ap s.trees same ∙ in-page.tree) in absurd (cc)
+      let no : Split ≡ Inner in-page.count = sym is ∙ (ap (page_of d) same ∙ in-page.page) in absurd (cc))
 
   not_record : (u i : ℕ) (span : Span) → i < 64 → is_array l.decls span.storage ≡ true → is_leaf_span span ≡ true
       → IsLaidOut (decl_of l.decls span.storage) s.trees d u span → page_at l.slots u i ≢ at
@@ -306,27 +308,22 @@ module _ (laws : Laws) (l : Layout) (words : List ℕ) (views : List View) (s : 
 
     -- ---- words
 
-    tree_pointer : (u : ℕ) (f : Fenced) → s.trees u ≡ Some f → (j : ℕ) → pointer_of e (at_index u j) ≡ pointer_of d (at_index u j)
-    tree_pointer u f tree j =
-        c.same (at_index u j) (λ same.
-        not_tree u f tree (record { slot = u; index = j }) same (inner (record { slot = u; index = j }) same) refl)
-        (tree_left u f tree)
-
     -- the word of another pointer
-    pointer_shows : (z : At) → IsAmong l z → (is_in gone z ≡ true → lock_field (pointer_of d z).holder ≡ at_bit 60 1)
-        → ShowsPointer s.resident.places words (stand l z) (pointer_of d z)
-        → ShowsPointer s.resident.places words' (stand l z) (pointer_of e z)
-    pointer_shows z few lock was = elim (at_cases x z) [
+    pointer_shows : (z : At) (j : ℕ) → stand l s.trees z ≡ j → IsAmong l s.trees z
+        → (is_in gone z ≡ true → lock_field (pointer_of d z).holder ≡ at_bit 60 1)
+        → ShowsPointer s.resident.places words j (pointer_of d z)
+        → ShowsPointer s.resident.places words' j (pointer_of e z)
+    pointer_shows z j stood few lock was = elim (at_cases x z) [
       | inl same ↦
-          let at-z : stand l z ≡ at = ap (stand l) (sym same) ∙ sym at-is.0 in
+          let at-z : j ≡ at = sym stood ∙ (ap (stand l s.trees) (sym same) ∙ sym at-is.0) in
           subst (λ k. ShowsPointer s.resident.places words' k (pointer_of e z)) (sym at-z)
           (subst (λ y. ShowsPointer s.resident.places words' at (pointer_of e y)) same
           (subst (ShowsPointer s.resident.places words' at) (sym c.there) (c.shown words' this-word)))
       | inr other ↦
-          let word = others (stand l z) (λ e. apart l x z at-is.1 few other.0 (e ∙ at-is.0)) ∙ was.word in
+          let word = others j (λ e. apart l s.trees x z at-is.1 few other.0 (stood ∙ (e ∙ at-is.0))) ∙ was.word in
           elim (cases_Bool (is_in gone z)) [
             | inl lost ↦
-                subst (ShowsPointer s.resident.places words' (stand l z)) (sym (c.dead z other.0 lost)) record {
+                subst (ShowsPointer s.resident.places words' j) (sym (c.dead z other.0 lost)) record {
                   number = was.number;
                   word = word ∙ ap (λ k. (at_bit 0 was.number + at_bit 32 (slot_field (pointer_of d z).slot)) + k) (lock lost);
                   page = was.page;
@@ -335,7 +332,7 @@ module _ (laws : Laws) (l : Layout) (words : List ℕ) (views : List View) (s : 
                   keepers = λ q held. let no : Dead ≡ Held q = held in absurd (cc);
                 }
             | inr left ↦
-                subst (ShowsPointer s.resident.places words' (stand l z)) (sym (c.same z other.0 left)) record {
+                subst (ShowsPointer s.resident.places words' j) (sym (c.same z other.0 left)) record {
                   number = was.number;
                   word = word;
                   page = was.page;
@@ -361,11 +358,11 @@ module _ (laws : Laws) (l : Layout) (words : List ℕ) (views : List View) (s : 
         }
 
     -- the words of another page
-    page_shows : (u : ℕ) (page : Page) → u < l.slots → page_of d u ≡ page
+    page_shows : (u : ℕ) (page : Page) → u < l.slots → s.trees u ≡ None → page_of d u ≡ page
         → ShowsPage s.resident.places words l.slots u (place_of m.places) d page
         → ShowsPage s.resident.places words' l.slots u (place_of places) e page
-    page_shows u Blank few is-page h = tt
-    page_shows u (Leaf ks) few is-page h = (
+    page_shows u Blank few tree is-page h = tt
+    page_shows u (Leaf ks) few tree is-page h = (
       h.0,
       (λ i less.
           let most : length ks ≤ 32 = h.0 in
@@ -377,16 +374,54 @@ module _ (laws : Laws) (l : Layout) (words : List ℕ) (views : List View) (s : 
           ∙ ap (λ k. get_or words k 0) (sym next)))
           (h.1 i less)),
     )
-    page_shows u (Inner k) few is-page h = (
+    page_shows u (Inner k) few tree is-page h = (
       h.0,
       (λ j less.
           let most : k ≤ 64 = h.0 in
-          pointer_shows (at_index u j) (few, omega arith) (λ lost. c.shut u j k lost is-page less) (h.1 j less)),
+          let none : words_before (s.trees u) ≡ 0 = before_none s.trees u tree in
+          pointer_shows (at_index u j) (page_at l.slots u j) (omega (arith, none)) (few, omega (arith, none))
+          (λ lost. c.shut u j k lost is-page less) (h.1 j less)),
     )
-    page_shows u Split few is-page h = tt
+    page_shows u Split few tree is-page h = tt
 
-    abbrev tree_is : ℕ → Fenced → Page → Type 0
-    tree_is u f z = ShowsTree s.resident.places words l.slots u f (place_of m.places) d z
+    -- and those of a tree's page
+    tree_shows : (u : ℕ) (f : Fenced) → u < l.slots → s.trees u ≡ Some f
+        → ShowsTree s.resident.places words l.slots u f (IsOverwritten m) (place_of m.places) d (page_of d u)
+        → ShowsTree s.resident.places words' l.slots u f (IsOverwritten n) (place_of places) e (page_of d u)
+    tree_shows u f few tree h = elim (of_page x u) [
+      | inl of ↦
+          let in-page = inner of.spot of.is in
+          let page-is : page_of d u ≡ Inner in-page.count = ap (page_of d) (sym of.slot) ∙ in-page.page in
+          let before : words_before (s.trees u) ≡ 4 = before_some s.trees u f tree in
+          subst (λ (z : Page). ShowsTree s.resident.places words' l.slots u f (IsOverwritten n) (place_of places) e z) (sym page-is)
+          (tree_pointed s.resident.places words words' l.slots u f (IsOverwritten m) (IsOverwritten n) (place_of m.places) (place_of places) d e in-page.count
+          (λ i less. others (page_at l.slots u i) (not_word of f tree i (inl less) (omega arith)))
+          (λ i from less. others (page_at l.slots u i) (not_word of f tree i (inr from) less))
+          (λ j less most was.
+          pointer_shows (at_index u j) (page_at l.slots u (4 + j)) (omega (arith, before)) (few, omega (arith, before))
+          (λ lost. absurd (true≢false (sym lost ∙ tree_left u f tree))) was)
+          (λ j. spans (at_index u j)) (c.headers u)
+          (subst (λ (z : Page). ShowsTree s.resident.places words l.slots u f (IsOverwritten m) (place_of m.places) d z) page-is h))
+      | inr other ↦
+          tree_shown s.resident.places words words' l.slots u f (IsOverwritten m) (IsOverwritten n) (place_of m.places) (place_of places) d e (page_of d u)
+          (λ i less. others (page_at l.slots u i) (not_page u i less (λ y is-in in-page same. other y is-in (sym same))))
+          (λ i. c.kept-places (spot u i) (tree_left u f tree)) (λ k i over. over)
+          (λ j.
+          c.same (at_index u j) (λ same. other (record { slot = u; index = j }) same refl) (tree_left u f tree))
+          (c.headers u) h
+    ]
+      where
+        -- it is none of the words of the page that aren't pointers'
+        not_word : (of : IsOfPage x u) (f : Fenced) → s.trees u ≡ Some f → (i : ℕ) → (i < 4) ⊎ (34 ≤ i) → i < 64
+            → page_at l.slots u i ≢ at
+        not_word of f tree i outside less same =
+            let in-page = inner of.spot of.is in
+            let there : s.trees (of.spot).slot ≡ Some f = ap s.trees of.slot ∙ tree in
+            let before : words_before (s.trees (of.spot).slot) ≡ 4 = before_some s.trees (of.spot).slot f there in
+            let index = in-page.fan f there in
+            let word = in-page.word in
+            let slot = of.slot in
+            elim outside [ inl low ↦ absurd (omega arith) | inr high ↦ absurd (omega arith) ]
 
     pub shows : ShowsWords l words' n e s.trees s.resident
     shows =
@@ -398,7 +433,7 @@ module _ (laws : Laws) (l : Layout) (words : List ℕ) (views : List View) (s : 
           unused = λ j from low other. others j (not_unused j from low) ∙ h.unused j from low other;
           roots = λ i less.
               let few = b.sound.few.1 in
-              pointer_shows (Root i) (omega arith) (λ lost. absurd (true≢false (sym lost))) (h.roots i less);
+              pointer_shows (Root i) (root_at i) refl (omega arith) (λ lost. absurd (true≢false (sym lost))) (h.roots i less);
           slots = λ u less.
               let was = h.slots u less in
               let same = slot_same u in record {
@@ -410,13 +445,10 @@ module _ (laws : Laws) (l : Layout) (words : List ℕ) (views : List View) (s : 
               };
           pages = λ u less now-shown tree.
               subst (ShowsPage s.resident.places words' l.slots u (place_of places) e) (sym (c.pages u))
-              (page_shows u (page_of d u) less refl (h.pages u less (ap is_shown (sym (states u)) ∙ now-shown) tree));
+              (page_shows u (page_of d u) less tree refl (h.pages u less (ap is_shown (sym (states u)) ∙ now-shown) tree));
           treed = λ u f less now-shown tree.
-              let left = tree_left u f tree in
-              tree_shown s.resident.places words words' l.slots u f (place_of m.places) (place_of places) d e (page_of e u)
-              (λ i few. others (page_at l.slots u i) (not_page u i few (not_tree u f tree)))
-              (λ i. c.kept-places (spot u i) left) (tree_pointer u f tree) (c.headers u)
-              (subst (λ (z : Page). tree_is u f z) (sym (c.pages u)) (h.treed u f less (ap is_shown (sym (states u)) ∙ now-shown) tree));
+              subst (λ (z : Page). ShowsTree s.resident.places words' l.slots u f (IsOverwritten n) (place_of places) e z) (sym (c.pages u))
+              (tree_shows u f less tree (h.treed u f less (ap is_shown (sym (states u)) ∙ now-shown) tree));
           resident = λ i j pos past less.
               others (snap_at l.slots i j) (not_snap (snap_at l.slots i j) (omega arith)) ∙ h.resident i j pos past less;
         }
@@ -425,7 +457,7 @@ module _ (laws : Laws) (l : Layout) (words : List ℕ) (views : List View) (s : 
         not_unused : (j : ℕ) → root_at (length l.decls) ≤ j → j < 32 → j ≢ at
         not_unused j from low = by_place x place at-is.0
           where
-            by_place : (z : At) → StandsAt l s at z → at ≡ stand l z → j ≢ at
+            by_place : (z : At) → StandsAt l s at z → at ≡ stand l s.trees z → j ≢ at
             by_place (Root i) is e same = let few = is.1 in absurd (omega arith)
             by_place (In y) is e same = absurd (omega arith)
 
@@ -512,10 +544,9 @@ module _ (laws : Laws) (l : Layout) (words : List ℕ) (views : List View) (s : 
         let was = b.pages.treed.known z has in
         known_same l s.trees d e v.grip.holds v.grip.holds z was.held (leds z.slot (tree_left z.slot was.fence was.there)) was
 
-    head_still : (z : Head) → IsHead l words d s.trees p v.grip.holds z → IsHead l words' e s.trees p v.grip.holds z
+    head_still : (z : Head) → IsHead l words d s.trees p z → IsHead l words' e s.trees p z
     head_still z was =
-        head_same l words words' s.trees d e p v.grip.holds v.grip.holds z was.held
-        (leds z.slot (tree_left z.slot was.fence was.there)) (c.headers z.slot) (c.pages z.slot)
+        head_same l words words' s.trees d e p z (c.headers z.slot) (c.pages z.slot)
         (λ i less. others (page_at l.slots z.slot i) (not_leaf z.slot i z.keys less was.leaf)) was
 
     moved_still : (z : Moved) → Contains v.moved z → IsMoved l words' e s.trees v.grip.holds z
@@ -524,6 +555,28 @@ module _ (laws : Laws) (l : Layout) (words : List ℕ) (views : List View) (s : 
         moved_same l words words' s.trees d e v.grip.holds v.grip.holds z was.held
         (leds z.slot (tree_left z.slot was.fence was.there)) (c.pages z.slot)
         (λ i less. others (page_at l.slots z.slot i) (not_split z.slot i less was.split)) was
+
+    inner_still : (z : InnerOf) → Contains v.inners z → IsInner l e s.trees v.grip.holds z
+    inner_still z has =
+        let was = b.pages.treed.inners z has in
+        inner_at l s.trees s.trees d e v.grip.holds v.grip.holds z was.held (known_still z.slot was.known) (c.pages z.slot)
+        (same_fence s.trees s.trees z.slot refl) (λ j has. spans (at_index z.slot j)) was
+
+    new_leaf_still : (z : NewLeaf) → Contains v.new_leaves z → IsNewLeaf l n e s.trees v.grip.made z
+    new_leaf_still z has =
+        let was = b.pages.treed.new_leaves z has in
+        let left = made_left z.slot (made_never z.slot was.made) in
+        new_leaf_at l m n d e s.trees s.trees v.grip.made v.grip.made z was.made (states z.slot) (c.headers z.slot)
+        (c.pages z.slot) refl (λ i. c.kept-places (spot z.slot i) left) was
+
+    new_inner_still : (z : NewInner) → Contains v.new_inners z → IsNewInner l e s.trees s.resident v.grip.made z
+    new_inner_still z has =
+        let was = b.pages.treed.new_inners z has in
+        let unled = made_never z.slot was.made in
+        new_inner_at l d e s.trees s.trees s.resident s.resident v.grip.made v.grip.made z was.made (states z.slot)
+        (c.pages z.slot) refl
+        (λ j free. c.same (at_index z.slot j) (elsewhere z.slot j unled) (made_left z.slot unled))
+        (more_same s.resident) was
 
     -- a pointer that was shut, and is not this one, nor in a page that is gone
     pub shut_still : (z : Shut) → IsShut d s.resident p v.grip.holds z → (x ≡ z.at → ⊥) → is_in gone z.at ≡ false
@@ -546,8 +599,12 @@ module _ (laws : Laws) (l : Layout) (words : List ℕ) (views : List View) (s : 
       pub blanks : (u : ℕ) → has_slot v.blanks u ≡ true → IsBlank l.slots e v.grip.made u
       pub fills : (z : Filled) → Contains v.fills z → (v.role ≡ Keeper) × IsFilled l words' s.resident z
       pub known : (z : Known) → Contains v.known z → IsKnownLeaf l e s.trees v.grip.holds z
-      pub heads : (z : Head) → Contains v.heads z → IsHead l words' e s.trees p v.grip.holds z
+      pub heads : (z : Head) → Contains v.heads z → IsHead l words' e s.trees p z
       pub moved : (z : Moved) → Contains v.moved z → IsMoved l words' e s.trees v.grip.holds z
+      pub sealed : (u : ℕ) → has_slot v.sealed u ≡ true → IsSealed l e p u
+      pub inners : (z : InnerOf) → Contains v.inners z → IsInner l e s.trees v.grip.holds z
+      pub new_leaves : (z : NewLeaf) → Contains v.new_leaves z → IsNewLeaf l n e s.trees v.grip.made z
+      pub new_inners : (z : NewInner) → Contains v.new_inners z → IsNewInner l e s.trees s.resident v.grip.made z
 
     pub old_now : OldNow
     old_now = record {
@@ -559,6 +616,11 @@ module _ (laws : Laws) (l : Layout) (words : List ℕ) (views : List View) (s : 
       known = known_leaf_still;
       heads = λ z has. head_still z (b.pages.treed.heads p (is_at v.role active) z has);
       moved = moved_still;
+      sealed = λ u has.
+          sealed_at l d e p u (c.headers u) (c.pages u) (b.pages.treed.sealed p (is_at v.role active) u has);
+      inners = inner_still;
+      new_leaves = new_leaf_still;
+      new_inners = new_inner_still;
     }
 
     -- ---- the step

@@ -32,7 +32,7 @@ use Rattle.engine_pages.proofs.PointerLaws.{PointerIs, halves, open_pointer, poi
 use Rattle.engine_pages.proofs.Turns.{Begins}
 use Rattle.dual_pointer.proofs.Names.{named_none}
 use Rattle.pointer_swings.specs.Swings.{CanSwing}
-use Rattle.pointer_swings.proofs.Places.{array_over, at_cases}
+use Rattle.dual_pointer.proofs.Stands.{array_over, at_cases}
 use Rattle.pointer_swings.proofs.Renewing.{span_self, target_page}
 use Rattle.pointer_swings.proofs.Steps.{IsGone}
 
@@ -133,7 +133,7 @@ module _ (laws : Laws) (l : Layout) (words : List ℕ) (views : List View) (s : 
           let named : IsNamed s.resident.places sp number y.name =
           subst (λ (z : Span). IsNamed s.resident.places z number y.name) lead.2
           (subst (λ k. IsNamed s.resident.places y.span k y.name) lead.3 is.named) in
-          let page = target_page l words views s id v b sp number y.name c.height named array c.exact (omega (arith, e)) in
+          let page = target_page l words views s id v b sp number y.name named (omega (arith, e)) in
           let most = page.most in
           let few : number ≤ 65536 =
           (let low : y.page ≤ length s.resident.pages = is.page in

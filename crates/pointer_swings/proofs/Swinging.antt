@@ -48,6 +48,7 @@ use Rattle.engine_rule.specs.declared.event.JointAct.TheVariants.{Turn as TurnPa
 use Rattle.engine_rule.specs.Event.{absences_are_old, after_moves, commit_lets, holds_all, joined, may_move}
 use Rattle.engine_rule.specs.JointState.{is_slot, slot_at as slot_with}
 use Rattle.engine_pages.specs.declared.layout.Layout.{Layout}
+use Rattle.engine_pages.specs.declared.view.Head.{Head}
 use Rattle.engine_pages.specs.declared.view.Shut.{Shut}
 use Rattle.engine_pages.specs.declared.view.View.{View}
 use Rattle.engine_pages.specs.Pages.{is_array, is_leaf_span, keys_from, IsOver}
@@ -245,6 +246,7 @@ module _ (laws : Laws) (l : Layout) (words : List ℕ) (views : List View) (s : 
           mine_own = fv.mine_own;
           records = fv.records;
           kept = λ k y z has. subst (λ (g : Content). IsUpTo z.number g.number) (sym (pt.contents y)) (fv.kept k y z has);
+          versions = fv.versions;
           loaded = tt;
           tried = b.own.tried;
           took = λ k has. absurd (in_none k has);
@@ -263,8 +265,12 @@ module _ (laws : Laws) (l : Layout) (words : List ℕ) (views : List View) (s : 
           leads = b.pages.leads;
           fills = old.fills;
           known = old.known;
-          heads = old.heads;
+          heads = λ z has. old.heads z (in_filter (λ (y : Head). not (eqb y.slot t)) z v.heads has);
           moved = old.moved;
+          sealed = old.sealed;
+          inners = old.inners;
+          new_leaves = old.new_leaves;
+          new_inners = old.new_inners;
           shuts = λ z has.
               let before = shuts_other t v.shuts z has in
               let was = b.pages.shuts p (is_at v.role active) z before.0 in

@@ -1,26 +1,21 @@
 -- What renewing a pointer asks and tells: it leads to its slot still, and names another snapshot page.
-use Rattle.std.specs.Prelude.{◌≡◌, ℕ, ◌+◌, ◌*◌, ◌/◌, ◌^◌, ◌<◌, ◌≤◌, ◌==◌, true, MatchBool}
+use Rattle.std.specs.Prelude.{◌≡◌, ℕ, ◌+◌, ◌*◌, ◌/◌, ◌^◌, ◌<◌, ◌≤◌, ◌==◌, MatchBool}
 use Rattle.atomic_table.specs.Table.{Step}
 use Rattle.homes.specs.declared.places.At.{At}
 use Rattle.homes.specs.declared.places.Span.{Span}
-use Rattle.snapshot_store.specs.ArrayPages.{last_at}
 use Rattle.engine_pages.specs.declared.view.Role.TheVariants.{Keeper}
 use Rattle.engine_pages.specs.declared.view.View.{View}
-use Rattle.engine_pages.specs.Pages.{is_array}
 use Rattle.engine_pages.specs.Pointers.{IsPointerAt}
 use Rattle.engine_pages.specs.Steps.{glanced, read_at, with_read}
 use Rattle.dual_pointer.specs.Copies.{IsLeadOf}
 
--- The maintenance thread's pass may renew the pointer, which is over the keys of an array's page of some height, where
--- it finds this word, which is that of an open one that leads to a slot: the page with this number stands for its keys.
+-- The maintenance thread's pass may renew the pointer where it finds this word, which is that of an open one that leads
+-- to a slot: the page with this number stands for its keys.
 pub record CanRenew (v : View) (x : At) (sp : Span) (at number expected : ℕ) : Type 0 where
   pub keeper : v.role ≡ Keeper
   pub place : IsPointerAt v x sp at
   pub free : expected < 2 ^ 60
   pub leads : 2 ^ 32 ≤ expected
-  pub array : is_array v.layout.decls sp.storage ≡ true
-  pub height : ℕ
-  pub exact : sp.high ≡ sp.low + last_at height
   pub some : 0 < number
   pub lead : IsLeadOf v sp number
 

@@ -1,5 +1,6 @@
 -- What a swing asks and tells: a pointer leads from a slot to the snapshot page that says what the slot's page says.
-use Rattle.std.specs.Prelude.{◌≡◌, ℕ, ◌+◌, ◌^◌, ◌<◌, ◌≤◌, ◌==◌, true, false, List, [], ◌∷◌, length, get_or, Some, None}
+use Rattle.std.specs.Prelude.{◌≡◌, ℕ, ◌+◌, ◌^◌, ◌<◌, ◌≤◌, ◌==◌, true, false, List, [], ◌∷◌, ◌++◌}
+use Rattle.std.specs.Prelude.{length, get_or, Some, None}
 use Rattle.std.specs.Prelude.{Contains, MatchBool, unwrap_or}
 use Rattle.atomic_table.specs.Table.{Step}
 use Rattle.serial_model.specs.declared.key.Key.{Key}
@@ -18,7 +19,7 @@ use Rattle.engine_pages.specs.declared.view.View.{View}
 use Rattle.engine_pages.specs.Pages.{is_array, is_leaf_span, keys_from}
 use Rattle.engine_pages.specs.Pointers.{IsPointerAt, half_of}
 use Rattle.engine_pages.specs.Resident.{array_word, array_value}
-use Rattle.engine_pages.specs.Slots.{other_shuts}
+use Rattle.engine_pages.specs.Slots.{other_heads, other_shuts}
 use Rattle.engine_pages.specs.Steps.{glanced, read_at, with_read}
 use Rattle.engine_pages.specs.Words.{spot}
 use Rattle.page_records.specs.Locks.{took_at}
@@ -59,7 +60,7 @@ pub record CanSwing (v : View) (x : At) (sp : Span) (at t number expected : ℕ)
       → has_key (keys_from sp.storage sp.low array_leaf.room) k ≡ true
   pub unlocked : is_leaf_span sp ≡ false → v.seat.locks ≡ []
 
--- Nothing leads to the slot any more, whose locks and shut pointers are nobody's.
+-- Nothing leads to the slot any more, whose locks, header and shut pointers are nobody's; which pointer did is known.
 abbrev pub swung : ℕ → ℕ → ℕ → ℕ → View → View
 swung t at number n v = record (glanced at n v) {
   reads = with_read v.reads at number;
@@ -67,7 +68,9 @@ swung t at number n v = record (glanced at n v) {
   took = [];
   loaded = None;
   grip = record v.grip { taken = t ∷ v.grip.taken };
+  heads = other_heads t v.heads;
   shuts = other_shuts t v.shuts;
+  swung = v.swung ++ record { word = at; slot = t } ∷ [];
 }
 
 -- the pointer is swung exactly where its word was the one that was expected

@@ -6,7 +6,7 @@ use Rattle.engine_pages.specs.Layout.{words_of}
 use Rattle.engine_pages.specs.Rule.{Shows}
 use Rattle.engine_pages.proofs.Joint.{Laws}
 use Rattle.page_records.specs.Locks.{put_at}
-use Rattle.page_records.proofs.Leaves.{word_below}
+use Rattle.page_records.proofs.AnyRecord.{any_below}
 use Rattle.page_records.proofs.Putting.{puts}
 use Rattle.page_records.proofs.locking.put_as.Goals as goal
 
@@ -21,7 +21,7 @@ store-requires g c =
     record { keeps = c.laws.ensures.keeps; leaves = c.laws.ensures.leaves; made = c.laws.ensures.made } in
     let few : c.args.at + 1 < words_of l =
     subst (λ (y : Layout). c.args.at + 1 < words_of y) c.requires.of.layout
-    (word_below v c.args.key c.args.spot c.args.at c.requires.place) in (
+    (any_below v c.args.key c.args.spot c.args.at c.requires.place) in (
       c.requires.of.table,
       (let long = c.args.engine.now.long in omega arith),
       subst

@@ -1,0 +1,5 @@
+mod ReadLaws
+mod WordLaws
+mod FillLaws
+mod StoreLaws
+mod AddLaws

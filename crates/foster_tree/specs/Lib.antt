@@ -1,0 +1,4 @@
+pub mod Entries
+pub mod Filling
+pub mod Causes
+pub mod Adding

@@ -1,0 +1,38 @@
+use Rattle.std.proofs.Common.{◌≡◌, ◌+◌, ◌%◌, ◌^◌, ◌<◌, ℕ, arith, subst}
+use Rattle.atomic_table.specs.Table.{Allows}
+use Rattle.homes.specs.declared.places.Span.{Span}
+use Rattle.engine_pages.specs.declared.layout.Layout.{Layout}
+use Rattle.engine_pages.specs.Layout.{slot_at}
+use Rattle.engine_pages.specs.Rule.{Shows}
+use Rattle.engine_pages.proofs.Joint.{Laws}
+use Rattle.tree_heads.specs.NewPages.{published_leaf}
+use Rattle.tree_heads.proofs.LeafPublish.{publishes_leaf}
+use Rattle.tree_heads.proofs.publishing.publish_leaf_as.Goals as goal
+
+pub fetch_add-requires : goal.fetch_add-requires
+fetch_add-requires g c =
+    let me = c.args.pass.now.me in
+    let v = me.0 in
+    let l = c.args.engine.now.table.shared.key in
+    let slots = c.args.engine.now.table.shared.table_id.slots in
+    let id = c.args.pass.now.id in
+    let laws : Laws =
+    record { keeps = c.laws.ensures.keeps; leaves = c.laws.ensures.leaves; made = c.laws.ensures.made } in
+    let d = c.requires.draft in
+    let few : c.args.slot < l.slots = subst (λ (y : Layout). c.args.slot < y.slots) c.requires.of.layout c.requires.slot in
+    let all = publishes_leaf laws l slots id me d.0 c.args.span g.K.Leafed.keys g.K.Leafed.contents c.requires.pass d.1 d.3 in (
+      c.requires.of.table,
+      (let long = c.args.engine.now.long in omega arith),
+      subst
+          (λ (t : ℕ). Allows (λ s. Shows l s.words s.views) slots id me (slot_at c.args.slot) (λ n. (n + 65536) % 2 ^ 64)
+          (λ n now. (now.1 ≡ me.1) × (now.0 ≡ published_leaf t g.J.Treed.span g.K.Leafed.keys g.K.Leafed.contents v)))
+          c.requires.named.0
+          (subst
+          (λ (z : Span). Allows (λ s. Shows l s.words s.views) slots id me (slot_at c.args.slot) (λ n. (n + 65536) % 2 ^ 64)
+          (λ n now. (now.1 ≡ me.1) × (now.0 ≡ published_leaf c.args.slot z g.K.Leafed.keys g.K.Leafed.contents v)))
+          c.requires.named.1
+          (subst
+          (λ (t : ℕ). Allows (λ s. Shows l s.words s.views) slots id me (slot_at t) (λ n. (n + 65536) % 2 ^ 64)
+          (λ n now. (now.1 ≡ me.1) × (now.0 ≡ published_leaf t c.args.span g.K.Leafed.keys g.K.Leafed.contents v)))
+          d.2 all)),
+    )

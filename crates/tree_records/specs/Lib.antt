@@ -1,0 +1,4 @@
+pub mod Reads
+pub mod Held
+pub mod ReadLaws
+pub mod Places

@@ -15,15 +15,16 @@ use Rattle.engine_pages.specs.declared.layout.Layout.{Layout}
 use Rattle.engine_pages.specs.declared.view.Dropped.{Dropped as Counted}
 use Rattle.engine_pages.specs.declared.view.KeptPage.{KeptPage}
 use Rattle.engine_pages.specs.declared.view.Role.TheVariants.{Keeper}
+use Rattle.engine_pages.specs.declared.view.Swung.{Swung}
 use Rattle.engine_pages.specs.declared.view.View.{View}
 use Rattle.engine_pages.specs.Layout.{clock_at, root_at}
 use Rattle.engine_pages.specs.Pages.{root_span}
 use Rattle.engine_pages.specs.Steps.{glance}
 use Rattle.dual_pointer.specs.Copies.{IsLeadOf}
 use Rattle.page_drops.specs.declared.calls.Dropped.{Dropped}
-use Rattle.page_drops.specs.Calls.{begun, counted, dropped_all, notes_all, slots_all, CanDropAll, CanGoOver, GoesOver, HasCounted}
+use Rattle.page_drops.specs.Calls.{begun, counted, dropped_all, notes_all, slots_all, swings_all, CanDropAll, CanGoOver, GoesOver, HasCounted}
 use Rattle.page_drops.specs.Calls.{HasDroppedAll, HasGoneOver, HasRoom, HasVisited, IsElsewhere, IsRootTreeOf, WentOver}
-use Rattle.page_drops.specs.Visits.{MetRoot, LeftAlone, IsRootTree, dropped_root, notes_root, slots_root, times}
+use Rattle.page_drops.specs.Visits.{MetRoot, LeftAlone, IsRootTree, dropped_root, notes_root, slots_root, swings_root, times}
 use Rattle.page_drops.proofs.Counts.{counted_none, counted_then, root_few}
 use Rattle.page_drops.proofs.Goings.{bare_over, over_self, over_then}
 use Rattle.page_drops.proofs.Stays.{Goes, Spares, root_stays, times_append, times_in, times_reverse}
@@ -45,6 +46,12 @@ slots_push [] m = append-nil (slots_root m)
 slots_push (x ∷ xs) m =
     ap (λ (l : List ℕ). slots_root x ++ l) (slots_push xs m)
     ∙ sym (append_assoc (slots_root x) (slots_all xs) (slots_root m))
+
+pub swings_push : (xs : List MetRoot) (m : MetRoot) → swings_all (xs ++ m ∷ []) ≡ swings_all xs ++ swings_root m
+swings_push [] m = append-nil (swings_root m)
+swings_push (x ∷ xs) m =
+    ap (λ (l : List Swung). swings_root x ++ l) (swings_push xs m)
+    ∙ sym (append_assoc (swings_root x) (swings_all xs) (swings_root m))
 
 -- a slot of one of them is one of all
 in_all : (xs : List MetRoot) (r t : ℕ) → Contains (slots_root (get_or xs r LeftAlone)) t → Contains (slots_all xs) t
@@ -97,21 +104,22 @@ pub record GoesOn (roots : List ℕ) (n : ℕ) (tally : Dropped) (v w : View) : 
 abbrev pub none_yet : Dropped
 none_yet = record { dropped = 0; kept = 0; first = None }
 
-pub starts : (roots : List ℕ) (v : View) → v.kept ≡ [] → v.gone ≡ [] → GoesOn roots 0 none_yet v v
-starts roots v kept gone = record {
+pub starts : (roots : List ℕ) (v : View) → v.kept ≡ [] → v.gone ≡ [] → v.swung ≡ [] → GoesOn roots 0 none_yet v v
+starts roots v kept gone swung = record {
   over = record {
     met = [];
     long = refl;
     trees = λ r less. absurd (omega (arith, less));
     kept = kept;
     gone = gone;
+    swung = swung;
     counts = counted_none none_yet;
   };
   goes = over_self v;
 }
 
 module _ (roots : List ℕ) (n : ℕ) (tally new : Dropped) (v u w : View) (few : n < 16) (a : GoesOn roots n tally v u)
-    (h : HasVisited MetRoot dropped_root notes_root slots_root (IsRootTreeOf (get_or roots n 0) n) (root_at n) tally u new w)
+    (h : HasVisited MetRoot dropped_root notes_root slots_root swings_root (IsRootTreeOf (get_or roots n 0) n) (root_at n) tally u new w)
   where
     goes : Goes (IsOther u (slots_root h.met) (root_at n)) u w
     goes = record {
@@ -159,6 +167,8 @@ module _ (roots : List ℕ) (n : ℕ) (tally new : Dropped) (v u w : View) (few 
             ∙ (ap (λ (l : List ℕ). reverse (slots_root h.met) ++ l) a.over.gone
             ∙ (sym (reverse-append (slots_all a.over.met) (slots_root h.met))
             ∙ ap reverse (sym (slots_push a.over.met h.met))));
+        swung = h.swung
+            ∙ (ap (λ (l : List Swung). l ++ swings_root h.met) a.over.swung ∙ sym (swings_push a.over.met h.met));
         counts =
             subst (λ (l : List KeptPage). HasCounted none_yet (dropped_all (a.over.met ++ h.met ∷ [])) l new)
             (sym (notes_push a.over.met h.met))
@@ -205,6 +215,7 @@ can_begun roots n v w is can =
         locks = can.bare.locks;
         took = can.bare.took;
         parts = can.bare.parts;
+        heads = can.bare.heads;
         shuts = can.bare.shuts;
       };
       ways = can.ways;
@@ -242,10 +253,13 @@ over_counts : (v u : View) (c : Counted) (k : ℕ) → WentOver v u → (let w =
   touched = w.touched;
   loaded = w.loaded;
   known = w.known;
-  heads = w.heads;
   moved = w.moved;
+  inners = w.inners;
+  swung = w.swung;
   copies = w.copies;
   blanks = w.blanks;
+  new_leaves = w.new_leaves;
+  new_inners = w.new_inners;
   pages = w.pages;
   leads = w.leads;
   gone = w.gone;
@@ -274,6 +288,7 @@ ended roots n k tally v u a =
         trees = λ r less. counted_tree roots r c k u (get_or a.over.met r LeftAlone) (a.over.trees r less);
         kept = a.over.kept;
         gone = a.over.gone;
+        swung = a.over.swung;
         counts = a.over.counts;
       };
       is = over_counts v u c k a.goes.went;
@@ -296,7 +311,7 @@ ends roots n k i tally v b u w begins a all counts =
 
 pub begun_start : (roots : List ℕ) (n : ℕ) (v w : View) → w ≡ begun n v → GoesOn roots 0 none_yet (begun n v) w
 begun_start roots n v w is =
-    subst (λ (x : View). GoesOn roots 0 none_yet (begun n v) x) (sym is) (starts roots (begun n v) refl refl)
+    subst (λ (x : View). GoesOn roots 0 none_yet (begun n v) x) (sym is) (starts roots (begun n v) refl refl refl)
 
 -- a root of a storage is one of those
 pub root_less : (roots : List ℕ) (l : Layout) (r : ℕ) (v : View) → CanDropAll roots v → v.layout ≡ l

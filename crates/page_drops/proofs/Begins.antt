@@ -30,7 +30,7 @@ begins laws l slots id me keeper =
     let v = me.0 in
     let w = begun (get_or words 0 0) v in
     look_stride l words views s id v active b 0 (λ n. n) w (λ v n w. w ≡ begun n v) refl
-    record { layout = refl; role = refl; made = refl; past = refl; parked = refl; epoch = refl; mine = refl; draws = refl; due = refl; seat = refl; checked = refl; took = refl; loaded = refl; met = refl; heard = refl; history = refl; decided = refl }
+    record { layout = refl; role = refl; made = refl; past = refl; parked = refl; epoch = refl; mine = refl; draws = refl; due = refl; seat = refl; checked = refl; took = refl; loaded = refl; met = refl; heard = refl; history = refl; decided = refl; versions = refl }
     refl
     record {
       within = b.pages.within;
@@ -44,6 +44,10 @@ begins laws l slots id me keeper =
       known = b.pages.treed.known;
       heads = b.pages.treed.heads (seat_number v.role) (is_at v.role active);
       moved = b.pages.treed.moved;
+      sealed = b.pages.treed.sealed (seat_number v.role) (is_at v.role active);
+      inners = b.pages.treed.inners;
+      new_leaves = b.pages.treed.new_leaves;
+      new_inners = b.pages.treed.new_inners;
       shuts = b.pages.shuts (seat_number v.role) (is_at v.role active);
     }
     record {
@@ -65,7 +69,7 @@ counts laws l slots id me tally keeper =
     let v = me.0 in
     let w = counted tally (get_or words 0 0) v in
     look_stride l words views s id v active b 0 (λ n. n) w (λ v n w. w ≡ counted tally n v) refl
-    record { layout = refl; role = refl; made = refl; past = refl; parked = refl; epoch = refl; mine = refl; draws = refl; due = refl; seat = refl; checked = refl; took = refl; loaded = refl; met = refl; heard = refl; history = refl; decided = refl }
+    record { layout = refl; role = refl; made = refl; past = refl; parked = refl; epoch = refl; mine = refl; draws = refl; due = refl; seat = refl; checked = refl; took = refl; loaded = refl; met = refl; heard = refl; history = refl; decided = refl; versions = refl }
     refl
     record {
       within = b.pages.within;
@@ -79,6 +83,10 @@ counts laws l slots id me tally keeper =
       known = b.pages.treed.known;
       heads = b.pages.treed.heads (seat_number v.role) (is_at v.role active);
       moved = b.pages.treed.moved;
+      sealed = b.pages.treed.sealed (seat_number v.role) (is_at v.role active);
+      inners = b.pages.treed.inners;
+      new_leaves = b.pages.treed.new_leaves;
+      new_inners = b.pages.treed.new_inners;
       shuts = b.pages.shuts (seat_number v.role) (is_at v.role active);
     }
     (rests_all l words views s id v b w

@@ -15,6 +15,7 @@ use Rattle.drop_core.specs.Table.{at_index, has_slot}
 use Rattle.engine_rule.proofs.ReadLists.{in_flat}
 use Rattle.engine_pages.specs.declared.layout.Layout.{Layout}
 use Rattle.engine_pages.specs.declared.view.KeptPage.{KeptPage}
+use Rattle.engine_pages.specs.declared.view.Swung.{Swung}
 use Rattle.engine_pages.specs.declared.view.View.{View}
 use Rattle.engine_pages.specs.Layout.{page_at, words_of}
 use Rattle.engine_pages.specs.Pages.{child_size, child_span, is_array}
@@ -171,16 +172,17 @@ node_went B stands sp number now word u w m same seen tree node = record {
 }
 
 -- none was gone over yet
-pub none_below : (B : Type 0) (f : Met B → ℕ) (g : Met B → List KeptPage) (h : Met B → List ℕ)
+pub none_below : (B : Type 0) (f : Met B → ℕ) (g : Met B → List KeptPage) (h : Met B → List ℕ) (q : Met B → List Swung)
     (stands : View → Met B → Type 0) (t page : ℕ) (sp : Span) (old : Dropped) (v : View)
-    → HasVisitedBelow (Met B) f g h (IsNode B stands) t sp page 0 old v old v
-none_below B f g h stands t page sp old v = record {
+    → HasVisitedBelow (Met B) f g h q (IsNode B stands) t sp page 0 old v old v
+none_below B f g h q stands t page sp old v = record {
   met = [];
   long = refl;
   each = λ j m at. absurd (let none : List (Met B) = [] in let less = at_below none j m at in omega (arith, less));
   over = over_self v;
   kept = sym (append-nil v.kept);
   gone = refl;
+  swung = sym (append-nil v.swung);
   fresh = λ u has. absurd (in_none u has);
   counts = counted_none old;
   others = λ word elsewhere. refl;
@@ -190,12 +192,12 @@ none_below B f g h stands t page sp old v = record {
 abbrev pub Stays : (B : Type 0) (h : Met B → List ℕ) (stands : View → Met B → Type 0) → Type 0
 Stays B h stands = (v w : View) (m : Met B) → StaysFor (h m) v w → stands v m → stands w m
 
-module _ (B : Type 0) (f : Met B → ℕ) (g : Met B → List KeptPage) (h : Met B → List ℕ) (stands : View → Met B → Type 0)
-    (stays : Stays B h stands) (t page j n word : ℕ) (sp part : Span) (old sum new : Dropped) (v u a w : View)
+module _ (B : Type 0) (f : Met B → ℕ) (g : Met B → List KeptPage) (h : Met B → List ℕ) (q : Met B → List Swung)
+    (stands : View → Met B → Type 0) (stays : Stays B h stands) (t page j n word : ℕ) (sp part : Span) (old sum new : Dropped) (v u a w : View)
     (there : page ≤ length v.pages) (held : has_slot v.grip.holds t ≡ true) (few : j < 64)
-    (before : HasVisitedBelow (Met B) f g h (IsNode B stands) t sp page j old v sum u) (child : HasChild sp page j u n a)
+    (before : HasVisitedBelow (Met B) f g h q (IsNode B stands) t sp page j old v sum u) (child : HasChild sp page j u n a)
     (is : part ≡ child_span sp j) (place : word ≡ page_at v.layout.slots t j)
-    (visit : HasVisited (Met B) f g h (IsNode B stands part n word) word sum a new w) where
+    (visit : HasVisited (Met B) f g h q (IsNode B stands part n word) word sum a new w) where
   abbrev now : Met B
   now = visit.met
 
@@ -314,7 +316,7 @@ module _ (B : Type 0) (f : Met B → ℕ) (g : Met B → List KeptPage) (h : Met
       ])
 
   -- one more was gone over
-  pub next_below : HasVisitedBelow (Met B) f g h (IsNode B stands) t sp page (j + 1) old v new w
+  pub next_below : HasVisitedBelow (Met B) f g h q (IsNode B stands) t sp page (j + 1) old v new w
   next_below = record {
     met = before.met ++ now ∷ [];
     long = let long = before.long in let more = length-append before.met (now ∷ []) in omega (arith, long, more);
@@ -330,6 +332,11 @@ module _ (B : Type 0) (f : Met B → ℕ) (g : Met B → List KeptPage) (h : Met
         ∙ (sym (append_assoc (reverse (h now)) (reverse (flat_map h before.met)) v.gone)
         ∙ ap (λ list. list ++ v.gone)
         (sym (reverse-append (flat_map h before.met) (h now)) ∙ ap (λ list. reverse list) (sym (flat_push h before.met now)))));
+    swung =
+        visit.swung
+        ∙ (ap (λ list. list ++ q now) (ap (λ (z : View). z.swung) (child.went).shut ∙ before.swung)
+        ∙ (append_assoc v.swung (flat_map q before.met) (q now)
+        ∙ ap (λ list. v.swung ++ list) (sym (flat_push q before.met now))));
     fresh = fresh_now;
     counts =
         subst (λ list. HasCounted old (sum_met f (before.met ++ now ∷ [])) list new) (sym (flat_push g before.met now))
@@ -340,11 +347,11 @@ module _ (B : Type 0) (f : Met B → ℕ) (g : Met B → List KeptPage) (h : Met
 
 -- ---- room in the counts
 
-pub room_below : (B : Type 0) (f : Met B → ℕ) (g : Met B → List KeptPage) (h : Met B → List ℕ)
+pub room_below : (B : Type 0) (f : Met B → ℕ) (g : Met B → List KeptPage) (h : Met B → List ℕ) (q : Met B → List Swung)
     (stands : View → Met B → Type 0) (k t page j : ℕ) (sp : Span) (old sum : Dropped) (v u : View)
     → ((w : View) (m : Met B) → stands w m → f m + length (g m) ≤ k) → j < 64 → HasRoom (k * 64) old
-    → HasVisitedBelow (Met B) f g h (IsNode B stands) t sp page j old v sum u → HasRoom k sum
-room_below B f g h stands k t page j sp old sum v u small few room so =
+    → HasVisitedBelow (Met B) f g h q (IsNode B stands) t sp page j old v sum u → HasRoom k sum
+room_below B f g h q stands k t page j sp old sum v u small few room so =
     let all = sum_few f g k so.met (λ i m at. small u m (so.each i m at).tree) in
     let long = so.long in
     let most : k * suc j ≤ k * 64 = mul-le-mul_left k few in

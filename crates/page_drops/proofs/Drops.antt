@@ -1,5 +1,5 @@
 -- A leaf whose records are locked as the snapshot has them is swung from, and its slot given up.
-use Rattle.std.proofs.Common.{◌≡◌, ◌≢◌, inr, ℕ, ◌+◌, ◌<◌, ◌≤◌, Bool, true, false, true≢false, eqb, eq-eqb, ne_eqb, List, [], ◌∷◌, ◌++◌}
+use Rattle.std.proofs.Common.{◌≡◌, ◌≢◌, inl, inr, ℕ, ◌+◌, ◌<◌, ◌≤◌, Bool, true, false, true≢false, eqb, eq-eqb, ne_eqb, List, [], ◌∷◌, ◌++◌}
 use Rattle.std.proofs.Common.{refl, sym, ap, ◌∙◌, subst, arith}
 use Rattle.std.specs.Prelude.{◌||◌, MatchBool}
 use Rattle.std.specs.List.{Contains}
@@ -14,7 +14,7 @@ use Rattle.engine_pages.specs.declared.view.KeptWhy.{KeptWhy}
 use Rattle.engine_pages.specs.declared.view.KeptWhy.TheVariants.{Changed}
 use Rattle.engine_pages.specs.declared.view.View.{View}
 use Rattle.engine_pages.specs.Layout.{words_of}
-use Rattle.engine_pages.specs.Pointers.{IsPointerAt}
+use Rattle.engine_pages.specs.Pointers.{IsArrayPointerAt, any_pointer}
 use Rattle.engine_pages.specs.Resident.{array_value, array_word}
 use Rattle.engine_pages.specs.Slots.{MayRetire, retired}
 use Rattle.engine_pages.specs.Steps.{kept_at, read_at, seen_at}
@@ -32,10 +32,10 @@ use Rattle.page_drops.proofs.Wholes.{same_words}
 
 -- ---- what is asked stays so
 
-pub pointer_worked : (v w : View) (x : At) (sp : Span) (at : ℕ) → WorkedOn v w → IsPointerAt v x sp at → IsPointerAt w x sp at
-pointer_worked v w (Root r) sp at worked is = subst (λ (z : View). IsPointerAt z (Root r) sp at) (sym worked) is
+pub pointer_worked : (v w : View) (x : At) (sp : Span) (at : ℕ) → WorkedOn v w → IsArrayPointerAt v x sp at → IsArrayPointerAt w x sp at
+pointer_worked v w (Root r) sp at worked is = subst (λ (z : View). IsArrayPointerAt z (Root r) sp at) (sym worked) is
 pointer_worked v w (In y) sp at worked is =
-    subst (λ (z : View). IsPointerAt z (In y) sp at) (sym worked) record {
+    subst (λ (z : View). IsArrayPointerAt z (In y) sp at) (sym worked) record {
       way = is.way;
       has = is.has;
       slot = is.slot;
@@ -72,7 +72,7 @@ can_swing x sp at t page word v a u can compared moved row =
     let pages = same_words page v u worked in
     let before = same_words page v a compared.looked.worked in record {
       keeper = leaf.keeper;
-      place = pointer_worked v u x sp at worked can.place;
+      place = any_pointer u x sp at (pointer_worked v u x sp at worked can.place);
       leads = can.leads;
       array = leaf.array;
       height = 0;
@@ -109,7 +109,8 @@ swung_now t at page word found u w same h =
 
 pub may_retire : (t at page found : ℕ) (u w : View) → w ≡ swung t at page found u → MayRetire w t
 may_retire t at page found u w is =
-    inr (inr (ap (λ (z : View). has_slot z.grip.taken t) is ∙ ap (λ (c : Bool). c || has_slot u.grip.taken t) (eq-eqb t t refl)))
+    inr
+    (inr (inl (ap (λ (z : View). has_slot z.grip.taken t) is ∙ ap (λ (c : Bool). c || has_slot u.grip.taken t) (eq-eqb t t refl))))
 
 -- the slot is given up
 pub dropped_now : (t at page found : ℕ) (v a u w z : View) → WorkedOn v u → v.steps ≤ u.steps → u.kept ≡ v.kept

@@ -7,7 +7,7 @@ use Rattle.drop_core.specs.Table.{has_slot}
 use Rattle.engine_pages.specs.declared.view.KeptWhy.TheVariants.{Changed}
 use Rattle.engine_pages.specs.declared.view.View.{View}
 use Rattle.engine_pages.specs.declared.view.Way.{Way}
-use Rattle.engine_pages.specs.Pointers.{HasFollowed, IsPointerAt, half_of, page_half}
+use Rattle.engine_pages.specs.Pointers.{HasFollowed, IsArrayPointerAt, half_of, page_half}
 use Rattle.engine_pages.specs.Slots.{entered, left}
 use Rattle.engine_pages.specs.Steps.{seen_at}
 use Rattle.pointer_swings.specs.Renewals.{CanRenew, HasRenewed, renewed_word}
@@ -59,7 +59,7 @@ module _ (height : ℕ) (x : At) (sp : Span) (at page n : ℕ) (v a : View) (can
     look_in =
         look_entered at n t (seen_at v.reads at) v.grip.holds v.ways v a u (look_first height x sp at page n v a can first) enter
 
-    pub pointer_there_still : IsPointerAt u x sp at
+    pub pointer_there_still : IsArrayPointerAt u x sp at
     pointer_there_still =
         pointer_in x sp at v u look_in.over (λ z has. subst (λ ws. Contains ws z) (sym look_in.path) has) can.place
 

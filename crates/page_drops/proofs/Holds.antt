@@ -24,8 +24,8 @@ use Rattle.engine_pages.specs.declared.view.Role.TheVariants.{Keeper}
 use Rattle.engine_pages.specs.Layout.{page_at, root_at, words_of}
 use Rattle.engine_pages.specs.Pages.{is_array, root_span}
 use Rattle.dual_pointer.specs.Copies.{IsLeadOf}
-use Rattle.engine_pages.specs.Pointers.{HasFollowed, IsPointerAt, WaysAgree, followed, half_of, is_open_word, leads_more, page_half, slot_half}
-use Rattle.engine_pages.specs.Pointers.{ways_if, ways_more}
+use Rattle.engine_pages.specs.Pointers.{HasFollowed, IsArrayPointerAt, WaysAgree, followed, half_of, is_open_word, leads_more, page_half, slot_half}
+use Rattle.engine_pages.specs.Pointers.{ways_if, ways_more, any_pointer}
 use Rattle.engine_pages.specs.Slots.{entered, left, other_shuts, other_ways}
 use Rattle.engine_pages.specs.Steps.{glance, kept_at, read_at, seen_at}
 use Rattle.pointer_swings.specs.Renewals.{CanRenew, HasRenewed, renewed, renewed_word}
@@ -51,10 +51,13 @@ as_over z w = record z {
   touched = w.touched;
   loaded = w.loaded;
   known = w.known;
-  heads = w.heads;
   moved = w.moved;
+  inners = w.inners;
+  swung = w.swung;
   copies = w.copies;
   blanks = w.blanks;
+  new_leaves = w.new_leaves;
+  new_inners = w.new_inners;
   pages = w.pages;
   leads = w.leads;
   gone = w.gone;
@@ -253,6 +256,7 @@ pub record Looked (at n : ℕ) (was : Option ℕ) (holds : List ℕ) (ways : Lis
   pub before : step < w.steps
   pub kept : w.kept ≡ v.kept
   pub gone : w.gone ≡ v.gone
+  pub swung : w.swung ≡ v.swung
   pub read : Read
   pub is : read_of w.reads at ≡ Some read
   pub seen : read.seen ≡ n
@@ -289,6 +293,7 @@ looks_on sp at n ways v w h same =
       before = let up : w.steps ≡ v.steps + 1 = ap (λ (z : View). z.steps) h.is in omega (arith, up);
       kept = ap (λ (z : View). z.kept) h.is;
       gone = ap (λ (z : View). z.gone) h.is;
+      swung = ap (λ (z : View). z.swung) h.is;
       read = entry_of v.reads at n (kept_at v.reads at);
       is = ap (λ (z : View). read_of z.reads at) h.is ∙ own_entry v.reads at n (kept_at v.reads at);
       seen = refl;
@@ -328,6 +333,7 @@ look_then at n m was was' holds holds' ways ways' v u w a b =
       before = b.before;
       kept = b.kept ∙ a.kept;
       gone = b.gone ∙ a.gone;
+      swung = b.swung ∙ a.swung;
       read = b.read;
       is = b.is;
       seen = b.seen;
@@ -356,6 +362,7 @@ look_entered at n t was holds ways v u w l is =
       before = let up : w.steps ≡ u.steps + 1 = ap (λ (z : View). z.steps) is in omega (arith, up, old);
       kept = ap (λ (z : View). z.kept) is ∙ l.kept;
       gone = ap (λ (z : View). z.gone) is ∙ l.gone;
+      swung = ap (λ (z : View). z.swung) is ∙ l.swung;
       read = l.read;
       is = ap (λ (z : View). read_of z.reads at) is ∙ l.is;
       seen = l.seen;
@@ -423,6 +430,7 @@ look_missed at page n m was holds ways v u w l h other =
       before = let up : w.steps ≡ u.steps + 1 = ap (λ (z : View). z.steps) is in omega (arith, up);
       kept = ap (λ (z : View). z.kept) is ∙ l.kept;
       gone = ap (λ (z : View). z.gone) is ∙ l.gone;
+      swung = ap (λ (z : View). z.swung) is ∙ l.swung;
       read = entry_of u.reads at m (kept_at u.reads at);
       is = ap (λ (z : View). read_of z.reads at) is ∙ own_entry u.reads at m (kept_at u.reads at);
       seen = refl;
@@ -442,6 +450,7 @@ none_looked at n was v w l low =
       over = over_in v w l.over l.grip l.path;
       kept = l.kept;
       gone = l.gone;
+      swung = l.swung;
       others = l.others;
     }
 
@@ -461,6 +470,7 @@ held_looked sp at page n t was v w l slot fresh half names = record {
   over = l.over;
   kept = l.kept;
   gone = l.gone;
+  swung = l.swung;
   others = l.others;
 }
 
@@ -487,6 +497,7 @@ held_renewed sp at page n m t was v u w l slot fresh half small h same =
       over = in_then v u w l.over (in_renewed at page n u w is);
       kept = ap (λ (z : View). z.kept) is ∙ l.kept;
       gone = ap (λ (z : View). z.gone) is ∙ l.gone;
+      swung = ap (λ (z : View). z.swung) is ∙ l.swung;
       others = λ word other.
           ap (λ (z : View). read_of z.reads word) is
           ∙ (other_entry u.reads at (renewed_word n page) (kept_at u.reads at) word other ∙ l.others word other);
@@ -525,6 +536,7 @@ keeps_shut at n k was v u w l is told high =
       );
       over = over_in v w over (ap (λ (z : View). z.grip) told.1 ∙ l.grip) (ap (λ (z : View). z.ways) told.1 ∙ l.path);
       gone = shut_gone k.why v.grip.holds v.gone w.gone (ap (λ (y : Kept). y.why) is) (ap (λ (z : View). z.gone) told.1 ∙ l.gone);
+      swung = ap (λ (z : View). z.swung) told.1 ∙ l.swung;
       others = λ word other. ap (λ (z : View). read_of z.reads word) told.1 ∙ l.others word other;
     }
   where
@@ -568,6 +580,7 @@ keeps_turned_away at n e t k ways v u c w bare l is told other half fresh back l
           ∙ (ap (λ ws. other_ways t ws) (ap (λ (z : View). z.ways) told.1 ∙ l.path) ∙ back));
       gone = turned_gone k.why v.grip.holds v.gone w.gone e t (ap (λ (y : Kept). y.why) is) half fresh
           (ap (λ (z : View). z.gone) leave ∙ ap (λ list. t ∷ list) (ap (λ (z : View). z.gone) told.1 ∙ l.gone));
+      swung = ap (λ (z : View). z.swung) leave ∙ (ap (λ (z : View). z.swung) told.1 ∙ l.swung);
       others = λ word apart.
           ap (λ (z : View). read_of z.reads word) leave
           ∙ (ap (λ (z : View). read_of z.reads word) told.1 ∙ l.others word apart);
@@ -602,7 +615,7 @@ seen_last at n why was holds ways v u l = (l.step, l.last)
 
 -- the pointer stands where it stood
 pub pointer_in : (x : At) (sp : Span) (at : ℕ) (v w : View) → GoesIn v w
-    → ((z : Way) → Contains v.ways z → Contains w.ways z) → IsPointerAt v x sp at → IsPointerAt w x sp at
+    → ((z : Way) → Contains v.ways z → Contains w.ways z) → IsArrayPointerAt v x sp at → IsArrayPointerAt w x sp at
 pointer_in (Root r) sp at v w h ways place =
     let same : w.layout ≡ v.layout = ap (λ (z : View). z.layout) h.went in
     subst (λ (l : Layout). (r < length l.decls) × (sp ≡ root_span l.decls r) × (at ≡ root_at r)) (sym same) place
@@ -634,13 +647,10 @@ can_renew_it height x sp at page n t was holds v u can l half some =
     let low = part.0 in
     let is = part.1 in record {
       keeper = role_of at n was holds (record { slot = t; span = sp } ∷ v.ways) v u l can.bare;
-      place = pointer_in x sp at v u l.over (λ z has.
-          subst (λ ws. Contains ws z) (sym l.path) (in_tail z (record { slot = t; span = sp }) v.ways has)) can.place;
+      place = any_pointer u x sp at (pointer_in x sp at v u l.over (λ z has.
+          subst (λ ws. Contains ws z) (sym l.path) (in_tail z (record { slot = t; span = sp }) v.ways has)) can.place);
       free = low;
       leads = omega (arith, is);
-      array = ap (λ (z : View). is_array z.layout.decls sp.storage) (l.over).went ∙ can.array;
-      height = height;
-      exact = can.exact;
       some = some;
       lead = lead_in sp page v u l.over (can.lead some);
     }

@@ -22,15 +22,17 @@ use Rattle.engine_rule.proofs.ReadLists.{in_flat}
 use Rattle.engine_pages.specs.declared.layout.Layout.{Layout}
 use Rattle.engine_pages.specs.declared.view.KeptPage.{KeptPage}
 use Rattle.engine_pages.specs.declared.view.KeptWhy.{KeptWhy}
+use Rattle.engine_pages.specs.declared.view.Head.{Head}
 use Rattle.engine_pages.specs.declared.view.Read.{Read}
 use Rattle.engine_pages.specs.declared.view.Shut.{Shut}
+use Rattle.engine_pages.specs.declared.view.Swung.{Swung}
 use Rattle.engine_pages.specs.declared.view.Took.{Took}
 use Rattle.engine_pages.specs.declared.view.View.{View}
 use Rattle.engine_pages.specs.declared.view.Way.{Way}
 use Rattle.engine_pages.specs.Layout.{page_at, words_of}
 use Rattle.engine_pages.specs.Pages.{is_array, root_span}
-use Rattle.engine_pages.specs.Pointers.{IsPointerAt}
-use Rattle.engine_pages.specs.Slots.{left, other_copies}
+use Rattle.engine_pages.specs.Pointers.{IsArrayPointerAt}
+use Rattle.engine_pages.specs.Slots.{left, other_copies, other_heads, other_inners, other_leaves}
 use Rattle.engine_pages.specs.Steps.{seen_at}
 use Rattle.engine_pages.specs.Views.{IsActive}
 use Rattle.engine_pages.proofs.Named.{page_longer}
@@ -42,7 +44,7 @@ use Rattle.page_drops.specs.Calls.{HasRoom, IsElsewhere, IsNode, IsNoteOf, IsWay
 use Rattle.page_drops.specs.Inner.{AreLaterNotes, AreShutNotes, AtInner, CanDropInner, HasDroppedInner, IsInnerCause, IsInnerCauseBelow}
 use Rattle.page_drops.specs.Inner.{KeepsInnerBelow}
 use Rattle.page_drops.specs.Visits.{Met, HasCause, IsInnerTree, IsNotedSo, IsNotedUnder, WasSeenSo}
-use Rattle.page_drops.specs.Visits.{dropped_here, dropped_of, note_here, notes_of, slots_of, sum_met}
+use Rattle.page_drops.specs.Visits.{dropped_here, dropped_of, note_here, notes_of, slots_of, sum_met, swing_here, swings_of}
 use Rattle.page_drops.specs.Works.{read_of, IsOutside, KeepsReadsBut, TellsAbove}
 use Rattle.page_drops.proofs.Counts.{counted_then, sum_few}
 use Rattle.page_drops.proofs.Entries.{seen_of}
@@ -76,8 +78,8 @@ inner_worked t page at before k u b bare keeps =
     }
 
 -- a view behind the drop of the page
-abbrev as_dropped : ℕ → View → View → View
-as_dropped t u b = record u {
+abbrev as_dropped : ℕ → ℕ → View → View → View
+as_dropped t at u b = record u {
   steps = b.steps;
   last = b.last;
   reads = b.reads;
@@ -88,19 +90,25 @@ as_dropped t u b = record u {
   grip = record u.grip { made = without u.grip.made t; taken = without (t ∷ u.grip.taken) t };
   copies = other_copies t u.copies;
   blanks = without u.blanks t;
+  new_leaves = other_leaves t u.new_leaves;
+  new_inners = other_inners t u.new_inners;
+  heads = other_heads t u.heads;
   shuts = [];
+  swung = u.swung ++ record { word = at; slot = t } ∷ [];
 }
 
 pub inner_dropped_worked : (t page at : ℕ) (u b : View) → IsBare u → HasDroppedInner t at page u b → HasWorked u b
 inner_dropped_worked t page at u b bare drops =
-    let z : View = as_dropped t u b in
+    let z : View = as_dropped t at u b in
     subst (λ (y : View). HasWorked u y) (sym drops.is) record {
       over = record {
         went = ap (λ (ls : List Key). let s : Seat = record u.seat { locks = ls } in let y : View = record (as_held u z) { seat = s } in y)
             (sym bare.locks)
             ∙ (ap (λ (ts : List Took). let y : View = record (as_held u z) { seat = u.seat; took = ts } in y) (sym bare.took)
-            ∙ ap (λ (ss : List Shut). let y : View = record (as_held u z) { seat = u.seat; took = u.took; shuts = ss } in y)
-            (sym bare.shuts));
+            ∙ (ap (λ (ss : List Shut). let y : View = record (as_held u z) { seat = u.seat; took = u.took; shuts = ss } in y)
+            (sym bare.shuts)
+            ∙ ap (λ (hs : List Head). let y : View = record (as_held u z) { seat = u.seat; took = u.took; shuts = u.shuts; heads = hs } in y)
+            (ap (λ (list : List Head). other_heads t list) bare.heads ∙ sym bare.heads)));
         later = drops.later;
         front = front_refl u.pages;
         leads = drops.leads;
@@ -192,7 +200,7 @@ inner_over t page sp a u over h =
 
 -- the pointer stands where it stood
 pointer_on : (v u : View) (x : At) (sp : Span) (at : ℕ) → u.layout ≡ v.layout → ((z : Way) → Contains v.ways z → Contains u.ways z)
-    → IsPointerAt v x sp at → IsPointerAt u x sp at
+    → IsArrayPointerAt v x sp at → IsArrayPointerAt u x sp at
 pointer_on v u (Root r) sp at layout ways is = (
   subst (λ (l : Layout). r < length l.decls) (sym layout) is.0,
   is.1 ∙ ap (λ (l : Layout). root_span l.decls r) (sym layout),
@@ -212,11 +220,11 @@ pointer_on v u (In y) sp at layout ways is = record {
 -- ---- room in the counts
 
 -- for the page itself, behind what is below it
-pub room_after : (B : Type 0) (f : Met B → ℕ) (g : Met B → List KeptPage) (h : Met B → List ℕ)
+pub room_after : (B : Type 0) (f : Met B → ℕ) (g : Met B → List KeptPage) (h : Met B → List ℕ) (q : Met B → List Swung)
     (stands : View → Met B → Type 0) (k t page : ℕ) (sp : Span) (old mid : Dropped) (v u : View)
     → ((w : View) (m : Met B) → stands w m → f m + length (g m) ≤ k) → HasRoom (k * 64 + 1) old
-    → HasVisitedBelow (Met B) f g h (IsNode B stands) t sp page 64 old v mid u → HasRoom 1 mid
-room_after B f g h stands k t page sp old mid v u small room so =
+    → HasVisitedBelow (Met B) f g h q (IsNode B stands) t sp page 64 old v mid u → HasRoom 1 mid
+room_after B f g h q stands k t page sp old mid v u small room so =
     let all = sum_few f g k so.met (λ i m at. small u m (so.each i m at).tree) in
     let some : k * length so.met ≡ k * 64 = ap (λ i. k * i) so.long in
     let dropped = (so.counts).dropped in
@@ -247,11 +255,11 @@ stays_or_turns slots t at before word seen words why cause = elim cause [
   | inr turn ↦ inr turn
 ]
 
-module _ (C : Type 0) (f : Met C → ℕ) (g : Met C → List KeptPage) (h : Met C → List ℕ) (tree : View → Met C → Type 0)
-    (stays : (v w : View) (c : Met C) → StaysFor (h c) v w → tree v c → tree w c) (height : ℕ) (x : At) (sp : Span)
+module _ (C : Type 0) (f : Met C → ℕ) (g : Met C → List KeptPage) (h : Met C → List ℕ) (q : Met C → List Swung)
+    (tree : View → Met C → Type 0) (stays : (v w : View) (c : Met C) → StaysFor (h c) v w → tree v c → tree w c) (height : ℕ) (x : At) (sp : Span)
     (at page : ℕ) (held : Held) (old mid : Dropped) (v a u : View) (can : CanVisit (suc height) x sp at page v)
     (inside : HasIn sp at page held v a)
-    (below : HasVisitedBelow (Met C) f g h (IsNode C tree) held.slot sp page 64 old a mid u) where
+    (below : HasVisitedBelow (Met C) f g h q (IsNode C tree) held.slot sp page 64 old a mid u) where
   abbrev t : ℕ
   t = held.slot
 
@@ -320,8 +328,8 @@ module _ (C : Type 0) (f : Met C → ℕ) (g : Met C → List KeptPage) (h : Met
 
   module _ (new : Dropped) (b d : View) (reads : KeepsReadsBut held.slot at u b) (leave : d ≡ left held.slot b) where
     abbrev Told : Type 0
-    Told = HasVisited (Met (Met C)) (dropped_of f) (notes_of g) (slots_of h) (IsNode (Met C) (IsInnerTree C tree) sp page at)
-        at old v new d
+    Told = HasVisited (Met (Met C)) (dropped_of f) (notes_of g) (slots_of h) (swings_of q)
+        (IsNode (Met C) (IsInnerTree C tree) sp page at) at old v new d
 
     abbrev flat : List ℕ
     flat = flat_map h nodes
@@ -392,12 +400,22 @@ module _ (C : Type 0) (f : Met C → ℕ) (g : Met C → List KeptPage) (h : Met
         ∙ (ap (λ (l : List KeptPage). l ++ note_here kept) (below.kept ∙ ap (λ (l : List KeptPage). l ++ flat_map g nodes) inside.kept)
         ∙ append_assoc v.kept (flat_map g nodes) (note_here kept)))
 
+    all_swung : (kept : Option KeptPage) → b.swung ≡ u.swung ++ swing_here at (Some t) kept
+        → d.swung ≡ v.swung ++ (flat_map q nodes ++ swing_here at (Some t) kept)
+    all_swung kept swings =
+        ap (λ (z : View). z.swung) leave
+        ∙ (swings
+        ∙ (ap (λ (l : List Swung). l ++ swing_here at (Some t) kept)
+        (below.swung ∙ ap (λ (l : List Swung). l ++ flat_map q nodes) inside.swung)
+        ∙ append_assoc v.swung (flat_map q nodes) (swing_here at (Some t) kept)))
+
     -- with a worked page, its note if it is kept, and why
     left_so : (kept : Option KeptPage) → HasWorked u b → b.kept ≡ u.kept ++ note_here kept → IsNotedSo d (inner_met kept)
         → HasCause IsInnerCause d (inner_met kept)
         → ((j : ℕ) (c : Met C) → slice_get nodes j ≡ Some c → IsNotedUnder kept d c)
-        → HasCounted mid (dropped_here (Some t) kept) (note_here kept) new → Told
-    left_so kept worked notes noted cause under counts =
+        → HasCounted mid (dropped_here (Some t) kept) (note_here kept) new
+        → b.swung ≡ u.swung ++ swing_here at (Some t) kept → Told
+    left_so kept worked notes noted cause under counts swings =
         let long = front_length u.pages d.pages (front_left worked) in record {
           met = inner_met kept;
           tree = record {
@@ -428,6 +446,7 @@ module _ (C : Type 0) (f : Met C → ℕ) (g : Met C → List KeptPage) (h : Met
           over = out_of sp at page held v a u b d can.bare inside below.over worked leave;
           kept = all_kept kept notes;
           gone = all_gone worked;
+          swung = all_swung kept swings;
           fresh = λ y has. elim (in_push_cases y t flat has) [
             | inl more ↦ fresh_below y more
             | inr own ↦ subst (λ z. has_slot v.grip.holds z ≡ false) own inside.fresh
@@ -511,7 +530,7 @@ module _ (C : Type 0) (f : Met C → ℕ) (g : Met C → List KeptPage) (h : Met
           sight = (drops.led).2;
           before = (held.word, (drops.led).3 ∙ can_drop.met, inside.led);
         }
-        (λ k is. absurd (cc)) (under_dropped notes) counts
+        (λ k is. absurd (cc)) (under_dropped notes) counts (ap (λ (z : View). z.swung) drops.is)
 
     inner_kept : (k : Kept) → KeepsInnerBelow t page at held.word k u b → TellsAbove k.why at k.seen u b
         → AreLaterNotes t page k u b → CountsKept mid k new → Told
@@ -529,6 +548,7 @@ module _ (C : Type 0) (f : Met C → ℕ) (g : Met C → List KeptPage) (h : Met
         cause_left IsInnerCause u.layout.slots d.layout.slots t at held.word (page_words u.pages page) (page_words d.pages page) k note
         other (ap (λ (l : Layout). l.slots) (sym (layout_left worked))) (sym (words_left worked)) told inside.led cause is)
         (under_kept k note told later) (counts note told)
+        (ap (λ (z : View). z.swung) (keeps.went).shut ∙ sym (append-nil u.swung))
 
     -- by what the call answers
     pub inner_turned : (r : Result (Unit {0}) Kept) → OnOk r (HasDroppedInner t at page u b) → OnOk r (AreShutNotes t page 64 u b)

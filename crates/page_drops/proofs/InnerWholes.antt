@@ -11,7 +11,7 @@ use Rattle.drop_core.specs.Table.{at_index}
 use Rattle.engine_pages.specs.declared.view.KeptPage.{KeptPage}
 use Rattle.engine_pages.specs.declared.view.KeptWhy.TheVariants.{Changed}
 use Rattle.engine_pages.specs.declared.view.View.{View}
-use Rattle.engine_pages.specs.Pointers.{IsPointerAt}
+use Rattle.engine_pages.specs.Pointers.{IsArrayPointerAt, any_pointer}
 use Rattle.engine_pages.proofs.Seats.{by_equal}
 use Rattle.pointer_swings.specs.Shuts.{shut_of}
 use Rattle.pointer_swings.specs.Swings.{CanSwing}
@@ -108,10 +108,10 @@ next_few words n few now j less =
 
 -- ---- the swing
 
-pub pointer_went : (v w : View) (x : At) (sp : Span) (at : ℕ) → WentOn v w → IsPointerAt v x sp at → IsPointerAt w x sp at
-pointer_went v w (Root r) sp at went is = subst (λ (z : View). IsPointerAt z (Root r) sp at) (sym went.shut) is
+pub pointer_went : (v w : View) (x : At) (sp : Span) (at : ℕ) → WentOn v w → IsArrayPointerAt v x sp at → IsArrayPointerAt w x sp at
+pointer_went v w (Root r) sp at went is = subst (λ (z : View). IsArrayPointerAt z (Root r) sp at) (sym went.shut) is
 pointer_went v w (In y) sp at went is =
-    subst (λ (z : View). IsPointerAt z (In y) sp at) (sym went.shut) record {
+    subst (λ (z : View). IsArrayPointerAt z (In y) sp at) (sym went.shut) record {
       way = is.way;
       has = is.has;
       slot = is.slot;
@@ -128,7 +128,7 @@ can_swing_inner x sp at t page word v u can turned row few =
     let inner = inner_went t page sp v u turned.went can.inner in
     let pages = words_went page v u turned.went in record {
       keeper = inner.keeper;
-      place = pointer_went v u x sp at turned.went can.place;
+      place = any_pointer u x sp at (pointer_went v u x sp at turned.went can.place);
       leads = can.leads;
       array = inner.array;
       height = inner.height;

@@ -14,7 +14,7 @@ use Rattle.engine_pages.specs.declared.view.Lead.{Lead}
 use Rattle.engine_pages.specs.declared.view.View.{View}
 use Rattle.engine_pages.specs.Layout.{page_at}
 use Rattle.engine_pages.specs.Pages.{child_span, is_array}
-use Rattle.engine_pages.specs.Pointers.{IsPointerAt}
+use Rattle.engine_pages.specs.Pointers.{IsArrayPointerAt, any_pointer}
 use Rattle.engine_pages.specs.Steps.{glance, read_at}
 use Rattle.pointer_swings.specs.Children.{CanDescend, HasDescended}
 use Rattle.pointer_swings.specs.Shuts.{CanReopen, CanShut, HasShut, reopened, shut_at, shut_elsewhere, shut_of}
@@ -123,7 +123,7 @@ child_then sp page j n v w most h =
 
 -- the pointer of a page that the pass holds
 pub pointer_there : (t page j at : ℕ) (sp : Span) (v : View) → AtInner t sp page v → j < 64 → at ≡ page_at v.layout.slots t j
-    → IsPointerAt v (at_index t j) (child_span sp j) at
+    → IsArrayPointerAt v (at_index t j) (child_span sp j) at
 pointer_there t page j at sp v h few word = record {
   way = record { slot = t; span = sp };
   has = h.way;
@@ -138,7 +138,11 @@ pointer_there t page j at sp v h few word = record {
 pub can_shut : (t page j at n : ℕ) (sp : Span) (v : View) → AtInner t sp page v → j < 64 → at ≡ page_at v.layout.slots t j
     → n ≤ 65536 → CanShut v (at_index t j) (child_span sp j) at n
 can_shut t page j at n sp v h few word small =
-    record { keeper = h.keeper; place = pointer_there t page j at sp v h few word; free = omega (arith, small) }
+    record {
+      keeper = h.keeper;
+      place = any_pointer v (at_index t j) (child_span sp j) at (pointer_there t page j at sp v h few word);
+      free = omega (arith, small);
+    }
 
 -- it was shut
 pub shut_now : (x : At) (at n found : ℕ) (u w : View) → found ≡ n → HasShut x at n u found w → w ≡ shut_at x at found u
@@ -232,7 +236,7 @@ pub can_reopen : (t page j at n : ℕ) (sp : Span) (v : View) → AtInner t sp p
     → CanReopen v (at_index t j) (child_span sp j) at n
 can_reopen t page j at n sp v h few word row is = record {
   keeper = h.keeper;
-  place = pointer_there t page j at sp v h few word;
+  place = any_pointer v (at_index t j) (child_span sp j) at (pointer_there t page j at sp v h few word);
   shut =
       subst (λ k. Contains v.shuts (shut_of (at_index t j) k)) (sym is)
       (subst (λ list. Contains list (shut_of (at_index t j) (get_or (page_words v.pages page) j 0))) (sym row)

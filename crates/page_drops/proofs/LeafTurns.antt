@@ -16,13 +16,15 @@ use Rattle.drop_core.specs.Table.{has_slot}
 use Rattle.engine_pages.specs.declared.view.KeptPage.{KeptPage}
 use Rattle.engine_pages.specs.declared.view.KeptWhy.{KeptWhy}
 use Rattle.engine_pages.specs.declared.view.KeptWhy.TheVariants.{Changed}
+use Rattle.engine_pages.specs.declared.view.Head.{Head}
 use Rattle.engine_pages.specs.declared.view.Read.{Read}
+use Rattle.engine_pages.specs.declared.view.Swung.{Swung}
 use Rattle.engine_pages.specs.declared.view.View.{View}
 use Rattle.engine_pages.specs.declared.view.Way.{Way}
 use Rattle.engine_pages.specs.Layout.{page_at, words_of}
 use Rattle.engine_pages.specs.Pages.{is_array}
 use Rattle.engine_pages.specs.Pointers.{half_of, page_half}
-use Rattle.engine_pages.specs.Slots.{left, other_copies, other_shuts}
+use Rattle.engine_pages.specs.Slots.{left, other_copies, other_heads, other_inners, other_leaves, other_shuts}
 use Rattle.engine_pages.specs.Steps.{seen_at}
 use Rattle.engine_pages.proofs.Named.{page_longer}
 use Rattle.pointer_swings.specs.Children.{let_go}
@@ -34,7 +36,7 @@ use Rattle.page_drops.specs.Calls.{IsNode, IsNoteOf}
 use Rattle.page_drops.specs.Leaves.{CanDrop, HasDropped}
 use Rattle.page_drops.specs.Visits.{Met, MetLeaf, HasCause, IsCauseOf, IsKeptSight, IsLeafTree, IsNotedSo, IsSightBefore}
 use Rattle.page_drops.specs.Visits.{IsMetBefore, IsSight}
-use Rattle.page_drops.specs.Visits.{dropped_here, dropped_of, note_here, notes_of, slots_of}
+use Rattle.page_drops.specs.Visits.{dropped_here, dropped_of, note_here, notes_of, slots_of, swing_here, swings_of}
 use Rattle.page_drops.specs.Works.{IsCauseBelow, IsLeafCause, KeepsBelow, KeepsIt, KeepsReadsBut, SawMore, TellsAbove}
 use Rattle.page_drops.specs.Works.{read_of, IsSeenStill}
 use Rattle.page_drops.proofs.Goings.{over_self}
@@ -76,8 +78,8 @@ worked_kept cause k n a b c bare keeps more go =
     }
 
 -- a view behind the drop of a leaf
-abbrev as_dropped : ℕ → View → View → View
-as_dropped t a b = record a {
+abbrev as_dropped : ℕ → ℕ → View → View → View
+as_dropped t at a b = record a {
   steps = b.steps;
   last = b.last;
   reads = b.reads;
@@ -90,7 +92,11 @@ as_dropped t a b = record a {
   grip = record a.grip { made = without a.grip.made t; taken = without (t ∷ a.grip.taken) t };
   copies = other_copies t a.copies;
   blanks = without a.blanks t;
+  new_leaves = other_leaves t a.new_leaves;
+  new_inners = other_inners t a.new_inners;
+  heads = other_heads t a.heads;
   shuts = other_shuts t a.shuts;
+  swung = a.swung ++ record { word = at; slot = t } ∷ [];
 }
 
 -- the slot was given up, which the pass hadn't made
@@ -106,7 +112,7 @@ grip_back t a bare =
 pub worked_dropped : (t at page n : ℕ) (a b c : View) → IsBare a → HasDropped t at page a b → SawMore a b → c ≡ let_go n b
     → HasWorked a c
 worked_dropped t at page n a b c bare drops more go =
-    let z : View = let_go n (as_dropped t a b) in
+    let z : View = let_go n (as_dropped t at a b) in
     let is : c ≡ z = go ∙ ap (let_go n) drops.is in
     let later = drops.later in
     let seat : z.seat ≡ a.seat =
@@ -117,12 +123,14 @@ worked_dropped t at page n a b c bare drops more go =
       over = record {
         went = ap (λ (s : Seat). let y : View = record (as_held a z) { seat = s } in y) seat
             ∙ (ap (λ ts. let y : View = record (as_held a z) { seat = a.seat; took = ts } in y) (sym bare.took)
-            ∙ ap (λ ss. let y : View = record (as_held a z) { seat = a.seat; took = a.took; shuts = ss } in y)
-            (none ∙ sym bare.shuts));
+            ∙ (ap (λ ss. let y : View = record (as_held a z) { seat = a.seat; took = a.took; shuts = ss } in y)
+            (none ∙ sym bare.shuts)
+            ∙ ap (λ (hs : List Head). let y : View = record (as_held a z) { seat = a.seat; took = a.took; shuts = a.shuts; heads = hs } in y)
+            (ap (λ (list : List Head). other_heads t list) bare.heads ∙ sym bare.heads)));
         later = omega (arith, later);
         front = front_refl a.pages;
         leads = λ y has. has;
-        more = more_gone a (as_dropped t a b) n record { drawn = more.drawn; decided = more.decided; touched = more.touched };
+        more = more_gone a (as_dropped t at a b) n record { drawn = more.drawn; decided = more.decided; touched = more.touched };
       };
       grip = grip_back t a bare;
       ways = refl;
@@ -229,8 +237,8 @@ module _ (x : At) (sp : Span) (at page n : ℕ) (held : Held) (old new : Dropped
     (can : CanVisit 0 x sp at page v) (inside : HasIn sp at page held v a) (more : SawMore a b)
     (reads : KeepsReadsBut held.slot at a b) (go : c ≡ let_go n b) (leave : d ≡ left held.slot c) where
   abbrev Told : Type 0
-  Told = HasVisited (Met ⊤) (dropped_of (λ y. 0)) (notes_of (λ y. [])) (slots_of (λ y. [])) (IsNode ⊤ IsLeafTree sp page at)
-      at old v new d
+  Told = HasVisited (Met ⊤) (dropped_of (λ y. 0)) (notes_of (λ y. [])) (slots_of (λ y. [])) (swings_of (λ y. []))
+      (IsNode ⊤ IsLeafTree sp page at) at old v new d
 
   abbrev leaf_met : Option KeptPage → MetLeaf
   leaf_met kept = record { at = at; span = sp; page = page; slot = Some held.slot; below = []; kept = kept }
@@ -251,8 +259,9 @@ module _ (x : At) (sp : Span) (at page n : ℕ) (held : Held) (old new : Dropped
   left_so : (kept : Option KeptPage) → HasWorked a c → c.kept ≡ v.kept ++ note_here kept → IsNotedSo d (leaf_met kept)
       → (GoesOver v d → HasCause IsLeafCause d (leaf_met kept))
       → ((k : KeptPage) → kept ≡ Some k → seen_at d.reads k.word ≡ Some k.seen)
-      → HasCounted old (0 + dropped_here (Some held.slot) kept) (note_here kept) new → Told
-  left_so kept worked notes noted cause seen counts =
+      → HasCounted old (0 + dropped_here (Some held.slot) kept) (note_here kept) new
+      → c.swung ≡ v.swung ++ swing_here at (Some held.slot) kept → Told
+  left_so kept worked notes noted cause seen counts swings =
       let over = out_of sp at page held v a a c d can.bare inside (over_self a) worked leave in record {
         met = leaf_met kept;
         tree = record {
@@ -270,6 +279,7 @@ module _ (x : At) (sp : Span) (at page n : ℕ) (held : Held) (old new : Dropped
         over = over;
         kept = ap (λ (z : View). z.kept) leave ∙ notes;
         gone = ap (λ (z : View). z.gone) leave ∙ ap (λ list. held.slot ∷ list) (worked.gone ∙ inside.gone);
+        swung = ap (λ (z : View). z.swung) leave ∙ swings;
         fresh = λ u has. elim (in_cases u held.slot [] has) [
           | inl one ↦ subst (λ y. has_slot v.grip.holds y ≡ false) one inside.fresh
           | inr none ↦ absurd (in_none u none)
@@ -294,6 +304,9 @@ module _ (x : At) (sp : Span) (at page n : ℕ) (held : Held) (old new : Dropped
         );
       }
       (λ over k is. absurd (cc)) (λ k is. absurd (cc)) counts
+      (ap (λ (z : View). z.swung) go
+      ∙ (ap (λ (z : View). z.swung) drops.is
+      ∙ ap (λ (l : List Swung). l ++ swing_here at (Some held.slot) None) inside.swung))
 
   pub leaf_kept : (k : Kept) → KeepsBelow held.slot page at held.word k a b → TellsAbove k.why at k.seen a b → IsSeenStill k b
       → CountsKept old k new → Told
@@ -320,6 +333,8 @@ module _ (x : At) (sp : Span) (at page n : ℕ) (held : Held) (old new : Dropped
       (subst (λ (p : KeptPage). seen_at d.reads p.word ≡ Some p.seen) (sym told)
       (seen_same b.reads d.reads k.word (same_reads k.word) ∙ still)))
       (counts note told)
+      (ap (λ (z : View). z.swung) go
+      ∙ (ap (λ (z : View). z.swung) keeps.worked ∙ (inside.swung ∙ sym (append-nil v.swung))))
     where
       slots_as : GoesOver v d → a.layout.slots ≡ d.layout.slots
       slots_as over =

@@ -28,7 +28,7 @@ notes laws l slots id me page keeper =
     let v = me.0 in
     let w = noted page (get_or words 0 0) v in
     look_stride l words views s id v active b 0 (λ n. n) w (λ v n w. w ≡ noted page n v) refl
-    record { layout = refl; role = refl; made = refl; past = refl; parked = refl; epoch = refl; mine = refl; draws = refl; due = refl; seat = refl; checked = refl; took = refl; loaded = refl; met = refl; heard = refl; history = refl; decided = refl }
+    record { layout = refl; role = refl; made = refl; past = refl; parked = refl; epoch = refl; mine = refl; draws = refl; due = refl; seat = refl; checked = refl; took = refl; loaded = refl; met = refl; heard = refl; history = refl; decided = refl; versions = refl }
     refl
     record {
       within = b.pages.within;
@@ -42,6 +42,10 @@ notes laws l slots id me page keeper =
       known = b.pages.treed.known;
       heads = b.pages.treed.heads (seat_number v.role) (is_at v.role active);
       moved = b.pages.treed.moved;
+      sealed = b.pages.treed.sealed (seat_number v.role) (is_at v.role active);
+      inners = b.pages.treed.inners;
+      new_leaves = b.pages.treed.new_leaves;
+      new_inners = b.pages.treed.new_inners;
       shuts = b.pages.shuts (seat_number v.role) (is_at v.role active);
     }
     (rests_all l words views s id v b w

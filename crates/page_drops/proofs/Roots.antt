@@ -29,6 +29,7 @@ use Rattle.page_drops.specs.Calls.{CanGoOver, CanVisit, HasVisited, IsLeafNode, 
 use Rattle.page_drops.specs.Visits.{MetLeaf, MetMiddle, MetRoot, MetTop, OneHeight, TwoHeights, ThreeHeights, LeftAlone}
 use Rattle.page_drops.specs.Visits.{IsHigh, dropped_leaf, dropped_middle, dropped_root, dropped_top, notes_leaf}
 use Rattle.page_drops.specs.Visits.{notes_middle, notes_root, notes_top, slots_leaf, slots_middle, slots_root, slots_top}
+use Rattle.page_drops.specs.Visits.{swings_leaf, swings_middle, swings_root, swings_top}
 use Rattle.page_drops.proofs.Counts.{counted_none}
 use Rattle.page_drops.proofs.Goings.{over_self}
 
@@ -158,13 +159,14 @@ can_visit height r page id count sp v can less same span array exact few =
 -- a tree is left alone
 pub left_alone : (r page id : ℕ) (before : Dropped) (v : View) → AreDecls v.layout.decls
     → slice_get v.layout.decls r ≡ Some (Tree id)
-    → HasVisited MetRoot dropped_root notes_root slots_root (IsRootTreeOf page r) (root_at r) before v before v
+    → HasVisited MetRoot dropped_root notes_root slots_root swings_root (IsRootTreeOf page r) (root_at r) before v before v
 left_alone r page id before v are at = record {
   met = LeftAlone;
   tree = λ roots is. tree_apart v.layout.decls r id are at;
   over = over_self v;
   kept = sym (append-nil v.kept);
   gone = refl;
+  swung = sym (append-nil v.swung);
   fresh = λ t has. absurd (in_none t has);
   counts = counted_none before;
   others = λ word other away. refl;
@@ -188,9 +190,9 @@ index_within l v r same less = subst (λ (y : Layout). r < length y.decls) (sym 
 
 module _ (r page id : ℕ) (sp : Span) (before after : Dropped) (v w : View) where
   pub one_height : sp ≡ first_keys id 32 → root_span v.layout.decls r ≡ first_keys id 32
-      → HasVisited MetLeaf dropped_leaf notes_leaf slots_leaf (IsLeafNode sp page (10 + r)) (10 + r)
+      → HasVisited MetLeaf dropped_leaf notes_leaf slots_leaf swings_leaf (IsLeafNode sp page (10 + r)) (10 + r)
       before v after w
-      → HasVisited MetRoot dropped_root notes_root slots_root (IsRootTreeOf page r) (root_at r) before v after w
+      → HasVisited MetRoot dropped_root notes_root slots_root swings_root (IsRootTreeOf page r) (root_at r) before v after w
   one_height same span h =
       let layout : w.layout ≡ v.layout = ap (λ (x : View). x.layout) h.over.went in
       record {
@@ -208,15 +210,16 @@ module _ (r page id : ℕ) (sp : Span) (before after : Dropped) (v w : View) whe
         over = h.over;
         kept = h.kept;
         gone = h.gone;
+        swung = h.swung;
         fresh = h.fresh;
         counts = h.counts;
         others = h.others;
       }
 
   pub two_heights : sp ≡ first_keys id 2048 → root_span v.layout.decls r ≡ first_keys id 2048
-      → HasVisited MetMiddle dropped_middle notes_middle slots_middle (IsMiddleNode sp page (10 + r))
+      → HasVisited MetMiddle dropped_middle notes_middle slots_middle swings_middle (IsMiddleNode sp page (10 + r))
       (10 + r) before v after w
-      → HasVisited MetRoot dropped_root notes_root slots_root (IsRootTreeOf page r) (root_at r) before v after w
+      → HasVisited MetRoot dropped_root notes_root slots_root swings_root (IsRootTreeOf page r) (root_at r) before v after w
   two_heights same span h =
       let layout : w.layout ≡ v.layout = ap (λ (x : View). x.layout) h.over.went in
       record {
@@ -234,15 +237,16 @@ module _ (r page id : ℕ) (sp : Span) (before after : Dropped) (v w : View) whe
         over = h.over;
         kept = h.kept;
         gone = h.gone;
+        swung = h.swung;
         fresh = h.fresh;
         counts = h.counts;
         others = h.others;
       }
 
   pub three_heights : sp ≡ first_keys id 131072 → root_span v.layout.decls r ≡ first_keys id 131072
-      → HasVisited MetTop dropped_top notes_top slots_top (IsTopNode sp page (10 + r)) (10 + r)
+      → HasVisited MetTop dropped_top notes_top slots_top swings_top (IsTopNode sp page (10 + r)) (10 + r)
       before v after w
-      → HasVisited MetRoot dropped_root notes_root slots_root (IsRootTreeOf page r) (root_at r) before v after w
+      → HasVisited MetRoot dropped_root notes_root slots_root swings_root (IsRootTreeOf page r) (root_at r) before v after w
   three_heights same span h =
       let layout : w.layout ≡ v.layout = ap (λ (x : View). x.layout) h.over.went in
       record {
@@ -260,6 +264,7 @@ module _ (r page id : ℕ) (sp : Span) (before after : Dropped) (v w : View) whe
         over = h.over;
         kept = h.kept;
         gone = h.gone;
+        swung = h.swung;
         fresh = h.fresh;
         counts = h.counts;
         others = h.others;

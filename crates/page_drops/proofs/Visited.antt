@@ -14,6 +14,7 @@ use Rattle.engine_pages.specs.declared.view.KeptPage.{KeptPage}
 use Rattle.engine_pages.specs.declared.view.KeptWhy.{KeptWhy}
 use Rattle.engine_pages.specs.declared.view.KeptWhy.TheVariants.{Locked, Unlike, Under, Changed, Long}
 use Rattle.engine_pages.specs.declared.view.Read.{Read}
+use Rattle.engine_pages.specs.declared.view.Swung.{Swung}
 use Rattle.engine_pages.specs.declared.view.View.{View}
 use Rattle.engine_pages.specs.Pointers.{half_of, page_half}
 use Rattle.engine_pages.specs.Slots.{left, other_ways}
@@ -25,7 +26,7 @@ use Rattle.page_drops.specs.Calls.{GoesIn, GoesOver, HasCounted, HasIn, HasNone,
 use Rattle.page_drops.specs.Calls.{IsGoneFor, IsNode, IsNoteOf, KeepsAbove, slots_on}
 use Rattle.page_drops.specs.Inner.{IsInnerCause}
 use Rattle.page_drops.specs.Visits.{Met, HasTurnedAway, IsCauseOf, IsInnerTree, IsKeptSight, IsLeafTree, LeadsSo}
-use Rattle.page_drops.specs.Visits.{IsSightBefore, dropped_of, notes_of, slots_of}
+use Rattle.page_drops.specs.Visits.{IsSightBefore, dropped_of, notes_of, slots_of, swings_of}
 use Rattle.page_drops.specs.Works.{IsLeafCause, TellsAbove, read_of}
 use Rattle.page_drops.proofs.Counts.{counted_none}
 use Rattle.page_drops.proofs.Entries.{seen_of}
@@ -38,10 +39,10 @@ abbrev pub bare_node : (B : Type 0) → ℕ → Span → ℕ → Option ℕ → 
 bare_node B at sp page slot kept = record { at = at; span = sp; page = page; slot = slot; below = []; kept = kept }
 
 -- where it led to no slot
-pub visited_none : (B : Type 0) (f : B → ℕ) (g : B → List KeptPage) (h : B → List ℕ) (stands : View → Met B → Type 0)
-    (sp : Span) (page at : ℕ) (old : Dropped) (v w : View) → HasNone at v w → stands w (bare_node B at sp page None None)
-    → HasVisited (Met B) (dropped_of f) (notes_of g) (slots_of h) (IsNode B stands sp page at) at old v old w
-visited_none B f g h stands sp page at old v w none tree = record {
+pub visited_none : (B : Type 0) (f : B → ℕ) (g : B → List KeptPage) (h : B → List ℕ) (q : B → List Swung)
+    (stands : View → Met B → Type 0) (sp : Span) (page at : ℕ) (old : Dropped) (v w : View) → HasNone at v w → stands w (bare_node B at sp page None None)
+    → HasVisited (Met B) (dropped_of f) (notes_of g) (slots_of h) (swings_of q) (IsNode B stands sp page at) at old v old w
+visited_none B f g h q stands sp page at old v w none tree = record {
   met = bare_node B at sp page None None;
   tree = record {
     at = refl;
@@ -53,6 +54,7 @@ visited_none B f g h stands sp page at old v w none tree = record {
   over = none.over;
   kept = none.kept ∙ sym (append-nil v.kept);
   gone = none.gone;
+  swung = none.swung ∙ sym (append-nil v.swung);
   fresh = λ t has. absurd (in_none t has);
   counts = counted_none old;
   others = λ word other elsewhere. none.others word other;
@@ -73,11 +75,11 @@ BareTree B stands at sp page w =
 abbrev pub CountsKept : Dropped → Kept → Dropped → Type 0
 CountsKept old k new = (note : KeptPage) → IsNoteOf k note → HasCounted old 0 (note ∷ []) new
 
-module _ (B : Type 0) (f : B → ℕ) (g : B → List KeptPage) (h : B → List ℕ) (stands : View → Met B → Type 0) (sp : Span)
-    (page at : ℕ) (old new : Dropped) (k : Kept) (v w : View) (keeps : KeepsAbove at k v w) (counts : CountsKept old k new)
+module _ (B : Type 0) (f : B → ℕ) (g : B → List KeptPage) (h : B → List ℕ) (q : B → List Swung)
+    (stands : View → Met B → Type 0) (sp : Span) (page at : ℕ) (old new : Dropped) (k : Kept) (v w : View) (keeps : KeepsAbove at k v w) (counts : CountsKept old k new)
     (tree : BareTree B stands at sp page w) where
   abbrev Told : Type 0
-  Told = HasVisited (Met B) (dropped_of f) (notes_of g) (slots_of h) (IsNode B stands sp page at) at old v new w
+  Told = HasVisited (Met B) (dropped_of f) (notes_of g) (slots_of h) (swings_of q) (IsNode B stands sp page at) at old v new w
 
   abbrev note : KeptPage
   note = (keeps.kept).page
@@ -117,6 +119,7 @@ module _ (B : Type 0) (f : B → ℕ) (g : B → List KeptPage) (h : B → List 
         over = keeps.over;
         kept = (keeps.kept).is;
         gone = gone;
+        swung = keeps.swung ∙ sym (append-nil v.swung);
         fresh = λ t has. absurd (in_none t has);
         counts = counts note told;
         others = λ word other elsewhere. keeps.others word other;
@@ -150,6 +153,7 @@ module _ (B : Type 0) (f : B → ℕ) (g : B → List KeptPage) (h : B → List 
         over = keeps.over;
         kept = (keeps.kept).is;
         gone = gone;
+        swung = keeps.swung ∙ sym (append-nil v.swung);
         fresh = λ u has. elim (in_cases u t [] has) [
           | inl one ↦ subst (λ x. has_slot v.grip.holds x ≡ false) one fresh
           | inr none ↦ absurd (in_none u none)
@@ -269,6 +273,7 @@ bare_in sp at page held v a bare inside =
       locks = ap (λ (z : View). z.seat.locks) went ∙ bare.locks;
       took = ap (λ (z : View). z.took) went ∙ bare.took;
       parts = ap (λ (z : View). z.seat.kept) went ∙ bare.parts;
+      heads = ap (λ (z : View). z.heads) went ∙ bare.heads;
       shuts = ap (λ (z : View). z.shuts) went ∙ bare.shuts;
     }
 

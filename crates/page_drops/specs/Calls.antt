@@ -20,11 +20,12 @@ use Rattle.engine_pages.specs.declared.view.KeptWhy.TheVariants.{Locked, Unlike,
 use Rattle.engine_pages.specs.declared.view.Lead.{Lead}
 use Rattle.engine_pages.specs.declared.view.Read.{Read}
 use Rattle.engine_pages.specs.declared.view.Role.TheVariants.{Keeper}
+use Rattle.engine_pages.specs.declared.view.Swung.{Swung}
 use Rattle.engine_pages.specs.declared.view.View.{View}
 use Rattle.engine_pages.specs.declared.view.Way.{Way}
 use Rattle.engine_pages.specs.Layout.{clock_at, page_at, words_of}
 use Rattle.engine_pages.specs.Pages.{child_span, is_array, root_span}
-use Rattle.engine_pages.specs.Pointers.{IsPointerAt, half_of, page_half}
+use Rattle.engine_pages.specs.Pointers.{IsArrayPointerAt, half_of, page_half}
 use Rattle.engine_pages.specs.Steps.{glanced}
 use Rattle.drop_core.specs.Table.{has_slot}
 use Rattle.dual_pointer.specs.Copies.{IsLeadOf}
@@ -35,7 +36,7 @@ use Rattle.page_drops.specs.Inner.{AtInner}
 use Rattle.page_drops.specs.Visits.{Met, MetLeaf, MetMiddle, MetTop, MetRoot, LeftAlone, IsLeafTree, IsMiddleTree}
 use Rattle.page_drops.specs.Visits.{IsTopTree, IsRootTree}
 use Rattle.page_drops.specs.Visits.{IsNotedSo, IsSightBefore}
-use Rattle.page_drops.specs.Visits.{dropped_root, notes_root, slots_root, sum_met}
+use Rattle.page_drops.specs.Visits.{dropped_root, notes_root, slots_root, sum_met, swings_root}
 use Rattle.page_drops.specs.Works.{read_of, HasKept, IsOutside, SawMore}
 
 -- ---- between two pages
@@ -46,7 +47,7 @@ slots_on [] = []
 slots_on (way ∷ path) = way.slot ∷ slots_on path
 
 -- The pass holds the slots on its way down, knows what their pages are over, and has nothing else: no slot that it was
--- given or led something away from, no lock, no shut pointer, and no part of what it saw.
+-- given or led something away from, no lock of a record or a header, no shut pointer, and no part of what it saw.
 pub record IsBare (v : View) : Type 0 where
   pub keeper : v.role ≡ Keeper
   pub idle : v.seat.stage ≡ Idle
@@ -56,6 +57,7 @@ pub record IsBare (v : View) : Type 0 where
   pub locks : v.seat.locks ≡ []
   pub took : v.took ≡ []
   pub parts : v.seat.kept ≡ []
+  pub heads : v.heads ≡ []
   pub shuts : v.shuts ≡ []
 
 -- the way is into a page of an array, so many heights above the leaves
@@ -76,7 +78,7 @@ IsWayDown decls height (way ∷ path) = IsWayAt decls (suc height) way × IsWayD
 pub record CanVisit (height : ℕ) (x : At) (sp : Span) (at page : ℕ) (v : View) : Type 0 where
   pub bare : IsBare v
   pub down : IsWayDown v.layout.decls height v.ways
-  pub place : IsPointerAt v x sp at
+  pub place : IsArrayPointerAt v x sp at
   pub inside : at < words_of v.layout
   pub apart : (t : ℕ) → has_slot v.grip.holds t ≡ false → IsOutside v.layout.slots t at
   pub array : is_array v.layout.decls sp.storage ≡ true
@@ -97,10 +99,13 @@ WentOver v w = w ≡ record v {
   touched = w.touched;
   loaded = w.loaded;
   known = w.known;
-  heads = w.heads;
   moved = w.moved;
+  inners = w.inners;
+  swung = w.swung;
   copies = w.copies;
   blanks = w.blanks;
+  new_leaves = w.new_leaves;
+  new_inners = w.new_inners;
   pages = w.pages;
   leads = w.leads;
   gone = w.gone;
@@ -152,14 +157,17 @@ pub record HasCounted (old : Dropped) (count : ℕ) (notes : List KeptPage) (new
 abbrev pub HasRoom : ℕ → Dropped → Type 0
 HasRoom count tally = (tally.dropped + tally.kept) + count ≤ 2 ^ 31
 
--- A visit tells what it met. What was read of words elsewhere is as it was.
+-- A visit tells what it met, and the view has each pointer that was swung, with its slot. What was read of words
+-- elsewhere is as it was.
 pub record HasVisited (Node : Type 0) (dropped : Node → ℕ) (notes : Node → List KeptPage) (slots : Node → List ℕ)
-    (is : View → Node → Type 0) (at : ℕ) (old : Dropped) (v : View) (new : Dropped) (w : View) : Type 0 where
+    (swings : Node → List Swung) (is : View → Node → Type 0) (at : ℕ) (old : Dropped) (v : View) (new : Dropped)
+    (w : View) : Type 0 where
   pub met : Node
   pub tree : is w met
   pub over : GoesOver v w
   pub kept : w.kept ≡ v.kept ++ notes met
   pub gone : w.gone ≡ reverse (slots met) ++ v.gone
+  pub swung : w.swung ≡ v.swung ++ swings met
   pub fresh : (t : ℕ) → Contains (slots met) t → has_slot v.grip.holds t ≡ false
   pub counts : HasCounted old (dropped met) (notes met) new
   pub others : KeepsOtherReads (slots met) at v w
@@ -178,6 +186,7 @@ pub record HasIn (sp : Span) (at page : ℕ) (held : Held) (v w : View) : Type 0
   pub over : GoesIn v w
   pub kept : w.kept ≡ v.kept
   pub gone : w.gone ≡ v.gone
+  pub swung : w.swung ≡ v.swung
   pub others : KeepsAllBut at v w
 
 -- it found the pointer to lead to no slot
@@ -186,6 +195,7 @@ pub record HasNone (at : ℕ) (v w : View) : Type 0 where
   pub over : GoesOver v w
   pub kept : w.kept ≡ v.kept
   pub gone : w.gone ≡ v.gone
+  pub swung : w.swung ≡ v.swung
   pub others : KeepsAllBut at v w
 
 -- The pass found the pointer to lead to no slot; or it holds the slot where it leads, by a word which names the newest
@@ -217,6 +227,7 @@ pub record KeepsAbove (at : ℕ) (k : Kept) (v w : View) : Type 0 where
   pub read : (r : Read) × (read_of w.reads at ≡ Some r) × (r.seen ≡ k.seen) × IsSightBefore k.why r
   pub over : GoesOver v w
   pub gone : IsGoneFor k.why v.grip.holds v.gone w.gone
+  pub swung : w.swung ≡ v.swung
   pub others : KeepsAllBut at v w
 
 -- the node of a pointer that is over these keys, with the newest snapshot's page for them, and whose word is here
@@ -252,8 +263,8 @@ pub record CanVisitBelow (height t : ℕ) (sp : Span) (page : ℕ) (v : View) : 
 -- The first pointers of that page, so many, were gone over, each with the page to which the newest snapshot's page
 -- leads.
 pub record HasVisitedBelow (Node : Type 0) (dropped : Node → ℕ) (notes : Node → List KeptPage)
-    (slots : Node → List ℕ) (is : Span → ℕ → ℕ → View → Node → Type 0) (t : ℕ) (sp : Span) (page n : ℕ)
-    (old : Dropped) (v : View) (new : Dropped) (w : View) : Type 0 where
+    (slots : Node → List ℕ) (swings : Node → List Swung) (is : Span → ℕ → ℕ → View → Node → Type 0) (t : ℕ) (sp : Span)
+    (page n : ℕ) (old : Dropped) (v : View) (new : Dropped) (w : View) : Type 0 where
   pub met : List Node
   pub long : length met ≡ n
   pub each : (j : ℕ) (m : Node) → slice_get met j ≡ Some m
@@ -261,6 +272,7 @@ pub record HasVisitedBelow (Node : Type 0) (dropped : Node → ℕ) (notes : Nod
   pub over : GoesOver v w
   pub kept : w.kept ≡ v.kept ++ flat_map notes met
   pub gone : w.gone ≡ reverse (flat_map slots met) ++ v.gone
+  pub swung : w.swung ≡ v.swung ++ flat_map swings met
   pub fresh : (u : ℕ) → Contains (flat_map slots met) u → has_slot v.grip.holds u ≡ false
   pub counts : HasCounted old (sum_met dropped met) (flat_map notes met) new
   pub others : (word : ℕ) → IsElsewhere v.layout.slots (t ∷ flat_map slots met) word
@@ -284,9 +296,9 @@ pub record CanDropAll (roots : List ℕ) (v : View) : Type 0 where
   pub leads : (r : ℕ) → r < length roots → 0 < get_or roots r 0
       → IsLeadOf v (root_span v.layout.decls r) (get_or roots r 0)
 
--- a call begins: what was read, left and kept before is let go of
+-- a call begins: what was read, left, kept and swung before is let go of
 abbrev pub begun : ℕ → View → View
-begun n v = record (glanced clock_at n v) { reads = []; gone = []; kept = [] }
+begun n v = record (glanced clock_at n v) { reads = []; gone = []; kept = []; swung = [] }
 
 -- the same of the step
 abbrev pub Begins : Step (Unit {0}) → View → ℕ → View → Type 0
@@ -315,6 +327,11 @@ abbrev pub slots_all : List MetRoot → List ℕ
 slots_all [] = []
 slots_all (m ∷ more) = slots_root m ++ slots_all more
 
+-- the pointers that were swung, root by root
+abbrev pub swings_all : List MetRoot → List Swung
+swings_all [] = []
+swings_all (m ∷ more) = swings_root m ++ swings_all more
+
 -- what was met at the roots of the first storages, so many
 pub record HasGoneOver (roots : List ℕ) (n : ℕ) (tally : Dropped) (w : View) : Type 0 where
   pub met : List MetRoot
@@ -322,6 +339,7 @@ pub record HasGoneOver (roots : List ℕ) (n : ℕ) (tally : Dropped) (w : View)
   pub trees : (r : ℕ) → r < n → IsRootTree w roots r (get_or met r LeftAlone)
   pub kept : w.kept ≡ notes_all met
   pub gone : w.gone ≡ reverse (slots_all met)
+  pub swung : w.swung ≡ swings_all met
   pub counts : HasCounted (record { dropped = 0; kept = 0; first = None }) (dropped_all met) (notes_all met) tally
 
 -- The pass is to go over the storage with this index, of whose root's keys the newest snapshot's page has this number.
@@ -355,10 +373,13 @@ pub record HasDroppedAll (roots : List ℕ) (v : View) (tally : Dropped) (w : Vi
     touched = w.touched;
     loaded = w.loaded;
     known = w.known;
-    heads = w.heads;
     moved = w.moved;
+    inners = w.inners;
+    swung = w.swung;
     copies = w.copies;
     blanks = w.blanks;
+    new_leaves = w.new_leaves;
+    new_inners = w.new_inners;
     pages = w.pages;
     leads = w.leads;
     gone = w.gone;

@@ -1,5 +1,5 @@
 -- What is shut of an interior page.
-use Rattle.std.specs.Prelude.{◌≡◌, ◌≢◌, ◌⊎◌, ℕ, zero, suc, ◌+◌, ◌^◌, ◌<◌, ◌≤◌, false, true, List, [], ◌∷◌, length}
+use Rattle.std.specs.Prelude.{◌++◌, ◌≡◌, ◌≢◌, ◌⊎◌, ℕ, zero, suc, ◌+◌, ◌^◌, ◌<◌, ◌≤◌, false, true, List, [], ◌∷◌, length}
 use Rattle.std.specs.Prelude.{get_or, Option, Some, Contains}
 use Rattle.homes.specs.declared.places.At.{At}
 use Rattle.homes.specs.declared.places.Span.{Span}
@@ -18,8 +18,8 @@ use Rattle.engine_pages.specs.declared.view.Shut.{Shut}
 use Rattle.engine_pages.specs.declared.view.View.{View}
 use Rattle.engine_pages.specs.Layout.{page_at, words_of}
 use Rattle.engine_pages.specs.Pages.{child_span, is_array, is_leaf_span}
-use Rattle.engine_pages.specs.Pointers.{IsPointerAt, half_of}
-use Rattle.engine_pages.specs.Slots.{other_copies}
+use Rattle.engine_pages.specs.Pointers.{IsArrayPointerAt, half_of}
+use Rattle.engine_pages.specs.Slots.{other_copies, other_heads, other_inners, other_leaves}
 use Rattle.engine_pages.specs.Steps.{seen_at, with_read}
 use Rattle.dual_pointer.specs.Copies.{IsLeadOf}
 use Rattle.pointer_swings.specs.Shuts.{shut_of}
@@ -175,7 +175,7 @@ pub record HasReopened (t page m n : ℕ) (v w : View) : Type 0 where
 -- page it doesn't stand; the pass has locked and shut nothing.
 pub record CanDropInner (x : At) (sp : Span) (at t page word : ℕ) (v : View) : Type 0 where
   pub inner : AtInner t sp page v
-  pub place : IsPointerAt v x sp at
+  pub place : IsArrayPointerAt v x sp at
   pub inside : at < words_of v.layout
   pub leads : half_of word ≡ Some t
   pub met : seen_at v.reads at ≡ Some word
@@ -197,7 +197,11 @@ pub record HasDroppedInner (t at page : ℕ) (v w : View) : Type 0 where
     grip = record v.grip { made = without v.grip.made t; taken = without (t ∷ v.grip.taken) t };
     copies = other_copies t v.copies;
     blanks = without v.blanks t;
+    new_leaves = other_leaves t v.new_leaves;
+    new_inners = other_inners t v.new_inners;
+    heads = other_heads t v.heads;
     shuts = [];
+    swung = v.swung ++ record { word = at; slot = t } ∷ [];
   }
   pub later : v.steps ≤ w.steps
   pub leads : (z : Lead) → Contains v.leads z → Contains w.leads z

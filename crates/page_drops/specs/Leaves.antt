@@ -22,9 +22,9 @@ use Rattle.engine_pages.specs.declared.view.View.{View}
 use Rattle.drop_core.specs.Event.{without}
 use Rattle.engine_pages.specs.Layout.{page_at, words_of}
 use Rattle.engine_pages.specs.Pages.{is_array, is_leaf_span}
-use Rattle.engine_pages.specs.Pointers.{IsPointerAt, half_of}
+use Rattle.engine_pages.specs.Pointers.{IsArrayPointerAt, half_of}
 use Rattle.engine_pages.specs.Resident.{array_word, array_value}
-use Rattle.engine_pages.specs.Slots.{other_copies, other_shuts}
+use Rattle.engine_pages.specs.Slots.{other_copies, other_heads, other_inners, other_leaves, other_shuts}
 use Rattle.engine_pages.specs.Steps.{seen_at}
 use Rattle.engine_pages.specs.Touches.{takes, touch}
 use Rattle.engine_pages.specs.Words.{spot}
@@ -145,7 +145,7 @@ MetOthers sp t k v w = k.why ≡ Locked → (i : ℕ) → k.word ≡ page_at v.l
 -- locked nothing.
 pub record CanDrop (x : At) (sp : Span) (at t page word : ℕ) (v : View) : Type 0 where
   pub leaf : AtLeaf t sp page v
-  pub place : IsPointerAt v x sp at
+  pub place : IsArrayPointerAt v x sp at
   pub inside : at < words_of v.layout
   pub leads : half_of word ≡ Some t
   pub met : seen_at v.reads at ≡ Some word
@@ -171,7 +171,11 @@ pub record HasDropped (t at page : ℕ) (v w : View) : Type 0 where
     grip = record v.grip { made = without v.grip.made t; taken = without (t ∷ v.grip.taken) t };
     copies = other_copies t v.copies;
     blanks = without v.blanks t;
+    new_leaves = other_leaves t v.new_leaves;
+    new_inners = other_inners t v.new_inners;
+    heads = other_heads t v.heads;
     shuts = other_shuts t v.shuts;
+    swung = v.swung ++ record { word = at; slot = t } ∷ [];
   }
   pub later : v.steps ≤ w.steps
   pub led : (r : Read) × (read_of w.reads at ≡ Some r) × (r.seen ≡ page) × (r.was ≡ seen_at v.reads at)

@@ -3,3 +3,4 @@ pub mod Leaves
 pub mod Inner
 pub mod Visits
 pub mod Calls
+pub mod Swings

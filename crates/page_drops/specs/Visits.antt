@@ -9,6 +9,7 @@ use Rattle.engine_pages.specs.declared.view.KeptPage.{KeptPage}
 use Rattle.engine_pages.specs.declared.view.KeptWhy.{KeptWhy}
 use Rattle.engine_pages.specs.declared.view.KeptWhy.TheVariants.{Locked, Unlike, Under, Changed, Long}
 use Rattle.engine_pages.specs.declared.view.Read.{Read}
+use Rattle.engine_pages.specs.declared.view.Swung.{Swung}
 use Rattle.engine_pages.specs.declared.view.View.{View}
 use Rattle.engine_pages.specs.Layout.{page_at, root_at}
 use Rattle.engine_pages.specs.Pages.{child_span, is_array, root_span}
@@ -60,6 +61,12 @@ abbrev pub slot_here : Option ℕ → List ℕ
 slot_here None = []
 slot_here (Some t) = t ∷ []
 
+-- the pointer that was swung away from a slot, whose page was met and not kept
+abbrev pub swing_here : ℕ → Option ℕ → Option KeptPage → List Swung
+swing_here at None kept = []
+swing_here at (Some t) None = record { word = at; slot = t } ∷ []
+swing_here at (Some t) (Some k) = []
+
 -- what is summed over what was met below
 abbrev pub sum_met : {A : Type 0} → (A → ℕ) → List A → ℕ
 sum_met f [] = 0
@@ -77,6 +84,10 @@ notes_of f m = flat_map f m.below ++ note_here m.kept
 -- the slots that were left, those below before its own
 abbrev pub slots_of : {B : Type 0} → (B → List ℕ) → Met B → List ℕ
 slots_of f m = flat_map f m.below ++ slot_here m.slot
+
+-- the pointers that were swung away from the slots of pages that were dropped, those below before its own
+abbrev pub swings_of : {B : Type 0} → (B → List Swung) → Met B → List Swung
+swings_of f m = flat_map f m.below ++ swing_here m.at m.slot m.kept
 
 -- how often a slot is in a list
 abbrev pub times : ℕ → List ℕ → ℕ
@@ -194,6 +205,10 @@ notes_leaf m = notes_of (λ x. []) m
 abbrev pub slots_leaf : MetLeaf → List ℕ
 slots_leaf m = slots_of (λ x. []) m
 
+-- the pointer, if it was swung
+abbrev pub swings_leaf : MetLeaf → List Swung
+swings_leaf m = swings_of (λ x. []) m
+
 -- The snapshot's page is there, and if the page was kept, for cause. Where its slot was left once in the call, the word
 -- in it for which it was kept was last seen or left as it was then: so it wasn't locked by the call, which opens again
 -- what it locks of a page that it keeps.
@@ -226,6 +241,10 @@ notes_middle m = notes_of notes_leaf m
 abbrev pub slots_middle : MetMiddle → List ℕ
 slots_middle m = slots_of slots_leaf m
 
+-- the pointers to it and to its leaves that were swung
+abbrev pub swings_middle : MetMiddle → List Swung
+swings_middle m = swings_of swings_leaf m
+
 -- a page over leaves with what was met below it
 abbrev pub IsMiddleTree : View → MetMiddle → Type 0
 IsMiddleTree w m = IsInnerTree ⊤ IsLeafTree w m
@@ -241,6 +260,10 @@ notes_top m = notes_of notes_middle m
 -- the slots of it and of all below it
 abbrev pub slots_top : MetTop → List ℕ
 slots_top m = slots_of slots_middle m
+
+-- the pointers to it and to all below it that were swung
+abbrev pub swings_top : MetTop → List Swung
+swings_top m = swings_of swings_middle m
 
 -- a page over such pages with what was met below it
 abbrev pub IsTopTree : View → MetTop → Type 0
@@ -273,6 +296,13 @@ slots_root (OneHeight m) = slots_leaf m
 slots_root (TwoHeights m) = slots_middle m
 slots_root (ThreeHeights m) = slots_top m
 slots_root LeftAlone = []
+
+-- the pointers of it that were swung
+abbrev pub swings_root : MetRoot → List Swung
+swings_root (OneHeight m) = swings_leaf m
+swings_root (TwoHeights m) = swings_middle m
+swings_root (ThreeHeights m) = swings_top m
+swings_root LeftAlone = []
 
 -- the pointer of the storage with this index stands at its root, over all its keys, and its page is the catalogue's
 pub record IsRootNode {B : Type 0} (w : View) (roots : List ℕ) (r : ℕ) (m : Met B) : Type 0 where

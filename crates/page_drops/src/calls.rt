@@ -7,7 +7,7 @@ ghost use Rattle.engine_pages.specs.Layout.{root_at};
 ghost use Rattle.engine_pages.specs.Passes.{view, IsPassOf};
 ghost use Rattle.page_drops.specs.Calls.{begun, counted, CanDropAll, CanGoOver, HasCounted, HasDroppedAll, HasRoom};
 ghost use Rattle.page_drops.specs.Calls.{HasVisited, IsFirst, IsNoteOf, IsRootKind, IsRootTreeOf};
-ghost use Rattle.page_drops.specs.Visits.{dropped_root, notes_root, slots_root, MetRoot};
+ghost use Rattle.page_drops.specs.Visits.{dropped_root, notes_root, slots_root, swings_root, MetRoot};
 
 use crate::law::{Beginning, Counted, Counting};
 use crate::laws::laws;
@@ -101,7 +101,7 @@ fn visit_root(engine: &Engine, pass: &mut Pass, root: usize, page: u32, before: 
     requires over { CanGoOver root page (view pass.old) }
     requires room { HasRoom 4161 before }
     ensures of { IsPassOf engine.now pass.new }
-    ensures visits { HasVisited MetRoot dropped_root notes_root slots_root (IsRootTreeOf page root)
+    ensures visits { HasVisited MetRoot dropped_root notes_root slots_root swings_root (IsRootTreeOf page root)
         (root_at root) before (view pass.old) result (view pass.new) }
 {
     let Some((id, size)) = array_at(engine, root) else {

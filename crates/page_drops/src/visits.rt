@@ -4,9 +4,9 @@ ghost use Rattle.engine_pages.specs.Passes.{view, IsPassOf};
 ghost use Rattle.page_drops.specs.Calls.{CanVisit, CanVisitBelow, HasHeld, HasRoom, HasVisited, HasVisitedBelow};
 ghost use Rattle.page_drops.specs.Calls.{KeepsAbove};
 ghost use Rattle.page_drops.specs.Calls.{IsLeafNode, IsMiddleNode, IsTopNode};
-ghost use Rattle.page_drops.specs.Visits.{dropped_leaf, notes_leaf, slots_leaf, MetLeaf};
-ghost use Rattle.page_drops.specs.Visits.{dropped_middle, notes_middle, slots_middle, MetMiddle};
-ghost use Rattle.page_drops.specs.Visits.{dropped_top, notes_top, slots_top, MetTop};
+ghost use Rattle.page_drops.specs.Visits.{dropped_leaf, notes_leaf, slots_leaf, swings_leaf, MetLeaf};
+ghost use Rattle.page_drops.specs.Visits.{dropped_middle, notes_middle, slots_middle, swings_middle, MetMiddle};
+ghost use Rattle.page_drops.specs.Visits.{dropped_top, notes_top, slots_top, swings_top, MetTop};
 
 use crate::calls::Dropped;
 use crate::dropping::drop_leaf;
@@ -90,8 +90,8 @@ pub(crate) fn visit_leaf(
     requires visit { CanVisit 0 place span at page (view pass.old) }
     requires room { HasRoom 1 before }
     ensures of { IsPassOf engine.now pass.new }
-    ensures visits { HasVisited MetLeaf dropped_leaf notes_leaf slots_leaf (IsLeafNode span page at) at
-        before (view pass.old) result (view pass.new) }
+    ensures visits { HasVisited MetLeaf dropped_leaf notes_leaf slots_leaf swings_leaf (IsLeafNode span page at)
+        at before (view pass.old) result (view pass.new) }
 {
     match hold(engine, pass, 0, place, span, at, page) {
         Err(kept) => before.and_kept(kept),
@@ -124,8 +124,8 @@ pub(crate) fn visit_middle(
     requires visit { CanVisit 1 place span at page (view pass.old) }
     requires room { HasRoom 65 before }
     ensures of { IsPassOf engine.now pass.new }
-    ensures visits { HasVisited MetMiddle dropped_middle notes_middle slots_middle (IsMiddleNode span page at) at
-        before (view pass.old) result (view pass.new) }
+    ensures visits { HasVisited MetMiddle dropped_middle notes_middle slots_middle swings_middle
+        (IsMiddleNode span page at) at before (view pass.old) result (view pass.new) }
 {
     match hold(engine, pass, 1, place, span, at, page) {
         Err(kept) => before.and_kept(kept),
@@ -150,8 +150,8 @@ fn visit_leaves(engine: &Engine, pass: &mut Pass, inner: Inner, before: Dropped)
     requires inside { CanVisitBelow 0 inner.slot inner.span inner.page (view pass.old) }
     requires room { HasRoom 64 before }
     ensures of { IsPassOf engine.now pass.new }
-    ensures visits { HasVisitedBelow MetLeaf dropped_leaf notes_leaf slots_leaf IsLeafNode inner.slot inner.span
-        inner.page 64 before (view pass.old) result (view pass.new) }
+    ensures visits { HasVisitedBelow MetLeaf dropped_leaf notes_leaf slots_leaf swings_leaf IsLeafNode inner.slot
+        inner.span inner.page 64 before (view pass.old) result (view pass.new) }
 {
     let mut sum = before;
     for index in 0..POINTERS {
@@ -181,8 +181,8 @@ pub(crate) fn visit_top(
     requires visit { CanVisit 2 place span at page (view pass.old) }
     requires room { HasRoom 4161 before }
     ensures of { IsPassOf engine.now pass.new }
-    ensures visits { HasVisited MetTop dropped_top notes_top slots_top (IsTopNode span page at) at
-        before (view pass.old) result (view pass.new) }
+    ensures visits { HasVisited MetTop dropped_top notes_top slots_top swings_top (IsTopNode span page at)
+        at before (view pass.old) result (view pass.new) }
 {
     match hold(engine, pass, 2, place, span, at, page) {
         Err(kept) => before.and_kept(kept),
@@ -207,8 +207,8 @@ fn visit_middles(engine: &Engine, pass: &mut Pass, inner: Inner, before: Dropped
     requires inside { CanVisitBelow 1 inner.slot inner.span inner.page (view pass.old) }
     requires room { HasRoom 4160 before }
     ensures of { IsPassOf engine.now pass.new }
-    ensures visits { HasVisitedBelow MetMiddle dropped_middle notes_middle slots_middle IsMiddleNode inner.slot
-        inner.span inner.page 64 before (view pass.old) result (view pass.new) }
+    ensures visits { HasVisitedBelow MetMiddle dropped_middle notes_middle slots_middle swings_middle IsMiddleNode
+        inner.slot inner.span inner.page 64 before (view pass.old) result (view pass.new) }
 {
     let mut sum = before;
     for index in 0..POINTERS {

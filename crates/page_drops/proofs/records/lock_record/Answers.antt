@@ -1,4 +1,4 @@
-use Rattle.std.proofs.Common.{◌*◌, ◌<◌, refl, ap, subst, arith}
+use Rattle.std.proofs.Common.{◌*◌, ◌<◌, inl, refl, ap, subst, arith}
 use Rattle.commit_core.specs.CoreState.{can_begin}
 use Rattle.engine_pages.specs.declared.layout.Layout.{Layout}
 use Rattle.engine_pages.specs.declared.view.KeptWhy.TheVariants.{Locked, Unlike}
@@ -36,13 +36,14 @@ pub lock-found-requires-clause-place : goal.lock-found-requires-clause-place
 lock-found-requires-clause-place c =
     let v = view c.args.pass.now in
     let u = view c.word_of-number.new.pass in
-    found_here c.args.engine.now c.args.pass.now c.args.leaf.slot c.args.leaf.page c.args.index c.word_at-at.result c.args.leaf.span u
+    inl (found_here c.args.engine.now c.args.pass.now c.args.leaf.slot c.args.leaf.page c.args.index c.word_at-at.result c.args.leaf.span u
     c.key_of-key.result c.requires.of c.requires.at (glanced_looked v u c.word_of-number.ensures.glances).worked c.requires.index
-    c.word_at-at.ensures c.key_of-key.ensures
+    c.word_at-at.ensures c.key_of-key.ensures)
 
 pub lock-found-requires-clause-expected : goal.lock-found-requires-clause-expected
 lock-found-requires-clause-expected c =
-    let low = c.requires.low c.args.index c.requires.index in let is = c.word_of-number.ensures.word in omega (arith, low, is)
+    let low = c.requires.low c.args.index c.requires.index in
+    let is = c.word_of-number.ensures.word in inl (omega (arith, low, is))
 
 pub keep-locked-requires-clause-keeper : goal.keep-locked-requires-clause-keeper
 keep-locked-requires-clause-keeper c =

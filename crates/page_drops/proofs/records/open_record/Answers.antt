@@ -1,4 +1,4 @@
-use Rattle.std.proofs.Common.{◌*◌, ◌<◌, refl, subst}
+use Rattle.std.proofs.Common.{◌*◌, ◌<◌, inl, refl, subst}
 use Rattle.engine_pages.specs.declared.layout.Layout.{Layout}
 use Rattle.engine_pages.specs.Passes.{view}
 use Rattle.engine_pages.specs.Words.{spot}
@@ -25,9 +25,9 @@ pub open_again-requires-clause-place : goal.open_again-requires-clause-place
 open_again-requires-clause-place c =
     let v = view c.args.pass.now in
     let u = view c.word_of-number.new.pass in
-    found_here c.args.engine.now c.args.pass.now c.args.leaf.slot c.args.leaf.page c.args.index c.word_at-at.result c.args.leaf.span u
+    inl (found_here c.args.engine.now c.args.pass.now c.args.leaf.slot c.args.leaf.page c.args.index c.word_at-at.result c.args.leaf.span u
     c.key_of-key.result c.requires.of c.requires.at (glanced_looked v u c.word_of-number.ensures.glances).worked c.requires.index
-    c.word_at-at.ensures c.key_of-key.ensures
+    c.word_at-at.ensures c.key_of-key.ensures)
 
 pub open_again-requires-clause-word : goal.open_again-requires-clause-word
 open_again-requires-clause-word c =

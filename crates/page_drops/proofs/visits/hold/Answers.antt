@@ -8,7 +8,12 @@ use Rattle.page_drops.proofs.Holds.{keeps_shut, look_first, none_looked, seen_la
 use Rattle.page_drops.proofs.HoldSteps.{again_other, can_renew_so, holds_renewed, holds_so, keeps_missed, keeps_other, missed_so}
 use Rattle.page_drops.proofs.HoldSteps.{pointer_there_still, still_fresh}
 use Rattle.page_drops.proofs.visits.hold.Goals.{then-page-eq0-via-then-page-eq0, then-page-eq0-via-else-page-eq0+then-from-word}
+use Rattle.engine_pages.specs.Pointers.{any_pointer}
 use Rattle.page_drops.proofs.visits.hold.Goals as goal
+
+pub follow-seen-requires-clause-place : goal.follow-seen-requires-clause-place
+follow-seen-requires-clause-place c =
+    any_pointer (view c.args.pass.now) c.args.place c.args.span c.args.at c.requires.visit.place
 
 pub keep-locked-requires-clause-last : goal.keep-locked-requires-clause-last
 keep-locked-requires-clause-last c =
@@ -44,9 +49,10 @@ enter-requires-clause-unheld c =
 
 pub follow-word-requires-clause-place : goal.follow-word-requires-clause-place
 follow-word-requires-clause-place c =
-    pointer_there_still c.args.height c.args.place c.args.span c.args.at c.args.page c.follow-seen.result
+    any_pointer (view c.enter.new.pass) c.args.place c.args.span c.args.at
+    (pointer_there_still c.args.height c.args.place c.args.span c.args.at c.args.page c.follow-seen.result
     (view c.args.pass.now) (view c.follow-seen.new.pass) c.requires.visit c.follow-seen.ensures.follows
-    c.if-seen-lt-SLOT.false c.if-seen-ge-SHUT.false (view c.enter.new.pass) c.enter.ensures.enters
+    c.if-seen-lt-SLOT.false c.if-seen-ge-SHUT.false (view c.enter.new.pass) c.enter.ensures.enters)
 
 pub keep-turned-requires-clause-last : goal.keep-turned-requires-clause-last
 keep-turned-requires-clause-last c =

@@ -20,7 +20,7 @@ returns-in-Err-clause-visits c =
     let w = view c.hold.new.pass in
     let there = c.requires.visit.there in
     let long = front_length v.pages w.pages (c.in-Err.ensures.keeps.over).front in
-    visited_above ⊤ (λ y. 0) (λ y. []) (λ y. []) IsLeafTree c.args.span c.args.page c.args.at c.args.before
+    visited_above ⊤ (λ y. 0) (λ y. []) (λ y. []) (λ y. []) IsLeafTree c.args.span c.args.page c.args.at c.args.before
     c.and_kept.result c.in-Err.kept v w c.in-Err.ensures.keeps c.and_kept.ensures.counts
     (leaf_bare c.args.at c.args.page c.args.span w (omega (arith, there, long)))
 
@@ -31,7 +31,7 @@ returns-in-Ok-None-clause-visits c =
     let there = c.requires.visit.there in
     let none = none_in c.args.span c.args.at c.args.page c.in-Ok-None.field-0 v w (cc) c.in-Ok-None.ensures.holds in
     let long = front_length v.pages w.pages (none.over).front in
-    visited_none ⊤ (λ y. 0) (λ y. []) (λ y. []) IsLeafTree c.args.span c.args.page c.args.at c.args.before v w
+    visited_none ⊤ (λ y. 0) (λ y. []) (λ y. []) (λ y. []) IsLeafTree c.args.span c.args.page c.args.at c.args.before v w
     none (leaf_none c.args.at c.args.page c.args.span w (omega (arith, there, long)))
 
 pub returns-in-Ok-Some-clause-visits : goal.returns-in-Ok-Some-clause-visits

@@ -4,13 +4,13 @@ use Rattle.engine_pages.specs.Passes.{Pass, view, IsPassOf}
 use Rattle.page_drops.specs.declared.calls.Dropped.{Dropped}
 use Rattle.page_drops.specs.declared.inner.Inner.{Inner}
 use Rattle.page_drops.specs.Calls.{HasVisitedBelow, IsLeafNode}
-use Rattle.page_drops.specs.Visits.{MetLeaf, dropped_leaf, notes_leaf, slots_leaf}
+use Rattle.page_drops.specs.Visits.{MetLeaf, dropped_leaf, notes_leaf, slots_leaf, swings_leaf}
 use Rattle.page_drops.proofs.visits.visit_leaves.Given as goal
 
 -- the first pointers were gone over
 pub record IsVisiting (engine : Engine) (old new : Pass) (inner : Inner) (before sum : Dropped) (index : ℕ) : Type 0 where
   pub of : IsPassOf engine new
-  pub told : HasVisitedBelow MetLeaf dropped_leaf notes_leaf slots_leaf IsLeafNode inner.slot inner.span inner.page index before
+  pub told : HasVisitedBelow MetLeaf dropped_leaf notes_leaf slots_leaf swings_leaf IsLeafNode inner.slot inner.span inner.page index before
       (view old) sum (view new)
 
 abbrev pub invariant-loop-index : goal.invariant-loop-index

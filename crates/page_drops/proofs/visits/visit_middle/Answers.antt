@@ -2,7 +2,7 @@ use Rattle.std.proofs.Common.{arith}
 use Rattle.std.specs.Prelude.{⊤}
 use Rattle.lists.specs.Fronts.{front_length}
 use Rattle.engine_pages.specs.Passes.{view}
-use Rattle.page_drops.specs.Visits.{MetLeaf, IsLeafTree, IsInnerTree, dropped_leaf, notes_leaf, slots_leaf}
+use Rattle.page_drops.specs.Visits.{MetLeaf, IsLeafTree, IsInnerTree, dropped_leaf, notes_leaf, slots_leaf, swings_leaf}
 use Rattle.page_drops.proofs.Counts.{leaf_few}
 use Rattle.page_drops.proofs.InnerTurns.{active_left, bare_below, can_below, can_drop, held_below, held_left, inner_turned, room_after}
 use Rattle.page_drops.proofs.InnerTurns.{slot_below, slot_left, unkept_left, worked_by}
@@ -22,7 +22,7 @@ pub drop_inner-result-requires-clause-drop : goal.drop_inner-result-requires-cla
 drop_inner-result-requires-clause-drop c =
     let inside = held_in c.args.span c.args.at c.args.page c.in-Ok-Some.field-0 c.in-Ok-Some.held (view c.args.pass.now)
     (view c.hold.new.pass) (cc) c.in-Ok-Some.ensures.holds in
-    can_drop ⊤ dropped_leaf notes_leaf slots_leaf IsLeafTree leaf_stays 0 c.args.place c.args.span c.args.at c.args.page
+    can_drop ⊤ dropped_leaf notes_leaf slots_leaf swings_leaf IsLeafTree leaf_stays 0 c.args.place c.args.span c.args.at c.args.page
     c.in-Ok-Some.held c.args.before c.visit_leaves-below.result (view c.args.pass.now) (view c.hold.new.pass)
     (view c.visit_leaves-below.new.pass) c.requires.visit inside c.visit_leaves-below.ensures.visits
 
@@ -32,7 +32,7 @@ leave-requires-clause-pass c =
     (view c.hold.new.pass) (cc) c.in-Ok-Some.ensures.holds in
     let u = view c.visit_leaves-below.new.pass in
     let b = view c.drop_inner-result.new.pass in
-    let bare = bare_below ⊤ dropped_leaf notes_leaf slots_leaf IsLeafTree leaf_stays 0 c.args.place c.args.span c.args.at c.args.page
+    let bare = bare_below ⊤ dropped_leaf notes_leaf slots_leaf swings_leaf IsLeafTree leaf_stays 0 c.args.place c.args.span c.args.at c.args.page
     c.in-Ok-Some.held c.args.before c.visit_leaves-below.result (view c.args.pass.now) (view c.hold.new.pass) u c.requires.visit inside
     c.visit_leaves-below.ensures.visits in
     let worked = worked_by c.in-Ok-Some.held.slot c.args.page c.args.at c.in-Ok-Some.held.word c.drop_inner-result.result u b bare
@@ -45,13 +45,13 @@ leave-requires-clause-slot c =
     (view c.hold.new.pass) (cc) c.in-Ok-Some.ensures.holds in
     let u = view c.visit_leaves-below.new.pass in
     let b = view c.drop_inner-result.new.pass in
-    let bare = bare_below ⊤ dropped_leaf notes_leaf slots_leaf IsLeafTree leaf_stays 0 c.args.place c.args.span c.args.at c.args.page
+    let bare = bare_below ⊤ dropped_leaf notes_leaf slots_leaf swings_leaf IsLeafTree leaf_stays 0 c.args.place c.args.span c.args.at c.args.page
     c.in-Ok-Some.held c.args.before c.visit_leaves-below.result (view c.args.pass.now) (view c.hold.new.pass) u c.requires.visit inside
     c.visit_leaves-below.ensures.visits in
     let worked = worked_by c.in-Ok-Some.held.slot c.args.page c.args.at c.in-Ok-Some.held.word c.drop_inner-result.result u b bare
     c.drop_inner-result.ensures.drops c.drop_inner-result.ensures.keeps in
     slot_left c.in-Ok-Some.held.slot u b worked
-    (slot_below ⊤ dropped_leaf notes_leaf slots_leaf IsLeafTree leaf_stays 0 c.args.place c.args.span c.args.at c.args.page c.in-Ok-Some.held
+    (slot_below ⊤ dropped_leaf notes_leaf slots_leaf swings_leaf IsLeafTree leaf_stays 0 c.args.place c.args.span c.args.at c.args.page c.in-Ok-Some.held
     c.args.before c.visit_leaves-below.result (view c.args.pass.now) (view c.hold.new.pass) u c.requires.visit inside
     c.visit_leaves-below.ensures.visits)
 
@@ -61,13 +61,13 @@ leave-requires-clause-held c =
     (view c.hold.new.pass) (cc) c.in-Ok-Some.ensures.holds in
     let u = view c.visit_leaves-below.new.pass in
     let b = view c.drop_inner-result.new.pass in
-    let bare = bare_below ⊤ dropped_leaf notes_leaf slots_leaf IsLeafTree leaf_stays 0 c.args.place c.args.span c.args.at c.args.page
+    let bare = bare_below ⊤ dropped_leaf notes_leaf slots_leaf swings_leaf IsLeafTree leaf_stays 0 c.args.place c.args.span c.args.at c.args.page
     c.in-Ok-Some.held c.args.before c.visit_leaves-below.result (view c.args.pass.now) (view c.hold.new.pass) u c.requires.visit inside
     c.visit_leaves-below.ensures.visits in
     let worked = worked_by c.in-Ok-Some.held.slot c.args.page c.args.at c.in-Ok-Some.held.word c.drop_inner-result.result u b bare
     c.drop_inner-result.ensures.drops c.drop_inner-result.ensures.keeps in
     held_left c.in-Ok-Some.held.slot u b worked
-    (held_below ⊤ dropped_leaf notes_leaf slots_leaf IsLeafTree leaf_stays 0 c.args.place c.args.span c.args.at c.args.page c.in-Ok-Some.held
+    (held_below ⊤ dropped_leaf notes_leaf slots_leaf swings_leaf IsLeafTree leaf_stays 0 c.args.place c.args.span c.args.at c.args.page c.in-Ok-Some.held
     c.args.before c.visit_leaves-below.result (view c.args.pass.now) (view c.hold.new.pass) u c.requires.visit inside
     c.visit_leaves-below.ensures.visits)
 
@@ -77,7 +77,7 @@ leave-requires-clause-unkept c =
     (view c.hold.new.pass) (cc) c.in-Ok-Some.ensures.holds in
     let u = view c.visit_leaves-below.new.pass in
     let b = view c.drop_inner-result.new.pass in
-    let bare = bare_below ⊤ dropped_leaf notes_leaf slots_leaf IsLeafTree leaf_stays 0 c.args.place c.args.span c.args.at c.args.page
+    let bare = bare_below ⊤ dropped_leaf notes_leaf slots_leaf swings_leaf IsLeafTree leaf_stays 0 c.args.place c.args.span c.args.at c.args.page
     c.in-Ok-Some.held c.args.before c.visit_leaves-below.result (view c.args.pass.now) (view c.hold.new.pass) u c.requires.visit inside
     c.visit_leaves-below.ensures.visits in
     let worked = worked_by c.in-Ok-Some.held.slot c.args.page c.args.at c.in-Ok-Some.held.word c.drop_inner-result.result u b bare
@@ -87,7 +87,7 @@ leave-requires-clause-unkept c =
 pub and-requires : goal.and-requires
 and-requires c = record {
   room =
-      room_after ⊤ dropped_leaf notes_leaf slots_leaf IsLeafTree 1 c.in-Ok-Some.held.slot c.args.page c.args.span c.args.before c.visit_leaves-below.result
+      room_after ⊤ dropped_leaf notes_leaf slots_leaf swings_leaf IsLeafTree 1 c.in-Ok-Some.held.slot c.args.page c.args.span c.args.before c.visit_leaves-below.result
       (view c.hold.new.pass) (view c.visit_leaves-below.new.pass) (λ w m tree. leaf_few m tree.below) c.requires.room c.visit_leaves-below.ensures.visits;
 }
 
@@ -97,7 +97,7 @@ returns-in-Err-clause-visits c =
     let w = view c.hold.new.pass in
     let there = c.requires.visit.there in
     let long = front_length v.pages w.pages (c.in-Err.ensures.keeps.over).front in
-    visited_above MetLeaf dropped_leaf notes_leaf slots_leaf (IsInnerTree ⊤ IsLeafTree) c.args.span c.args.page c.args.at c.args.before c.and_kept.result
+    visited_above MetLeaf dropped_leaf notes_leaf slots_leaf swings_leaf (IsInnerTree ⊤ IsLeafTree) c.args.span c.args.page c.args.at c.args.before c.and_kept.result
     c.in-Err.kept v w c.in-Err.ensures.keeps c.and_kept.ensures.counts
     (inner_bare ⊤ IsLeafTree c.args.at c.args.page c.args.span w (omega (arith, there, long)))
 
@@ -108,14 +108,14 @@ returns-in-Ok-None-clause-visits c =
     let there = c.requires.visit.there in
     let none = none_in c.args.span c.args.at c.args.page c.in-Ok-None.field-0 v w (cc) c.in-Ok-None.ensures.holds in
     let long = front_length v.pages w.pages (none.over).front in
-    visited_none MetLeaf dropped_leaf notes_leaf slots_leaf (IsInnerTree ⊤ IsLeafTree) c.args.span c.args.page c.args.at c.args.before v w none
+    visited_none MetLeaf dropped_leaf notes_leaf slots_leaf swings_leaf (IsInnerTree ⊤ IsLeafTree) c.args.span c.args.page c.args.at c.args.before v w none
     (inner_none ⊤ IsLeafTree c.args.at c.args.page c.args.span w (omega (arith, there, long)))
 
 pub returns-in-Ok-Some-clause-visits : goal.returns-in-Ok-Some-clause-visits
 returns-in-Ok-Some-clause-visits c =
     let inside = held_in c.args.span c.args.at c.args.page c.in-Ok-Some.field-0 c.in-Ok-Some.held (view c.args.pass.now)
     (view c.hold.new.pass) (cc) c.in-Ok-Some.ensures.holds in
-    inner_turned ⊤ dropped_leaf notes_leaf slots_leaf IsLeafTree leaf_stays 0 c.args.place c.args.span c.args.at c.args.page c.in-Ok-Some.held
+    inner_turned ⊤ dropped_leaf notes_leaf slots_leaf swings_leaf IsLeafTree leaf_stays 0 c.args.place c.args.span c.args.at c.args.page c.in-Ok-Some.held
     c.args.before c.visit_leaves-below.result (view c.args.pass.now) (view c.hold.new.pass) (view c.visit_leaves-below.new.pass) c.requires.visit
     inside c.visit_leaves-below.ensures.visits c.and.result (view c.drop_inner-result.new.pass) (view c.leave.new.pass)
     c.drop_inner-result.ensures.reads c.leave.ensures.leaves c.drop_inner-result.result c.drop_inner-result.ensures.drops

@@ -3,7 +3,7 @@ use Rattle.engine_pages.specs.declared.layout.Layout.{Layout}
 use Rattle.engine_pages.specs.Layout.{page_at}
 use Rattle.engine_pages.specs.Passes.{view}
 use Rattle.page_drops.specs.Calls.{HasVisitedBelow, IsMiddleNode}
-use Rattle.page_drops.specs.Visits.{MetMiddle, MetLeaf, IsMiddleTree, dropped_middle, notes_middle, slots_middle}
+use Rattle.page_drops.specs.Visits.{MetMiddle, MetLeaf, IsMiddleTree, dropped_middle, notes_middle, slots_middle, swings_middle}
 use Rattle.page_drops.proofs.Belows.{can_visit, child_over, in_words, inner_over, next_below, none_below, room_below}
 use Rattle.page_drops.proofs.Counts.{middle_few}
 use Rattle.page_drops.proofs.Goings.{over_then}
@@ -14,7 +14,7 @@ use Rattle.page_drops.proofs.visits.visit_middles.Goals as goal
 pub loop-index-init : goal.loop-index-init
 loop-index-init c = record {
   of = c.requires.of;
-  told = none_below MetLeaf dropped_middle notes_middle slots_middle IsMiddleTree c.args.inner.slot c.args.inner.page c.args.inner.span c.args.before
+  told = none_below MetLeaf dropped_middle notes_middle slots_middle swings_middle IsMiddleTree c.args.inner.slot c.args.inner.page c.args.inner.span c.args.before
       (view c.args.pass.now);
 }
 
@@ -51,7 +51,7 @@ visit_middle-sum-requires-clause-visit c =
 
 pub visit_middle-sum-requires-clause-room : goal.visit_middle-sum-requires-clause-room
 visit_middle-sum-requires-clause-room c =
-    room_below MetLeaf dropped_middle notes_middle slots_middle IsMiddleTree 65 c.args.inner.slot c.args.inner.page c.loop-index.index c.args.inner.span
+    room_below MetLeaf dropped_middle notes_middle slots_middle swings_middle IsMiddleTree 65 c.args.inner.slot c.args.inner.page c.loop-index.index c.args.inner.span
     c.args.before c.loop-index.sum (view c.args.pass.now) (view c.loop-index.pass) middle_few
     c.loop-index-test.true c.requires.room c.loop-index.invariant.told
 
@@ -62,7 +62,7 @@ loop-index-preserved c =
     let a = view c.child_of-child.new.pass in
     record {
       of = c.visit_middle-sum.ensures.of;
-      told = next_below MetLeaf dropped_middle notes_middle slots_middle IsMiddleTree middle_stays c.args.inner.slot c.args.inner.page c.loop-index.index
+      told = next_below MetLeaf dropped_middle notes_middle slots_middle swings_middle IsMiddleTree middle_stays c.args.inner.slot c.args.inner.page c.loop-index.index
           c.child_of-child.result c.word_at-word.result c.args.inner.span c.part_of-part.result c.args.before c.loop-index.sum
           c.visit_middle-sum.result v u a (view c.visit_middle-sum.new.pass) c.requires.inside.inner.there c.requires.inside.held
           c.loop-index-test.true c.loop-index.invariant.told c.child_of-child.ensures.child c.part_of-part.ensures
@@ -73,7 +73,7 @@ loop-index-preserved c =
 pub returns-clause-visits : goal.returns-clause-visits
 returns-clause-visits c =
     subst
-    (λ n. HasVisitedBelow MetMiddle dropped_middle notes_middle slots_middle IsMiddleNode c.args.inner.slot c.args.inner.span c.args.inner.page n
+    (λ n. HasVisitedBelow MetMiddle dropped_middle notes_middle slots_middle swings_middle IsMiddleNode c.args.inner.slot c.args.inner.span c.args.inner.page n
     c.args.before (view c.args.pass.now) c.loop-index.sum (view c.loop-index.pass))
     (let end = c.loop-index-test.false in let most = c.loop-index.auto.index-end in omega (arith, end, most))
     c.loop-index.invariant.told

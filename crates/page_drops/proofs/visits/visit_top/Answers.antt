@@ -1,7 +1,7 @@
 use Rattle.std.proofs.Common.{arith}
 use Rattle.lists.specs.Fronts.{front_length}
 use Rattle.engine_pages.specs.Passes.{view}
-use Rattle.page_drops.specs.Visits.{MetLeaf, MetMiddle, IsMiddleTree, IsInnerTree, dropped_middle, notes_middle, slots_middle}
+use Rattle.page_drops.specs.Visits.{MetLeaf, MetMiddle, IsMiddleTree, IsInnerTree, dropped_middle, notes_middle, slots_middle, swings_middle}
 use Rattle.page_drops.proofs.Counts.{middle_few}
 use Rattle.page_drops.proofs.InnerTurns.{active_left, bare_below, can_below, can_drop, held_below, held_left, inner_turned, room_after}
 use Rattle.page_drops.proofs.InnerTurns.{slot_below, slot_left, unkept_left, worked_by}
@@ -21,7 +21,7 @@ pub drop_inner-result-requires-clause-drop : goal.drop_inner-result-requires-cla
 drop_inner-result-requires-clause-drop c =
     let inside = held_in c.args.span c.args.at c.args.page c.in-Ok-Some.field-0 c.in-Ok-Some.held (view c.args.pass.now)
     (view c.hold.new.pass) (cc) c.in-Ok-Some.ensures.holds in
-    can_drop MetLeaf dropped_middle notes_middle slots_middle IsMiddleTree middle_stays 1 c.args.place c.args.span c.args.at c.args.page
+    can_drop MetLeaf dropped_middle notes_middle slots_middle swings_middle IsMiddleTree middle_stays 1 c.args.place c.args.span c.args.at c.args.page
     c.in-Ok-Some.held c.args.before c.visit_middles-below.result (view c.args.pass.now) (view c.hold.new.pass)
     (view c.visit_middles-below.new.pass) c.requires.visit inside c.visit_middles-below.ensures.visits
 
@@ -31,7 +31,7 @@ leave-requires-clause-pass c =
     (view c.hold.new.pass) (cc) c.in-Ok-Some.ensures.holds in
     let u = view c.visit_middles-below.new.pass in
     let b = view c.drop_inner-result.new.pass in
-    let bare = bare_below MetLeaf dropped_middle notes_middle slots_middle IsMiddleTree middle_stays 1 c.args.place c.args.span c.args.at c.args.page
+    let bare = bare_below MetLeaf dropped_middle notes_middle slots_middle swings_middle IsMiddleTree middle_stays 1 c.args.place c.args.span c.args.at c.args.page
     c.in-Ok-Some.held c.args.before c.visit_middles-below.result (view c.args.pass.now) (view c.hold.new.pass) u c.requires.visit inside
     c.visit_middles-below.ensures.visits in
     let worked = worked_by c.in-Ok-Some.held.slot c.args.page c.args.at c.in-Ok-Some.held.word c.drop_inner-result.result u b bare
@@ -44,13 +44,13 @@ leave-requires-clause-slot c =
     (view c.hold.new.pass) (cc) c.in-Ok-Some.ensures.holds in
     let u = view c.visit_middles-below.new.pass in
     let b = view c.drop_inner-result.new.pass in
-    let bare = bare_below MetLeaf dropped_middle notes_middle slots_middle IsMiddleTree middle_stays 1 c.args.place c.args.span c.args.at c.args.page
+    let bare = bare_below MetLeaf dropped_middle notes_middle slots_middle swings_middle IsMiddleTree middle_stays 1 c.args.place c.args.span c.args.at c.args.page
     c.in-Ok-Some.held c.args.before c.visit_middles-below.result (view c.args.pass.now) (view c.hold.new.pass) u c.requires.visit inside
     c.visit_middles-below.ensures.visits in
     let worked = worked_by c.in-Ok-Some.held.slot c.args.page c.args.at c.in-Ok-Some.held.word c.drop_inner-result.result u b bare
     c.drop_inner-result.ensures.drops c.drop_inner-result.ensures.keeps in
     slot_left c.in-Ok-Some.held.slot u b worked
-    (slot_below MetLeaf dropped_middle notes_middle slots_middle IsMiddleTree middle_stays 1 c.args.place c.args.span c.args.at c.args.page c.in-Ok-Some.held
+    (slot_below MetLeaf dropped_middle notes_middle slots_middle swings_middle IsMiddleTree middle_stays 1 c.args.place c.args.span c.args.at c.args.page c.in-Ok-Some.held
     c.args.before c.visit_middles-below.result (view c.args.pass.now) (view c.hold.new.pass) u c.requires.visit inside
     c.visit_middles-below.ensures.visits)
 
@@ -60,13 +60,13 @@ leave-requires-clause-held c =
     (view c.hold.new.pass) (cc) c.in-Ok-Some.ensures.holds in
     let u = view c.visit_middles-below.new.pass in
     let b = view c.drop_inner-result.new.pass in
-    let bare = bare_below MetLeaf dropped_middle notes_middle slots_middle IsMiddleTree middle_stays 1 c.args.place c.args.span c.args.at c.args.page
+    let bare = bare_below MetLeaf dropped_middle notes_middle slots_middle swings_middle IsMiddleTree middle_stays 1 c.args.place c.args.span c.args.at c.args.page
     c.in-Ok-Some.held c.args.before c.visit_middles-below.result (view c.args.pass.now) (view c.hold.new.pass) u c.requires.visit inside
     c.visit_middles-below.ensures.visits in
     let worked = worked_by c.in-Ok-Some.held.slot c.args.page c.args.at c.in-Ok-Some.held.word c.drop_inner-result.result u b bare
     c.drop_inner-result.ensures.drops c.drop_inner-result.ensures.keeps in
     held_left c.in-Ok-Some.held.slot u b worked
-    (held_below MetLeaf dropped_middle notes_middle slots_middle IsMiddleTree middle_stays 1 c.args.place c.args.span c.args.at c.args.page c.in-Ok-Some.held
+    (held_below MetLeaf dropped_middle notes_middle slots_middle swings_middle IsMiddleTree middle_stays 1 c.args.place c.args.span c.args.at c.args.page c.in-Ok-Some.held
     c.args.before c.visit_middles-below.result (view c.args.pass.now) (view c.hold.new.pass) u c.requires.visit inside
     c.visit_middles-below.ensures.visits)
 
@@ -76,7 +76,7 @@ leave-requires-clause-unkept c =
     (view c.hold.new.pass) (cc) c.in-Ok-Some.ensures.holds in
     let u = view c.visit_middles-below.new.pass in
     let b = view c.drop_inner-result.new.pass in
-    let bare = bare_below MetLeaf dropped_middle notes_middle slots_middle IsMiddleTree middle_stays 1 c.args.place c.args.span c.args.at c.args.page
+    let bare = bare_below MetLeaf dropped_middle notes_middle slots_middle swings_middle IsMiddleTree middle_stays 1 c.args.place c.args.span c.args.at c.args.page
     c.in-Ok-Some.held c.args.before c.visit_middles-below.result (view c.args.pass.now) (view c.hold.new.pass) u c.requires.visit inside
     c.visit_middles-below.ensures.visits in
     let worked = worked_by c.in-Ok-Some.held.slot c.args.page c.args.at c.in-Ok-Some.held.word c.drop_inner-result.result u b bare
@@ -86,7 +86,7 @@ leave-requires-clause-unkept c =
 pub and-requires : goal.and-requires
 and-requires c = record {
   room =
-      room_after MetLeaf dropped_middle notes_middle slots_middle IsMiddleTree 65 c.in-Ok-Some.held.slot c.args.page c.args.span c.args.before c.visit_middles-below.result
+      room_after MetLeaf dropped_middle notes_middle slots_middle swings_middle IsMiddleTree 65 c.in-Ok-Some.held.slot c.args.page c.args.span c.args.before c.visit_middles-below.result
       (view c.hold.new.pass) (view c.visit_middles-below.new.pass) middle_few c.requires.room c.visit_middles-below.ensures.visits;
 }
 
@@ -96,7 +96,7 @@ returns-in-Err-clause-visits c =
     let w = view c.hold.new.pass in
     let there = c.requires.visit.there in
     let long = front_length v.pages w.pages (c.in-Err.ensures.keeps.over).front in
-    visited_above MetMiddle dropped_middle notes_middle slots_middle (IsInnerTree MetLeaf IsMiddleTree) c.args.span c.args.page c.args.at c.args.before c.and_kept.result
+    visited_above MetMiddle dropped_middle notes_middle slots_middle swings_middle (IsInnerTree MetLeaf IsMiddleTree) c.args.span c.args.page c.args.at c.args.before c.and_kept.result
     c.in-Err.kept v w c.in-Err.ensures.keeps c.and_kept.ensures.counts
     (inner_bare MetLeaf IsMiddleTree c.args.at c.args.page c.args.span w (omega (arith, there, long)))
 
@@ -107,14 +107,14 @@ returns-in-Ok-None-clause-visits c =
     let there = c.requires.visit.there in
     let none = none_in c.args.span c.args.at c.args.page c.in-Ok-None.field-0 v w (cc) c.in-Ok-None.ensures.holds in
     let long = front_length v.pages w.pages (none.over).front in
-    visited_none MetMiddle dropped_middle notes_middle slots_middle (IsInnerTree MetLeaf IsMiddleTree) c.args.span c.args.page c.args.at c.args.before v w none
+    visited_none MetMiddle dropped_middle notes_middle slots_middle swings_middle (IsInnerTree MetLeaf IsMiddleTree) c.args.span c.args.page c.args.at c.args.before v w none
     (inner_none MetLeaf IsMiddleTree c.args.at c.args.page c.args.span w (omega (arith, there, long)))
 
 pub returns-in-Ok-Some-clause-visits : goal.returns-in-Ok-Some-clause-visits
 returns-in-Ok-Some-clause-visits c =
     let inside = held_in c.args.span c.args.at c.args.page c.in-Ok-Some.field-0 c.in-Ok-Some.held (view c.args.pass.now)
     (view c.hold.new.pass) (cc) c.in-Ok-Some.ensures.holds in
-    inner_turned MetLeaf dropped_middle notes_middle slots_middle IsMiddleTree middle_stays 1 c.args.place c.args.span c.args.at c.args.page c.in-Ok-Some.held
+    inner_turned MetLeaf dropped_middle notes_middle slots_middle swings_middle IsMiddleTree middle_stays 1 c.args.place c.args.span c.args.at c.args.page c.in-Ok-Some.held
     c.args.before c.visit_middles-below.result (view c.args.pass.now) (view c.hold.new.pass) (view c.visit_middles-below.new.pass) c.requires.visit
     inside c.visit_middles-below.ensures.visits c.and.result (view c.drop_inner-result.new.pass) (view c.leave.new.pass)
     c.drop_inner-result.ensures.reads c.leave.ensures.leaves c.drop_inner-result.result c.drop_inner-result.ensures.drops

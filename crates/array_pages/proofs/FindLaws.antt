@@ -26,8 +26,9 @@ use Rattle.engine_pages.specs.Layout.{words_of}
 use Rattle.engine_pages.specs.declared.view.Lead.{Lead}
 use Rattle.engine_pages.specs.declared.view.RefusalCause.{RefusalCause}
 use Rattle.engine_pages.specs.declared.view.RefusalCause.TheVariants as causes
+use Rattle.engine_pages.specs.declared.view.SetName.TheVariants as sets
 use Rattle.engine_pages.specs.declared.view.View.{View}
-use Rattle.engine_pages.specs.Pointers.{IsPointerAt, StandsFor, WaysAgree}
+use Rattle.engine_pages.specs.Pointers.{IsArrayPointerAt, StandsFor, WaysAgree}
 use Rattle.engine_pages.specs.Resident.{found_content, place_for}
 use Rattle.engine_pages.specs.Steps.{kept_at, seen_at}
 use Rattle.dual_pointer.specs.Parts.{content_below, part_stays, IsPointerPart}
@@ -40,14 +41,15 @@ use Rattle.array_pages.specs.Finding.{LeavesMemory, RefusesFind}
 use Rattle.array_pages.specs.Snapshots.{deep, CanLook, StandsAbove}
 use Rattle.array_pages.specs.Spans.{keys_above, IsArrayAt, IsArrayKey}
 use Rattle.array_pages.specs.Steps.{FindsSo, MeetsRecord, ReachesSo, ReadsSo, RefusesRead}
-use Rattle.array_pages.specs.Walks.{AreLed, CanWalk, HasWalked, IsPointerChanged, KeepsMet, OnlyWaysTo}
-use Rattle.array_pages.specs.Walks.{KeepsWords, MeetsSo, OnlyMet, RefusesWalk}
+use Rattle.array_pages.specs.Walks.{AreLedTo, CanWalk, HasWalked, IsOnto, IsPointerChanged, KeepsMet}
+use Rattle.array_pages.specs.Walks.{KeepsWords, MeetsSo, OnlyMet, OnlyWaysTo, RefusesWalk}
 use Rattle.array_pages.proofs.DeclLaws.{array_there, stands_in}
 use Rattle.array_pages.proofs.PageLaws.{stands_deep}
 use Rattle.array_pages.proofs.WalkLaws.{can_after}
-use Rattle.array_pages.proofs.WalkLaws.{keeps_then, layout_stays, only_then, place_stays}
+use Rattle.array_pages.proofs.WalkLaws.{keeps_self, keeps_then, layout_stays, led_self, only_self, only_then, place_stays}
+use Rattle.array_pages.proofs.WalkLaws.{walked_self}
 use Rattle.array_pages.proofs.WalkLaws.{pointer_apart, saw_back}
-use Rattle.array_pages.proofs.WalkLaws.{led_by, led_then, walked_then, ways_same, ways_to}
+use Rattle.array_pages.proofs.WalkLaws.{led_by, led_over, led_then, onto_stays, walked_then, ways_same, ways_to}
 use Rattle.array_pages.proofs.WalkLaws.{ways_to_then, word_stays}
 
 -- ---- from one page to the next
@@ -84,6 +86,7 @@ found_back k pointers (places.Snapshot value number p) v u w walk later only kep
       is = h.is;
       within = h.within;
       over = h.over;
+      on = h.on;
       bare = h.bare;
       part = h.part;
       of = h.of;
@@ -109,6 +112,7 @@ found_back k pointers (places.Zero p) v u w walk later only kept words h = recor
   is = h.is;
   within = h.within;
   over = h.over;
+  on = h.on;
   bare = h.bare;
   part = h.part;
   of = h.of;
@@ -174,23 +178,28 @@ record_back k slots at expected seen v u w since later can only h = record {
     ]
 
 finds_refuses : (k : Key) (pointers : List Seen) (slots : List ℕ) (why : RefusalCause) (v u w : View) → HasWalked v u
-    → KeepsMet pointers v u → KeepsWords v u → HasWalked u w → CanWalk slots w → OnlyMet v u
+    → KeepsMet pointers v u → KeepsWords v u → HasWalked u w → CanWalk slots w → OnlyMet v u → AreLedTo k v u
     → RefusesFind k pointers slots why u w
     → RefusesFind k pointers slots why v w
-finds_refuses k pointers slots (causes.Conflict at expected seen) v u w walk keeps words later can only h =
+finds_refuses k pointers slots (causes.Conflict at expected seen) v u w walk keeps words later can only led h =
     elim h [
       | inl p ↦ inl (pointer_back k pointers at expected seen v u w walk keeps words p)
       | inr r ↦ inr (record_back k slots at expected seen v u w walk.since later can only r)
     ]
-finds_refuses k pointers slots (causes.Full held) v u w walk keeps words later can only h = absurd h
-finds_refuses k pointers slots (causes.Wide set) v u w walk keeps words later can only h = h
-finds_refuses k pointers slots (causes.NumberLimit clock) v u w walk keeps words later can only h = absurd h
+finds_refuses k pointers slots (causes.Full held) v u w walk keeps words later can only led h = absurd h
+finds_refuses k pointers slots (causes.Wide sets.Reads) v u w walk keeps words later can only led h = absurd h
+finds_refuses k pointers slots (causes.Wide sets.Writes) v u w walk keeps words later can only led h = absurd h
+finds_refuses k pointers slots (causes.Wide sets.Pointers) v u w walk keeps words later can only led h =
+    (h.0, h.1, led_then k v u w later led h.2)
+finds_refuses k pointers slots (causes.Wide sets.Holds) v u w walk keeps words later can only led h =
+    (h.0, h.1, led_then k v u w later led h.2)
+finds_refuses k pointers slots (causes.NumberLimit clock) v u w walk keeps words later can only led h = absurd h
 
 -- what was found from a view on was found from an earlier one on
 pub finds_back : (b bound less few : ℕ) (k : Key) (pointers : List Seen) (slots : List ℕ)
     (r : Result Found RefusalCause)
     (v u w : View) → w.steps ≤ v.steps + bound → less ≤ few → HasWalked v u → OnlyMet v u → KeepsMet pointers v u
-    → u.seat.kept ≡ v.seat.kept → KeepsWords v u → OnlyWaysTo k v u → AreLed v u
+    → u.seat.kept ≡ v.seat.kept → KeepsWords v u → OnlyWaysTo k v u → AreLedTo k v u
     → FindsSo b less k pointers slots r u w → FindsSo bound few k pointers slots r v w
 finds_back b bound less few k pointers slots (Ok f) v u w most more walk only keeps kept words ways led h = record {
   can = h.can;
@@ -198,7 +207,7 @@ finds_back b bound less few k pointers slots (Ok f) v u w most more walk only ke
   most = most;
   grows = let first = h.grows in omega (arith, first, more);
   only = ways_to_then k v u w ways h.only;
-  led = led_then v u w h.walked led h.led;
+  led = led_then k v u w h.walked led h.led;
   keeps = keeps_then pointers v u w walk keeps h.keeps;
   found = found_back k pointers f v u w walk h.walked only kept words h.found;
   cause = tt;
@@ -212,7 +221,7 @@ finds_back b bound less few k pointers slots (Err why) v u w most more walk only
   led = tt;
   keeps = tt;
   found = tt;
-  cause = finds_refuses k pointers slots why v u w walk keeps words h.walked h.can only h.cause;
+  cause = finds_refuses k pointers slots why v u w walk keeps words h.walked h.can only led h.cause;
 }
 
 walk_refuses : (k : Key) (pointers : List Seen) (slots : List ℕ) (why : RefusalCause) (v w : View)
@@ -225,18 +234,18 @@ walk_refuses k pointers slots (causes.NumberLimit clock) v w h = absurd h
 -- the pointer was refused
 pub finds_none : (bound less few : ℕ) (k : Key) (pointers : List Seen) (slots : List ℕ) (place : At) (span : Span)
     (at : ℕ)
-    (why : RefusalCause) (v w : View) → w.steps ≤ v.steps + bound → less ≤ few → in_span span k ≡ true
+    (why : RefusalCause) (v w : View) → w.steps ≤ v.steps + bound → less ≤ few → IsOnto v.layout span at k
     → ReachesSo less pointers slots place span at (Err why) v w → FindsSo bound few k pointers slots (Err why) v w
-finds_none bound less few k pointers slots place span at why v w most more over h = record {
+finds_none bound less few k pointers slots place span at why v w most more onto h = record {
   can = h.can;
   walked = h.walked;
   most = most;
   grows = let first = h.grows in omega (arith, first, more);
-  only = ways_to k span v w over h.only;
+  only = ways_to k span v w onto.over h.only;
   led = tt;
   keeps = tt;
   found = tt;
-  cause = walk_refuses k pointers slots why v w (h.cause k over);
+  cause = walk_refuses k pointers slots why v w (h.cause k onto);
 }
 
 -- ---- below a pointer
@@ -264,16 +273,17 @@ same_value c d (inl same) = ap (λ (z : Content). z.value) same
 same_value c d (inr none) = none.0 ∙ sym none.1
 
 is_below : (k : Key) (c : Content) (pointers : List Seen) (p : Seen) (place : At) (span : Span) (n : ℕ) (v u w : View)
-    → HasGlanced u w → p.word ≡ n → IsPointerAt w place span p.at → p.at < words_of w.layout → in_span span k ≡ true
-    → OnlyMet v w
+    → HasGlanced u w → p.word ≡ n → IsArrayPointerAt w place span p.at → p.at < words_of w.layout
+    → IsOnto w.layout span p.at k → OnlyMet v w
     → LeavesMemory place span p.at n v u → content_below u.pages span n k ≡ c → MeetsSo pointers p.at n
     → IsFoundBelow k c pointers p v w
-is_below k c pointers p place span n v u w g word is within over only leaves content met = record {
+is_below k c pointers p place span n v u w g word is within onto only leaves content met = record {
   place = place;
   span = span;
   is = is;
   within = within;
-  over = over;
+  over = onto.over;
+  on = onto.on;
   bare = subst (λ i. i < 2 ^ 32) (sym word) leaves.bare;
   part = leaves.part;
   of = part_stays u w place span p.word leaves.part
@@ -294,12 +304,12 @@ is_below k c pointers p place span n v u w g word is within over only leaves con
       subst (λ (y : View). StandsFor y.layout.decls y.pages span p.word) (sym g.is)
       (subst (λ (i : ℕ). StandsFor u.layout.decls u.pages span i) (sym word)
       (leaves.stands (subst (λ (i : ℕ). 0 < i) word some)));
-  covered = leaves.covered k over;
-  has = leaves.has k over ∙ content;
+  covered = leaves.covered k onto.over;
+  has = leaves.has k onto.over ∙ content;
   last =
-      ap (λ (z : Content). z.value) (sym (leaves.has k over ∙ content))
+      ap (λ (z : Content). z.value) (sym (leaves.has k onto.over ∙ content))
       ∙ (same_value (found leaves.part k) (last_write v.layout.opening u.history u.decided k)
-      (leaves.last k (leaves.covered k over))
+      (leaves.last k (leaves.covered k onto.over))
       ∙ (ap (λ (l : List Attempt). (last_write v.layout.opening l u.decided k).value)
       (sym (ap (λ (y : View). y.history) g.is))
       ∙ ap (λ (l : List Number). (last_write v.layout.opening w.history l k).value)
@@ -312,34 +322,34 @@ is_below k c pointers p place span n v u w g word is within over only leaves con
 }
 
 by_content : (k : Key) (pointers : List Seen) (p : Seen) (place : At) (span : Span) (n number value : ℕ) (r : Found)
-    (v u w : View) → HasGlanced u w → p.word ≡ n → IsPointerAt w place span p.at → p.at < words_of w.layout
-    → in_span span k ≡ true → OnlyMet v w → LeavesMemory place span p.at n v u
+    (v u w : View) → HasGlanced u w → p.word ≡ n → IsArrayPointerAt w place span p.at → p.at < words_of w.layout
+    → IsOnto w.layout span p.at k → OnlyMet v w → LeavesMemory place span p.at n v u
     → array_found number value ≡ find array_format u.pages deepest k.key (place_for span n) → MeetsSo pointers p.at n
     → IsContentBelow p number value r → IsFound k pointers r v w
-by_content k pointers p place span n number value (places.Volatile at word loaded) v u w g same is within over
+by_content k pointers p place span n number value (places.Volatile at word loaded) v u w g same is within onto
     only leaves finds met c =
     absurd c
 by_content k pointers p place span n number value (places.Snapshot loaded word pointer) v u w g same is within
-    over only leaves finds met c =
+    onto only leaves finds met c =
     subst (λ (q : Seen). IsFound k pointers (places.Snapshot loaded word q) v w) (sym c.0)
     (is_below k (record { number = number_in word; value = Some loaded }) pointers p place span n v u w g same is within
-    over only
+    onto only
     leaves (ap found_content (sym finds ∙ c.1)) met)
-by_content k pointers p place span n number value (places.Zero pointer) v u w g same is within over only leaves
+by_content k pointers p place span n number value (places.Zero pointer) v u w g same is within onto only leaves
     finds met c =
     subst (λ (q : Seen). IsFound k pointers (places.Zero q) v w) (sym c.0)
-    (is_below k nothing pointers p place span n v u w g same is within over only leaves
+    (is_below k nothing pointers p place span n v u w g same is within onto only leaves
     (ap found_content (sym finds ∙ c.1)) met)
 
 -- the record was found in the snapshot's pages, or in none
 pub finds_below : (bound less few : ℕ) (k : Key) (pointers : List Seen) (slots : List ℕ) (place : At) (span : Span)
     (at n number value : ℕ) (r : Found) (v u w : View) → w.steps ≤ v.steps + bound → less ≤ few
-    → IsPointerAt v place span at
+    → IsArrayPointerAt v place span at
     → at < words_of v.layout → ReachesSo less pointers slots place span at (Ok (ends.Page n)) v u → HasGlanced u w
-    → in_span span k ≡ true
+    → IsOnto v.layout span at k
     → array_found number value ≡ find array_format u.pages deepest k.key (place_for span n)
     → IsContentBelow (record { at = at; word = n }) number value r → FindsSo bound few k pointers slots (Ok r) v w
-finds_below bound less few k pointers slots place span at n number value r v u w most more p word h g over finds c =
+finds_below bound less few k pointers slots place span at n number value r v u w most more p word h g onto finds c =
     let walk = walked_glanced u w g in
     let all = walked_then v u w h.walked walk in
     let reads : (a : ℕ) → seen_at w.reads a ≡ seen_at u.reads a = λ a. ap (λ (z : View). seen_at z.reads a) g.is in
@@ -349,12 +359,13 @@ finds_below bound less few k pointers slots place span at n number value r v u w
       walked = all;
       most = most;
       grows = let first = h.grows in omega (arith, first, more);
-      only = ways_same k v u w (ap (λ (z : View). z.ways) g.is) (ways_to k span v u over h.only);
-      led = led_by v u w (ap (λ (z : View). z.grip) g.is) walk.ways h.led;
+      only = ways_same k v u w (ap (λ (z : View). z.ways) g.is) (ways_to k span v u onto.over h.only);
+      led = led_by k v u w (ap (λ (z : View). z.grip) g.is) walk.ways (led_over k span v u onto.over h.led);
       keeps = keeps_then pointers v u w h.walked h.keeps (λ a word has q seen. reads a ∙ seen);
       found = by_content k pointers (record { at = at; word = n }) place span n number value r v u w g refl
           (place_stays v w place span at all p)
-          (subst (λ (y : Layout). at < words_of y) (sym (layout_stays v w all)) word) over
+          (subst (λ (y : Layout). at < words_of y) (sym (layout_stays v w all)) word)
+          (onto_stays v w span at k all onto)
           (only_then v u w walk h.others (λ a. inl (reads a))) h.reached.0 finds h.reached.1 c;
       cause = tt;
     }
@@ -397,7 +408,7 @@ read_refuses k pointers slots (causes.NumberLimit clock) v u w since later can o
 pub finds_read : (bound few : ℕ) (k : Key) (pointers : List Seen) (slots : List ℕ) (r : Result Found RefusalCause)
     (v u w : View) → w.steps ≤ v.steps + bound → length slots ≤ few → HasWalked v u → CanWalk slots u → OnlyMet v u
     → KeepsMet pointers v u → u.seat.kept ≡ v.seat.kept → KeepsWords v u
-    → OnlyWaysTo k v u → AreLed v u → ReadsSo k r u w → FindsSo bound few k pointers slots r v w
+    → OnlyWaysTo k v u → AreLedTo k v u → ReadsSo k r u w → FindsSo bound few k pointers slots r v w
 finds_read bound few k pointers slots (Ok (places.Volatile at word value)) v u w most grows walk can only keeps
     kept words ways led h =
     let late = can_after slots u w h.walked h.grip (subst WaysAgree (sym h.ways) can.agree) can in record {
@@ -406,7 +417,7 @@ finds_read bound few k pointers slots (Ok (places.Volatile at word value)) v u w
       most = most;
       grows = grows;
       only = ways_same k v u w h.ways ways;
-      led = led_by v u w h.grip h.walked.ways led;
+      led = led_by k v u w h.grip h.walked.ways led;
       keeps = keeps_then pointers v u w walk keeps
           (keeps_record k pointers slots at word value u w h.walked late h.read h.met);
       found = found_back k pointers (places.Volatile at word value) v u w walk h.walked only kept words h.read;
@@ -429,6 +440,13 @@ finds_read bound few k pointers slots (Err why) v u w most grows walk can only k
       found = tt;
       cause = read_refuses k pointers slots why v u w walk.since h.walked late only h.cause;
     }
+
+-- with its page held, nothing is met but the record
+pub reads_find : (k : Key) (pointers : List Seen) (slots : List ℕ) (r : Result Found RefusalCause) (v w : View)
+    → CanWalk slots v → ReadsSo k r v w → FindsSo 3 (length slots) k pointers slots r v w
+reads_find k pointers slots r v w can h =
+    finds_read 3 (length slots) k pointers slots r v v w h.most (omega arith) (walked_self v) can (only_self v)
+    (keeps_self pointers v) refl (λ a. refl) (λ x has. inl has) (led_self k v) h
 
 -- what was found by so many steps was found by more
 pub finds_within : (b bound less few : ℕ) (k : Key) (pointers : List Seen) (slots : List ℕ)

@@ -18,11 +18,13 @@ use Rattle.engine_pages.specs.declared.view.Copied.{Copied}
 use Rattle.engine_pages.specs.declared.view.RefusalCause.{RefusalCause}
 use Rattle.engine_pages.specs.declared.view.RefusalCause.TheVariants as causes
 use Rattle.engine_pages.specs.declared.view.SetName.TheVariants as sets
+use Rattle.engine_pages.specs.declared.view.NewInner.{NewInner}
+use Rattle.engine_pages.specs.declared.view.NewLeaf.{NewLeaf}
 use Rattle.engine_pages.specs.declared.view.View.{View}
 use Rattle.engine_pages.specs.declared.view.Way.{Way}
 use Rattle.engine_pages.specs.Pages.{is_array}
-use Rattle.engine_pages.specs.Pointers.{IsPointerAt, WaysAgree, page_half, ways_if}
-use Rattle.engine_pages.specs.Slots.{entered, other_copies, retired}
+use Rattle.engine_pages.specs.Pointers.{IsArrayPointerAt, WaysAgree, page_half, ways_if, any_pointer}
+use Rattle.engine_pages.specs.Slots.{entered, other_copies, other_inners, other_leaves, retired}
 use Rattle.engine_pages.specs.Slots.{MayRetire}
 use Rattle.engine_pages.specs.Steps.{kept_at, read_at, seen_at}
 use Rattle.dual_pointer.specs.Installs.{installed, leading_word, CanInstall, HasInstalled}
@@ -42,7 +44,7 @@ use Rattle.array_pages.proofs.CopyLaws.{missed_most, missed_walks}
 
 -- the holds are full
 pub install_wide : (slots : List ℕ) (place : At) (at word : ℕ) (span : Span) (v : View) → CanMake slots v
-    → IsPointerAt v place span at → IsBareAt word span at v → length slots ≡ 128
+    → IsArrayPointerAt v place span at → IsBareAt word span at v → length slots ≡ 128
     → InstallsSo (length slots + 1) slots at word span (Err (causes.Wide sets.Holds)) v v
 install_wide slots place at word span v can p bare full = record {
   can = can;
@@ -65,6 +67,7 @@ install_wide slots place at word span v can p bare full = record {
       saw = bare.met;
       unheld = λ more. let less = bare.bare in absurd (omega (arith, less, more));
     },
+    led_none span v v refl,
   );
 }
 
@@ -80,6 +83,9 @@ make_after slots late v w walk can m = record {
   drafts = ap (λ (z : View). z.drafts) walk.is ∙ m.drafts;
   copies = ap (λ (z : View). z.copies) walk.is ∙ m.copies;
   blanks = ap (λ (z : View). z.blanks) walk.is ∙ m.blanks;
+  leaves = ap (λ (z : View). z.new_leaves) walk.is ∙ m.leaves;
+  inners = ap (λ (z : View). z.new_inners) walk.is ∙ m.inners;
+  heads = ap (λ (z : View). z.heads) walk.is ∙ m.heads;
 }
 
 -- no slot was given
@@ -108,7 +114,7 @@ install_none slots at word span why v w can h =
     by_cause : (why : RefusalCause) → RefusesGive why v w → RefusesInstall slots span at word why v w
     by_cause (causes.Conflict other expected seen) h = inr h
     by_cause (causes.Full held) h =
-        (h, led_none v w (ap (λ (z : View). z.grip) (missed_walks (causes.Full held) v w h).1))
+        (h, led_none span v w (ap (λ (z : View). z.grip) (missed_walks (causes.Full held) v w h).1))
     by_cause (causes.Wide set) h = absurd h
     by_cause (causes.NumberLimit clock) h = absurd h
 
@@ -122,28 +128,44 @@ no_copy t span n = ap (λ (b : Bool). cond (not b) (copy_of t span n ∷ []) [])
 without_none : (l : List ℕ) (t : ℕ) → l ≡ [] → without l t ≡ l
 without_none l t none = subst (λ (z : List ℕ). without z t ≡ z) (sym none) refl
 
+no_leaf : (l : List NewLeaf) (t : ℕ) → l ≡ [] → other_leaves t l ≡ l
+no_leaf l t none = subst (λ (z : List NewLeaf). other_leaves t z ≡ z) (sym none) refl
+
+no_inner : (l : List NewInner) (t : ℕ) → l ≡ [] → other_inners t l ≡ l
+no_inner l t none = subst (λ (z : List NewInner). other_inners t z ≡ z) (sym none) refl
+
 -- the view v with what z has of a walk, and these lists
-abbrev end_view : List ℕ → List ℕ → List Copied → List ℕ → View → View → View
-end_view made taken copies blanks v z = record (as_walked v z) {
+abbrev end_view : List ℕ → List ℕ → List Copied → List ℕ → List NewLeaf → List NewInner → View → View → View
+end_view made taken copies blanks leaves inners v z = record (as_walked v z) {
   grip = record v.grip { holds = z.grip.holds; made = made; taken = taken };
   copies = copies;
   blanks = blanks;
+  new_leaves = leaves;
+  new_inners = inners;
 }
 
 -- with nothing left of the slot it is a walk
 ends_walk : (slots : List ℕ) (t : ℕ) (span : Span) (n : ℕ) (v z : View) → CanMake slots v
-    → end_view (without (t ∷ []) t) v.grip.taken (other_copies t (copy_of t span n ∷ [])) (without v.blanks t) v z
+    → end_view (without (t ∷ []) t) v.grip.taken (other_copies t (copy_of t span n ∷ [])) (without v.blanks t)
+    (other_leaves t v.new_leaves) (other_inners t v.new_inners) v z
     ≡ as_walked v z
 ends_walk slots t span n v z can =
-    ap (λ (l : List ℕ). end_view l v.grip.taken (other_copies t (copy_of t span n ∷ [])) (without v.blanks t) v z)
+    let leaves : List NewLeaf = other_leaves t v.new_leaves in
+    let inners : List NewInner = other_inners t v.new_inners in
+    ap (λ (l : List ℕ). end_view l v.grip.taken (other_copies t (copy_of t span n ∷ [])) (without v.blanks t) leaves inners v z)
     (without_one t ∙ sym can.made)
-    ∙ (ap (λ (l : List Copied). end_view v.grip.made v.grip.taken l (without v.blanks t) v z)
+    ∙ (ap (λ (l : List Copied). end_view v.grip.made v.grip.taken l (without v.blanks t) leaves inners v z)
     (no_copy t span n ∙ sym can.copies)
-    ∙ ap (λ (l : List ℕ). end_view v.grip.made v.grip.taken v.copies l v z) (without_none v.blanks t can.blanks))
+    ∙ (ap (λ (l : List ℕ). end_view v.grip.made v.grip.taken v.copies l leaves inners v z)
+    (without_none v.blanks t can.blanks)
+    ∙ (ap (λ (l : List NewLeaf). end_view v.grip.made v.grip.taken v.copies v.blanks l inners v z)
+    (no_leaf v.new_leaves t can.leaves)
+    ∙ ap (λ (l : List NewInner). end_view v.grip.made v.grip.taken v.copies v.blanks v.new_leaves l v z)
+    (no_inner v.new_inners t can.inners))))
 
 -- the pass holds the slot, whose page it published as a copy
 module _ (slots : List ℕ) (place : At) (span : Span) (at word t : ℕ) (v c d : View) (can : CanMake slots v)
-    (p : IsPointerAt v place span at) (bare : IsBareAt word span at v) (h : HasPublished t span word v c)
+    (p : IsArrayPointerAt v place span at) (bare : IsBareAt word span at v) (h : HasPublished t span word v c)
     (enters : d ≡ entered t c) where
   -- the view then
   abbrev held_view : View
@@ -155,7 +177,7 @@ module _ (slots : List ℕ) (place : At) (span : Span) (at word t : ℕ) (v c d 
   holds_held : d.grip.holds ≡ t ∷ v.grip.holds
   holds_held = ap (λ (z : View). z.grip.holds) is_held
 
-  place_held : IsPointerAt d place span at
+  place_held : IsArrayPointerAt d place span at
   place_held =
       place_grows v d place span at (ap (λ (z : View). z.layout) is_held)
       (λ x has. subst (λ (z : View). Contains z.ways x) (sym is_held) has) p
@@ -165,14 +187,16 @@ module _ (slots : List ℕ) (place : At) (span : Span) (at word t : ℕ) (v c d 
       → CanInstall d place span at t word
   can_install leaf array kind =
       let height = by_kind leaf kind in record {
-        place = place_held;
+        place = any_pointer d place span at place_held;
         free = bare.bare;
-        copied = subst (λ (z : View). Contains z.copies (copy_of t span (page_half word))) (sym is_held)
-            (subst (λ i. Contains (copy_of t span word ∷ []) (copy_of t span i)) whole
-            (in_head (copy_of t span word) []));
-        array = subst (λ (z : View). is_array z.layout.decls span.storage ≡ true) (sym is_held) array;
-        height = height.0;
-        exact = height.1;
+        page = inl record {
+          copied = subst (λ (z : View). Contains z.copies (copy_of t span (page_half word))) (sym is_held)
+              (subst (λ i. Contains (copy_of t span word ∷ []) (copy_of t span i)) whole
+              (in_head (copy_of t span word) []));
+          array = subst (λ (z : View). is_array z.layout.decls span.storage ≡ true) (sym is_held) array;
+          height = height.0;
+          exact = height.1;
+        };
         worker = λ keeper. can.worker (ap (λ (z : View). z.role) (sym is_held) ∙ keeper);
         idle = ap (λ (z : View). z.seat.stage) is_held ∙ can.idle;
         unlocked = ap (λ (z : View). z.seat.locks) is_held ∙ can.unlocked;
@@ -266,7 +290,8 @@ module _ (slots : List ℕ) (place : At) (span : Span) (at word t : ℕ) (v c d 
       let formed : f ≡ as_walked v (retired t (read_at at n held_view)) =
       is
       ∙ (ap (λ (l : List ℕ). end_view (without (t ∷ []) t) l (other_copies t (copy_of t span word ∷ []))
-      (without v.blanks t) v (retired t (read_at at n held_view))) (without_none v.grip.taken t can.taken)
+      (without v.blanks t) (other_leaves t v.new_leaves) (other_inners t v.new_inners) v
+      (retired t (read_at at n held_view))) (without_none v.grip.taken t can.taken)
       ∙ ends_walk slots t span word v (retired t (read_at at n held_view)) can) in
       let walk : HasWalked v f = subst (HasWalked v) (sym formed) record {
         since = let later = h.since in omega (arith, later);

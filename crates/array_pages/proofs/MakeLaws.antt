@@ -21,7 +21,7 @@ use Rattle.engine_pages.specs.declared.view.RefusalCause.TheVariants as causes
 use Rattle.engine_pages.specs.declared.view.SetName.{SetName}
 use Rattle.engine_pages.specs.declared.view.SetName.TheVariants as sets
 use Rattle.engine_pages.specs.declared.view.View.{View}
-use Rattle.engine_pages.specs.Pointers.{IsPointerAt, HasFollowed, StandsFor, leads_more, page_half}
+use Rattle.engine_pages.specs.Pointers.{IsArrayPointerAt, HasFollowed, StandsFor, leads_more, page_half}
 use Rattle.engine_pages.specs.Steps.{seen_at}
 use Rattle.array_pages.specs.declared.making.Settled.{Settled}
 use Rattle.array_pages.specs.Making.{CanMake, HasRecordAt}
@@ -29,12 +29,13 @@ use Rattle.array_pages.specs.Making.{IsMadeWide, RefusesMake}
 use Rattle.array_pages.specs.Steps.{ChecksSo, HoldsSo, InstallsSo, IsBareAt, IsMetAs}
 use Rattle.array_pages.specs.Steps.{IsMetElse, MakesSo, RefusesInstall, SettlesSo}
 use Rattle.array_pages.specs.Walks.{CanWalk, HasWalked, IsPointersWord, IsPointerChanged, KeepsBut, KeepsMet}
-use Rattle.array_pages.specs.Walks.{AreLed, KeepsWords, OnlyMet, OnlyWaysTo, RefusesPointer}
+use Rattle.array_pages.specs.Walks.{AreLedTo, IsOnto, KeepsWords, OnlyMet, OnlyWaysTo, RefusesPointer}
 use Rattle.array_pages.proofs.WalkLaws.{IsFollowed, IsLoaded, can_after, changed_since}
 use Rattle.array_pages.proofs.WalkLaws.{hold_refuses, is_followed, keeps_but, keeps_then, layout_stays, met_refuses}
 use Rattle.array_pages.proofs.WalkLaws.{only_but, only_loaded, only_then, place_stays, record_stays}
 use Rattle.array_pages.proofs.WalkLaws.{shut_or_other, since_changes, walked_self, walked_then}
-use Rattle.array_pages.proofs.WalkLaws.{led_none, led_since, led_then, ways_then, ways_to, ways_to_then}
+use Rattle.array_pages.proofs.WalkLaws.{led_none, led_over, led_since, led_then, onto_stays, ways_then, ways_to}
+use Rattle.array_pages.proofs.WalkLaws.{ways_to_then}
 use Rattle.array_pages.proofs.WalkLaws.{word_loaded, word_stays}
 use Rattle.array_pages.proofs.InstallLaws.{make_after}
 
@@ -57,37 +58,43 @@ walk_cause k pointers slots (causes.Wide sets.Holds) v w h = (
     unshut = h.1.unshut;
     unheld = λ some. h.1.unheld;
   },
+  h.2,
 )
 walk_cause k pointers slots (causes.NumberLimit clock) v w h = absurd h
 
 install_cause : (k : Key) (pointers : List Seen) (met : Bool) (slots : List ℕ) (span : Span) (at word : ℕ)
-    (why : RefusalCause) (v u w : View) → in_span span k ≡ true → HasWalked v u → u.grip ≡ v.grip
+    (why : RefusalCause) (v u w : View) → IsOnto w.layout span at k → HasWalked v u → u.grip ≡ v.grip
     → IsMetAs pointers at word met → RefusesInstall slots span at word why u w → RefusesMake k pointers slots why v w
-install_cause k pointers met slots span at word (causes.Conflict other expected seen) v u w over walk grip set_is h =
+install_cause k pointers met slots span at word (causes.Conflict other expected seen) v u w onto walk grip set_is h =
     elim h [
       | inl changed ↦
           inl (subst (λ j. IsPointerChanged k pointers j expected seen v w) (sym changed.0)
           (subst (λ i. IsPointerChanged k pointers at i seen v w) (sym changed.1)
-          (since_changes k pointers met span at word seen v u w over walk.since set_is changed.2)))
+          (since_changes k pointers met span at word seen v u w onto walk.since set_is changed.2)))
       | inr slot ↦ inr (u, walk, slot)
     ]
-install_cause k pointers met slots span at word (causes.Full held) v u w over walk grip set_is h =
-    record { before = u; walked = walk; full = h.0; led = led_since v u w grip h.1 }
-install_cause k pointers met slots span at word (causes.Wide set) v u w over walk grip set_is h =
+install_cause k pointers met slots span at word (causes.Full held) v u w onto walk grip set_is h = record {
+  before = u;
+  walked = walk;
+  full = h.0;
+  led = led_over k span v w onto.over (led_since span v u w grip h.1);
+}
+install_cause k pointers met slots span at word (causes.Wide set) v u w onto walk grip set_is h =
     let bare = h.1 in
     let room = h.2 in
-    subst (λ (s : SetName). IsMadeWide k slots s w) (sym h.0) (
+    subst (λ (s : SetName). IsMadeWide k slots s v w) (sym h.0) (
       room.full,
       record {
         at = at;
         word = word;
-        on = record { place = room.place; span = span; is = room.is; over = over };
+        on = record { place = room.place; span = span; is = room.is; over = onto.over; on = onto.on };
         saw = room.saw;
         unshut = omega (arith, bare);
         unheld = room.unheld;
       },
+      led_over k span v w onto.over (led_since span v u w grip h.3),
     )
-install_cause k pointers met slots span at word (causes.NumberLimit clock) v u w over walk grip set_is h = absurd h
+install_cause k pointers met slots span at word (causes.NumberLimit clock) v u w onto walk grip set_is h = absurd h
 
 -- a page with a name, over these keys
 abbrev lead_with : Span → ℕ → ℕ → Lead
@@ -132,7 +139,7 @@ bare_at slots span at v n u can bare h =
     below a b less = grind (arith, nat_tests)
 
 module _ (pointers : List Seen) (slots : List ℕ) (place : At) (span : Span) (at n : ℕ) (v u : View)
-    (can : CanMake slots v) (p : IsPointerAt v place span at) (f : IsFollowed span at v n u) where
+    (can : CanMake slots v) (p : IsArrayPointerAt v place span at) (f : IsFollowed span at v n u) where
   abbrev l : IsLoaded span at v n u
   l = f.loaded
 
@@ -163,8 +170,8 @@ module _ (pointers : List Seen) (slots : List ℕ) (place : At) (span : Span) (a
     only = l.only;
     led = tt;
     settled = tt;
-    cause = λ k over. walk_cause k pointers slots why v u
-        (met_refuses pointers slots place span at why v n u l p h k over);
+    cause = λ k onto. walk_cause k pointers slots why v u
+        (met_refuses pointers slots place span at why v n u l p h k onto);
   }
 
   -- it is shut
@@ -184,7 +191,8 @@ module _ (pointers : List Seen) (slots : List ℕ) (place : At) (span : Span) (a
         only = ways_then span v u w l.only g.loaded.only;
         led = tt;
         settled = tt;
-        cause = λ k over. inl (since_changes k pointers met span at n again v u w over l.walked.since set_is
+        cause = λ k onto. inl (since_changes k pointers met span at n again v u w (onto_stays v w span at k walk onto)
+            l.walked.since set_is
             (changed_since place span at n u again w g.loaded q l.met (shut_or_other n again shut)));
       }
 
@@ -203,8 +211,9 @@ module _ (pointers : List Seen) (slots : List ℕ) (place : At) (span : Span) (a
         only = ways_then span v u w l.only h.only;
         led = tt;
         settled = tt;
-        cause = λ k over. walk_cause k pointers late why v w
-            (hold_refuses k pointers met late span at n why v u w over l.walked.since set_is h.cause);
+        cause = λ k onto. walk_cause k pointers late why v w
+            (hold_refuses k pointers met late span at n why v u w (onto_stays v w span at k walk onto) l.walked.since
+            l.grip set_is h.cause);
       }
 
   keeps_all : (w : View) → KeepsMet pointers v w → KeepsBut pointers false at v w
@@ -225,7 +234,7 @@ module _ (pointers : List Seen) (slots : List ℕ) (place : At) (span : Span) (a
         grows = h.grows;
         words = λ a. h.words a ∙ f.words a;
         only = ways_then span v u w l.only h.only;
-        led = led_since v u w l.grip h.led;
+        led = led_since span v u w l.grip h.led;
         settled = record {
           way = h.held.0;
           there = h.held.1;
@@ -251,7 +260,8 @@ module _ (pointers : List Seen) (slots : List ℕ) (place : At) (span : Span) (a
     only = ways_then span v u w l.only h.only;
     led = tt;
     settled = tt;
-    cause = λ k over. install_cause k pointers met late span at n why v u w over l.walked l.grip set_is h.cause;
+    cause = λ k onto. install_cause k pointers met late span at n why v u w
+        (onto_stays v w span at k (walked_then v u w l.walked h.walked) onto) l.walked l.grip set_is h.cause;
   }
 
   -- it was put in
@@ -268,7 +278,7 @@ module _ (pointers : List Seen) (slots : List ℕ) (place : At) (span : Span) (a
         grows = h.grows;
         words = λ a. h.words a ∙ f.words a;
         only = ways_then span v u w l.only h.only;
-        led = led_since v u w l.grip h.led;
+        led = led_since span v u w l.grip h.led;
         settled = record {
           way = h.held.0;
           there = h.held.1;
@@ -306,7 +316,7 @@ check_unmoved pointers span at v = record {
   cause = tt;
 }
 
-module _ (pointers : List Seen) (place : At) (span : Span) (at n : ℕ) (v u : View) (p : IsPointerAt v place span at)
+module _ (pointers : List Seen) (place : At) (span : Span) (at n : ℕ) (v u : View) (p : IsArrayPointerAt v place span at)
     (f : IsFollowed span at v n u) where
   check_can : (slots : List ℕ) → CanMake slots v → CanMake slots u
   check_can slots c =
@@ -328,8 +338,8 @@ module _ (pointers : List Seen) (place : At) (span : Span) (at n : ℕ) (v u : V
     grip = f.loaded.grip;
     others = check_others;
     same = tt;
-    cause = λ k over slots. walk_cause k pointers slots why v u
-        (met_refuses pointers slots place span at why v n u f.loaded p h k over);
+    cause = λ k onto slots. walk_cause k pointers slots why v u
+        (met_refuses pointers slots place span at why v n u f.loaded p h k onto);
   }
 
   pub check_same : (met : Bool) → IsMetAs pointers at n met → ChecksSo pointers span at true (Ok tt) v u
@@ -353,7 +363,7 @@ module _ (pointers : List Seen) (place : At) (span : Span) (at n : ℕ) (v u : V
 -- ---- the record
 
 make_back : (k : Key) (pointers : List Seen) (slots : List ℕ) (why : RefusalCause) (v u w : View) → HasWalked v u
-    → HasWalked u w → AreLed v u → KeepsWords v w → RefusesMake k pointers slots why u w
+    → HasWalked u w → AreLedTo k v u → KeepsWords v w → RefusesMake k pointers slots why u w
     → RefusesMake k pointers slots why v w
 make_back k pointers slots (causes.Conflict at expected seen) v u w walk later led words h =
     elim h [
@@ -378,26 +388,30 @@ make_back k pointers slots (causes.Full held) v u w walk later led words h = rec
   before = h.before;
   walked = walked_then v u h.before walk h.walked;
   full = h.full;
-  led = led_then v u w later led h.led;
+  led = led_then k v u w later led h.led;
 }
-make_back k pointers slots (causes.Wide set) v u w walk later led words h = h
+make_back k pointers slots (causes.Wide sets.Reads) v u w walk later led words h = absurd h
+make_back k pointers slots (causes.Wide sets.Writes) v u w walk later led words h = absurd h
+make_back k pointers slots (causes.Wide sets.Pointers) v u w walk later led words h = absurd h
+make_back k pointers slots (causes.Wide sets.Holds) v u w walk later led words h =
+    (h.0, h.1, led_then k v u w later led h.2)
 make_back k pointers slots (causes.NumberLimit clock) v u w walk later led words h = absurd h
 
 -- the page below the pointer wasn't made
 pub makes_none : (bound less few : ℕ) (k : Key) (pointers : List Seen) (slots : List ℕ) (span : Span) (at : ℕ)
-    (why : RefusalCause) (v w : View) → w.steps ≤ v.steps + bound → less ≤ few → in_span span k ≡ true
+    (why : RefusalCause) (v w : View) → w.steps ≤ v.steps + bound → less ≤ few → IsOnto v.layout span at k
     → SettlesSo less pointers slots span at (Err why) v w → MakesSo bound few k pointers slots (Err why) v w
-makes_none bound less few k pointers slots span at why v w most more over h = record {
+makes_none bound less few k pointers slots span at why v w most more onto h = record {
   can = h.can;
   walked = h.walked;
   kept = h.kept;
   most = most;
   grows = let first = h.grows in omega (arith, first, more);
   words = h.words;
-  only = ways_to k span v w over h.only;
+  only = ways_to k span v w onto.over h.only;
   led = tt;
   made = tt;
-  cause = h.cause k over;
+  cause = h.cause k onto;
 }
 
 -- what is below it wasn't
@@ -416,27 +430,29 @@ makes_less b bound low less few k pointers slots late span at s why v u w most m
   only = ways_to_then k v u w (ways_to k span v u over h.only) m.only;
   led = tt;
   made = tt;
-  cause = make_back k pointers late why v u w h.walked m.walked h.led (λ a. m.words a ∙ h.words a) m.cause;
+  cause = make_back k pointers late why v u w h.walked m.walked (led_over k span v u over h.led)
+      (λ a. m.words a ∙ h.words a) m.cause;
 }
 
 -- the pointer itself was moved
 pub makes_moved : (bound few : ℕ) (k : Key) (pointers : List Seen) (slots : List ℕ) (span : Span) (at : ℕ)
     (moved : Bool)
-    (why : RefusalCause) (v u w : View) → w.steps ≤ v.steps + bound → length slots ≤ few → in_span span k ≡ true
+    (why : RefusalCause) (v u w : View) → w.steps ≤ v.steps + bound → length slots ≤ few → IsOnto v.layout span at k
     → HasWalked v u → u.seat.kept ≡ v.seat.kept
-    → KeepsWords v u → OnlyWaysTo k v u → AreLed v u → CanMake slots u → ChecksSo pointers span at moved (Err why) u w
-    → MakesSo bound few k pointers slots (Err why) v w
-makes_moved bound few k pointers slots span at moved why v u w most grows over walk kept words ways led can c = record {
+    → KeepsWords v u → OnlyWaysTo k v u → AreLedTo k v u → CanMake slots u
+    → ChecksSo pointers span at moved (Err why) u w → MakesSo bound few k pointers slots (Err why) v w
+makes_moved bound few k pointers slots span at moved why v u w most grows onto walk kept words ways led can c = record {
   can = c.can slots can;
   walked = walked_then v u w walk c.walked;
   kept = c.kept ∙ kept;
   most = most;
   grows = grows;
   words = λ a. c.words a ∙ words a;
-  only = ways_to_then k v u w ways (ways_to k span u w over c.only);
+  only = ways_to_then k v u w ways (ways_to k span u w onto.over c.only);
   led = tt;
   made = tt;
-  cause = make_back k pointers slots why v u w walk c.walked led (λ a. c.words a ∙ words a) (c.cause k over slots);
+  cause = make_back k pointers slots why v u w walk c.walked led (λ a. c.words a ∙ words a)
+      (c.cause k (onto_stays v u span at k walk onto) slots);
 }
 
 -- what is known of the set's pointers behind the last look
@@ -470,7 +486,7 @@ only_checked pointers moved span at r v w p c =
 -- a leaf's record
 pub makes_leaf : (bound few : ℕ) (k : Key) (pointers : List Seen) (slots : List ℕ) (place : At) (span : Span)
     (at record_word : ℕ)
-    (s : Settled) (v u w : View) → w.steps ≤ v.steps + bound → in_span span k ≡ true → IsPointerAt v place span at
+    (s : Settled) (v u w : View) → w.steps ≤ v.steps + bound → in_span span k ≡ true → IsArrayPointerAt v place span at
     → SettlesSo few pointers slots span at (Ok s) v u → ChecksSo pointers span at s.moved (Ok tt) u w
     → HasRecordAt k record_word w → MakesSo bound few k pointers slots (Ok record_word) v w
 makes_leaf bound few k pointers slots place span at record_word s v u w most over p h c r =
@@ -486,7 +502,7 @@ makes_leaf bound few k pointers slots place span at record_word s v u w most ove
       grows = h.grows;
       words = λ a. c.words a ∙ h.words a;
       only = ways_to k span v w over (ways_then span v u w h.only c.only);
-      led = led_then v u w c.walked h.led (led_none u w c.grip);
+      led = led_then k v u w c.walked (led_over k span v u over h.led) (led_over k span u w over (led_none span u w c.grip));
       made = record {
         record_at = r;
         others = only_then v u w c.walked h.settled.others (only_checked pointers s.moved span at (Ok tt) u w q c);
@@ -499,7 +515,7 @@ makes_leaf bound few k pointers slots place span at record_word s v u w most ove
 pub makes_inner : (b bound low less few : ℕ) (k : Key) (pointers : List Seen) (slots late : List ℕ) (place : At)
     (span : Span) (at record_word : ℕ)
     (s : Settled) (v u t w : View) → w.steps ≤ v.steps + bound → less ≤ few → in_span span k ≡ true
-    → IsPointerAt v place span at
+    → IsArrayPointerAt v place span at
     → SettlesSo low pointers slots span at (Ok s) v u → MakesSo b less k pointers late (Ok record_word) u t
     → ChecksSo pointers span at s.moved (Ok tt) t w → MakesSo bound few k pointers late (Ok record_word) v w
 makes_inner b bound low less few k pointers slots late place span at record_word s v u t w most more over p h m c =
@@ -514,12 +530,14 @@ makes_inner b bound low less few k pointers slots late place span at record_word
       words = λ a. c.words a ∙ (m.words a ∙ h.words a);
       only = ways_to_then k v t w (ways_to_then k v u t (ways_to k span v u over h.only) m.only)
           (ways_to k span t w over c.only);
-      led = led_then v t w c.walked (led_then v u t m.walked h.led m.led) (led_none t w c.grip);
+      led = led_then k v t w c.walked (led_then k v u t m.walked (led_over k span v u over h.led) m.led)
+          (led_over k span t w over (led_none span t w c.grip));
       made = record {
         record_at = record {
           spot = m.made.record_at.spot;
           place = record_stays t w k m.made.record_at.spot record_word c.walked
               m.made.record_at.place;
+          index = m.made.record_at.index;
         };
         others = only_then v t w c.walked (only_then v u t m.walked h.settled.others m.made.others)
             (only_checked pointers s.moved span at (Ok tt) t w q c);

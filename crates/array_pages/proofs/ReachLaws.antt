@@ -18,7 +18,7 @@ use Rattle.engine_pages.specs.declared.view.RefusalCause.TheVariants as causes
 use Rattle.engine_pages.specs.declared.view.SetName.TheVariants as sets
 use Rattle.engine_pages.specs.declared.view.View.{View}
 use Rattle.engine_pages.specs.Pages.{is_array}
-use Rattle.engine_pages.specs.Pointers.{IsPointerAt, HasFollowed, WaysAgree, half_of, slot_half}
+use Rattle.engine_pages.specs.Pointers.{IsArrayPointerAt, HasFollowed, WaysAgree, half_of, slot_half}
 use Rattle.dual_pointer.specs.Parts.{saw_pointer, HasSeenPointer, SawPointer}
 use Rattle.array_pages.specs.declared.walk.Reached.TheVariants as ends
 use Rattle.array_pages.specs.Finding.{LeavesMemory}
@@ -30,7 +30,7 @@ use Rattle.array_pages.proofs.WalkLaws.{IsFollowed, IsLoaded, can_after, changed
 use Rattle.array_pages.proofs.WalkLaws.{keeps_but}
 use Rattle.array_pages.proofs.WalkLaws.{keeps_then, met_refuses, only_but, only_loaded, only_then, place_stays}
 use Rattle.array_pages.proofs.WalkLaws.{shut_or_other, since_changes}
-use Rattle.array_pages.proofs.WalkLaws.{led_none, led_since, walked_then, ways_then}
+use Rattle.array_pages.proofs.WalkLaws.{led_none, led_over, led_since, onto_stays, walked_then, ways_then}
 use Rattle.array_pages.proofs.WalkLaws.{pointer_walks, way_loaded, word_loaded, word_stays}
 
 pub below : (a b : ℕ) → a < b → nat_lt a b ≡ true
@@ -158,7 +158,7 @@ leaves_memory place span at v n u bare array h =
 -- ---- one pointer down
 
 module _ (pointers : List Seen) (slots : List ℕ) (place : At) (span : Span) (at n : ℕ) (v u : View)
-    (can : CanWalk slots v) (p : IsPointerAt v place span at) (l : IsLoaded span at v n u) where
+    (can : CanWalk slots v) (p : IsArrayPointerAt v place span at) (l : IsLoaded span at v n u) where
   can_first : CanWalk slots u
   can_first = can_after slots v u l.walked l.grip l.agree can
 
@@ -175,8 +175,8 @@ module _ (pointers : List Seen) (slots : List ℕ) (place : At) (span : Span) (a
     others = only_loaded place span at v n u l p;
     keeps = tt;
     reached = tt;
-    cause = λ k over. pointer_walks k pointers slots why v u
-        (met_refuses pointers slots place span at why v n u l p h k over);
+    cause = λ k onto. pointer_walks k pointers slots why v u
+        (met_refuses pointers slots place span at why v n u l p h k onto);
   }
 
   -- it is shut
@@ -184,9 +184,10 @@ module _ (pointers : List Seen) (slots : List ℕ) (place : At) (span : Span) (a
       → IsFollowed span at u again w → ReachesSo (length slots + 1) pointers slots place span at
       (Err (causes.Conflict at n again)) v w
   reach_shut met again w set_is shut f =
-      let q = place_stays v u place span at l.walked p in record {
+      let q = place_stays v u place span at l.walked p in
+      let walk = walked_then v u w l.walked f.loaded.walked in record {
         can = can_after slots u w f.loaded.walked f.loaded.grip f.loaded.agree can_first;
-        walked = walked_then v u w l.walked f.loaded.walked;
+        walked = walk;
         most = let one = l.most in let two = f.loaded.most in omega (arith, one, two);
         grows = omega arith;
         only = ways_then span v u w l.only f.loaded.only;
@@ -195,7 +196,8 @@ module _ (pointers : List Seen) (slots : List ℕ) (place : At) (span : Span) (a
             (only_loaded place span at u again w f.loaded q);
         keeps = tt;
         reached = tt;
-        cause = λ k over. since_changes k pointers met span at n again v u w over l.walked.since set_is
+        cause = λ k onto. since_changes k pointers met span at n again v u w (onto_stays v w span at k walk onto)
+            l.walked.since set_is
             (changed_since place span at n u again w f.loaded q l.met (shut_or_other n again shut));
       }
 
@@ -204,9 +206,10 @@ module _ (pointers : List Seen) (slots : List ℕ) (place : At) (span : Span) (a
       → HoldsSo (length slots + 1) late at n span (Err why) u w
       → ReachesSo (length slots + 1) pointers late place span at (Err why) v w
   reach_unheld met late why w set_is h =
-      let q = word_stays u w at h.walked (word_loaded place span at v n u l p) in record {
+      let q = word_stays u w at h.walked (word_loaded place span at v n u l p) in
+      let walk = walked_then v u w l.walked h.walked in record {
         can = h.can;
-        walked = walked_then v u w l.walked h.walked;
+        walked = walk;
         most = let one = l.most in let two = h.most in omega (arith, one, two);
         grows = h.grows;
         only = ways_then span v u w l.only h.only;
@@ -214,8 +217,9 @@ module _ (pointers : List Seen) (slots : List ℕ) (place : At) (span : Span) (a
         others = only_then v u w h.walked (only_loaded place span at v n u l p) (only_but at u w q h.others);
         keeps = tt;
         reached = tt;
-        cause = λ k over. pointer_walks k pointers late why v w
-            (hold_refuses k pointers met late span at n why v u w over l.walked.since set_is h.cause);
+        cause = λ k onto. pointer_walks k pointers late why v w
+            (hold_refuses k pointers met late span at n why v u w (onto_stays v w span at k walk onto) l.walked.since
+            l.grip set_is h.cause);
       }
 
   -- it is held
@@ -229,7 +233,7 @@ module _ (pointers : List Seen) (slots : List ℕ) (place : At) (span : Span) (a
         most = let one = l.most in let two = h.most in omega (arith, one, two);
         grows = h.grows;
         only = ways_then span v u w l.only h.only;
-        led = led_since v u w l.grip h.led;
+        led = led_since span v u w l.grip h.led;
         others = only_then v u w h.walked (only_loaded place span at v n u l p) (only_but at u w q h.others);
         keeps = keeps_then pointers v u w l.walked (keeps_but pointers met at n v u set_is l.met l.others)
             (keeps_but pointers met at n u w set_is h.still h.others);
@@ -250,16 +254,17 @@ module _ (pointers : List Seen) (slots : List ℕ) (place : At) (span : Span) (a
     others = only_loaded place span at v n u l p;
     keeps = tt;
     reached = tt;
-    cause = λ k over. (
+    cause = λ k onto. (
       full,
       record {
         at = at;
         word = n;
-        on = way_loaded k place span at v n u over l p;
+        on = way_loaded k place span at v n u onto l p;
         saw = l.met;
         bare = bare;
         absent = subst (λ (b : Bool). IsMetAs pointers at n b) none set_is;
       },
+      led_over k span v u onto.over (led_none span v u l.grip),
     );
   }
 
@@ -273,7 +278,7 @@ module _ (pointers : List Seen) (slots : List ℕ) (place : At) (span : Span) (a
     most = let one = l.most in omega (arith, one);
     grows = omega arith;
     only = l.only;
-    led = led_none v u l.grip;
+    led = led_none span v u l.grip;
     others = only_loaded place span at v n u l p;
     keeps = keeps_but pointers met at n v u set_is l.met l.others;
     reached = (leaves, by_met met set_is room);

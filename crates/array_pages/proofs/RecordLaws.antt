@@ -44,6 +44,9 @@ index_of k low even over =
 pub even_leaf : (k : Key) (low : ℕ) → low % 32 ≡ 0 → (low + (k.key - low) / 32 * 32) % 32 ≡ 0
 even_leaf k low even = omega (arith, even)
 
+pub even_whole : (low : ℕ) → low % 2048 ≡ 0 → low % 32 ≡ 0
+even_whole low whole = omega (arith, whole)
+
 pub even_middle : (k : Key) → (k.key / 2048 * 2048) % 32 ≡ 0
 even_middle k = omega arith
 

@@ -1,6 +1,6 @@
 -- The keys of pages on the way to a key, and where the words stand that lead there.
-use Rattle.std.proofs.Common.{◌≡◌, ℕ, ◌+◌, ◌-◌, ◌*◌, ◌/◌, ◌<◌, ◌≤◌, Bool, true, false, cond, List, length, refl, sym}
-use Rattle.std.proofs.Common.{ap, ◌∙◌, arith}
+use Rattle.std.proofs.Common.{◌≡◌, inl, inr, ℕ, ◌+◌, ◌-◌, ◌*◌, ◌/◌, ◌%◌, ◌<◌, ◌≤◌, Bool, true, false, cond, List, length}
+use Rattle.std.proofs.Common.{refl, sym, ap, ◌∙◌, arith}
 use Rattle.std.specs.Prelude.{nat_le, nat_lt}
 use Rattle.std.specs.List.{Contains}
 use Rattle.std.proofs.lemmas.Bool.Decides.{nat_tests}
@@ -8,14 +8,17 @@ use Rattle.serial_model.specs.declared.decl.Decl.{Decl}
 use Rattle.serial_model.specs.declared.key.Key.{Key}
 use Rattle.homes.specs.declared.places.At.TheVariants.{Root, In}
 use Rattle.homes.specs.declared.places.Span.{Span}
+use Rattle.homes.specs.Homes.{in_span}
+use Rattle.homes.specs.Laws.{in_span-from}
 use Rattle.snapshot_store.specs.Content.{last_index}
 use Rattle.engine_pages.specs.declared.layout.Layout.{Layout}
 use Rattle.engine_pages.specs.declared.view.View.{View}
 use Rattle.engine_pages.specs.Layout.{page_at, words_of}
 use Rattle.engine_pages.specs.Pages.{child_span, is_array, is_leaf_span, root_span}
-use Rattle.engine_pages.specs.Pointers.{IsPointerAt}
+use Rattle.engine_pages.specs.Pointers.{IsArrayPointerAt}
 use Rattle.engine_pages.specs.Records.{IsRecordAt}
 use Rattle.array_pages.specs.Spans.{keys_above, IsArrayAt, IsOver}
+use Rattle.array_pages.specs.Walks.{IsWayPlace}
 use Rattle.array_pages.proofs.DeclLaws.{root_at_span}
 
 below : (a b : ℕ) → a < b → nat_lt a b ≡ true
@@ -121,17 +124,43 @@ pub over_large : (k : Key) (size : ℕ) → k.key < size → size ≤ 131072 →
 over_large k size less few = record { from = omega arith; to = omega (arith, less, few) }
 
 pub root_pointer : (v : View) (root : ℕ) (span : Span) → root < length v.layout.decls
-    → root_span v.layout.decls root ≡ span → IsPointerAt v (Root root) span (10 + root)
+    → root_span v.layout.decls root ≡ span → IsArrayPointerAt v (Root root) span (10 + root)
 root_pointer v root span less is = (less, sym is, refl)
 
 pub root_word : (l : Layout) (root : ℕ) → root < 16 → 10 + root < words_of l
 root_word l root few = omega (arith, few)
 
+-- ---- on the way to the key
+
+pub over_in : (k : Key) (height low : ℕ) → IsOver k height low → in_span (keys_above k height low) k ≡ true
+over_in k height low over =
+    in_span-from (keys_above k height low) k refl over.from (let to = over.to in omega (arith, to))
+
+pub root_on : (l : Layout) (k : Key) (root : ℕ) (span : Span) → root < length l.decls → root_span l.decls root ≡ span
+    → in_span span k ≡ true → IsWayPlace l k (10 + root)
+root_on l k root span less is over =
+    record { stands = inl (root, less, ap (λ (s : Span). in_span s k) is ∙ over, refl) }
+
+pub leaf_on : (l : Layout) (k : Key) (t low at : ℕ) → t < l.slots → IsOver k 1 low → low % 2048 ≡ 0
+    → at ≡ page_at l.slots t ((k.key - low) / 32) → IsWayPlace l k at
+leaf_on l k t low at there over whole word =
+    let from = over.from in
+    let to : k.key < low + 2048 = over.to in
+    let part : (k.key - low) / 32 ≡ k.key % 2048 / 32 = omega (arith, from, to, whole) in
+    record { stands = inr (t, (k.key - low) / 32, there, inl part, word) }
+
+pub middle_on : (l : Layout) (k : Key) (t at : ℕ) → t < l.slots → at ≡ page_at l.slots t (k.key / 2048)
+    → IsWayPlace l k at
+middle_on l k t at there word = record { stands = inr (t, k.key / 2048, there, inr refl, word) }
+
+pub whole_middle : (k : Key) → k.key / 2048 * 2048 % 2048 ≡ 0
+whole_middle k = omega arith
+
 -- ---- in a page that is held
 
 pub child_pointer : (v : View) (sp child : Span) (t j at : ℕ) → Contains v.ways (record { slot = t; span = sp })
     → is_array v.layout.decls sp.storage ≡ true → is_leaf_span sp ≡ false → j < 64 → child_span sp j ≡ child
-    → at ≡ page_at v.layout.slots t j → IsPointerAt v (In (record { slot = t; index = j })) child at
+    → at ≡ page_at v.layout.slots t j → IsArrayPointerAt v (In (record { slot = t; index = j })) child at
 child_pointer v sp child t j at has kind inner less span word = record {
   way = record { slot = t; span = sp };
   has = has;

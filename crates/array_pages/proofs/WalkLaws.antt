@@ -39,7 +39,7 @@ use Rattle.engine_pages.specs.declared.view.View.{View}
 use Rattle.engine_pages.specs.declared.view.Way.{Way}
 use Rattle.engine_pages.specs.Layout.{page_at}
 use Rattle.engine_pages.specs.Pages.{is_array, root_span}
-use Rattle.engine_pages.specs.Pointers.{IsPointerAt, HasFollowed, WaysAgree, followed, half_of, is_open_word}
+use Rattle.engine_pages.specs.Pointers.{IsArrayPointerAt, HasFollowed, WaysAgree, followed, half_of, is_open_word}
 use Rattle.engine_pages.specs.Pointers.{leads_more, slot_half}
 use Rattle.engine_pages.specs.Pointers.{ways_if, ways_more}
 use Rattle.engine_pages.specs.Records.{IsRecordAt}
@@ -47,8 +47,8 @@ use Rattle.engine_pages.specs.Slots.{entered}
 use Rattle.engine_pages.specs.Steps.{kept_at, seen_at}
 use Rattle.engine_pages.specs.Views.{IsActive}
 use Rattle.array_pages.specs.Steps.{HoldsSo, IsChangedSince, IsLedTo, IsMetAs, IsMetElse, RefusesHold}
-use Rattle.array_pages.specs.Walks.{as_walked, AreLed, CanWalk, HasWalked, IsLastBetween, IsPointersWord}
-use Rattle.array_pages.specs.Walks.{IsPointerChanged}
+use Rattle.array_pages.specs.Walks.{as_walked, AreLedBy, AreLedTo, CanWalk, HasWalked, IsLastBetween, IsPointersWord}
+use Rattle.array_pages.specs.Walks.{IsOnto, IsPointerChanged, IsWayPlace}
 use Rattle.array_pages.specs.Walks.{IsHeldWide, IsWayWord, KeepsMet, KeepsWords, OnlyMet, OnlyWays, OnlyWaysTo}
 use Rattle.array_pages.specs.Walks.{RefusesPointer}
 use Rattle.array_pages.specs.Walks.{RefusesWalk, SawLast}
@@ -67,7 +67,7 @@ stage_stays v w walk = ap (λ (z : View). z.seat.stage) walk.is
 
 -- a pointer's place stays known as ways are added
 pub place_grows : (v w : View) (x : At) (span : Span) (at : ℕ) → w.layout ≡ v.layout
-    → ((z : Way) → Contains v.ways z → Contains w.ways z) → IsPointerAt v x span at → IsPointerAt w x span at
+    → ((z : Way) → Contains v.ways z → Contains w.ways z) → IsArrayPointerAt v x span at → IsArrayPointerAt w x span at
 place_grows v w (Root r) span at layout ways place =
     subst (λ (y : Layout). (r < length y.decls) × (span ≡ root_span y.decls r) × (at ≡ 10 + r)) (sym layout) place
 place_grows v w (In y) span at layout ways place = record {
@@ -81,8 +81,8 @@ place_grows v w (In y) span at layout ways place = record {
   word = place.word ∙ ap (λ (z : Layout). page_at z.slots y.slot y.index) (sym layout);
 }
 
-pub place_stays : (v w : View) (x : At) (span : Span) (at : ℕ) → HasWalked v w → IsPointerAt v x span at
-    → IsPointerAt w x span at
+pub place_stays : (v w : View) (x : At) (span : Span) (at : ℕ) → HasWalked v w → IsArrayPointerAt v x span at
+    → IsArrayPointerAt w x span at
 place_stays v w x span at walk place = place_grows v w x span at (layout_stays v w walk) walk.ways place
 
 pub word_stays : (v w : View) (at : ℕ) → HasWalked v w → IsPointersWord v at → IsPointersWord w at
@@ -91,6 +91,14 @@ word_stays v w at walk p = record {
   span = p.span;
   is = place_stays v w p.place p.span at walk p.is;
 }
+
+-- so does one on the way to a key
+pub on_stays : (v w : View) (k : Key) (at : ℕ) → HasWalked v w → IsWayPlace v.layout k at → IsWayPlace w.layout k at
+on_stays v w k at walk on = subst (λ (y : Layout). IsWayPlace y k at) (sym (layout_stays v w walk)) on
+
+pub onto_stays : (v w : View) (span : Span) (at : ℕ) (k : Key) → HasWalked v w → IsOnto v.layout span at k
+    → IsOnto w.layout span at k
+onto_stays v w span at k walk o = record { over = o.over; on = on_stays v w k at walk o.on }
 
 -- so does a record's
 pub record_stays : (v w : View) (k : Key) (x : Spot) (at : ℕ) → HasWalked v w → IsRecordAt v k x at
@@ -110,7 +118,7 @@ record_stays v w k x at walk place =
 
 -- a pointer's word is neither the word of a record nor its value
 pub pointer_apart : (v : View) (x : At) (span : Span) (a : ℕ) (k : Key) (y : Spot) (b : ℕ) → WaysAgree v.ways
-    → AreDecls v.layout.decls → IsPointerAt v x span a → IsRecordAt v k y b → (a ≢ b) × (a ≢ b + 1)
+    → AreDecls v.layout.decls → IsArrayPointerAt v x span a → IsRecordAt v k y b → (a ≢ b) × (a ≢ b + 1)
 pointer_apart v (Root r) span a k y b agree are p q =
     let few = are.few in
     let less = p.0 in
@@ -220,34 +228,42 @@ ways_same k v u w same only = λ x has. only x (subst (λ (l : List Way). Contai
 
 -- ---- ways into the slots that are held newly
 
--- of the same slots none is new
-pub led_none : (v w : View) → w.grip ≡ v.grip → AreLed v w
-led_none v w grip t now was =
-    absurd (true≢false (sym now ∙ (ap (λ (g : Grip). has_slot g.holds t) grip ∙ was)))
-
-pub led_since : (v u w : View) → u.grip ≡ v.grip → AreLed u w → AreLed v w
-led_since v u w grip led t now was = led t now (ap (λ (g : Grip). has_slot g.holds t) grip ∙ was)
-
-pub led_by : (v u w : View) → w.grip ≡ u.grip → ((x : Way) → Contains u.ways x → Contains w.ways x) → AreLed v u
-    → AreLed v w
-led_by v u w grip grows led t now was =
-    let m = led t (ap (λ (g : Grip). has_slot g.holds t) (sym grip) ∙ now) was in (m.0, grows m.0 m.1, m.2)
-
-pub led_then : (v u w : View) → HasWalked u w → AreLed v u → AreLed u w → AreLed v w
-led_then v u w walk first second t now was = by_test (has_slot u.grip.holds t) refl
-  where
-    by_test : (b : Bool) → has_slot u.grip.holds t ≡ b → (x : Way) × Contains w.ways x × (x.slot ≡ t)
-    by_test true mid = let m = first t mid was in (m.0, walk.ways m.0 m.1, m.2)
-    by_test false mid = second t now mid
-
 abbrev way_to : ℕ → Span → Way
 way_to t span = record { slot = t; span = span }
 
+-- of the same slots none is new
+pub led_none : (span : Span) (v w : View) → w.grip ≡ v.grip → AreLedBy span v w
+led_none span v w grip t now was =
+    absurd (true≢false (sym now ∙ (ap (λ (g : Grip). has_slot g.holds t) grip ∙ was)))
+
+pub led_since : (span : Span) (v u w : View) → u.grip ≡ v.grip → AreLedBy span u w → AreLedBy span v w
+led_since span v u w grip led t now was = led t now (ap (λ (g : Grip). has_slot g.holds t) grip ∙ was)
+
+pub led_self : (k : Key) (v : View) → AreLedTo k v v
+led_self k v t now was = absurd (true≢false (sym now ∙ was))
+
+-- over keys that the key is one of they are on the way to it
+pub led_over : (k : Key) (span : Span) (v w : View) → in_span span k ≡ true → AreLedBy span v w → AreLedTo k v w
+led_over k span v w over led t now was = (way_to t span, led t now was, refl, over)
+
+pub led_by : (k : Key) (v u w : View) → w.grip ≡ u.grip → ((x : Way) → Contains u.ways x → Contains w.ways x)
+    → AreLedTo k v u → AreLedTo k v w
+led_by k v u w grip grows led t now was =
+    let m = led t (ap (λ (g : Grip). has_slot g.holds t) (sym grip) ∙ now) was in (m.0, grows m.0 m.1, m.2, m.3)
+
+pub led_then : (k : Key) (v u w : View) → HasWalked u w → AreLedTo k v u → AreLedTo k u w → AreLedTo k v w
+led_then k v u w walk first second t now was = by_test (has_slot u.grip.holds t) refl
+  where
+    by_test : (b : Bool) → has_slot u.grip.holds t ≡ b
+        → (x : Way) × Contains w.ways x × (x.slot ≡ t) × (in_span x.span k ≡ true)
+    by_test true mid = let m = first t mid was in (m.0, walk.ways m.0 m.1, m.2, m.3)
+    by_test false mid = second t now mid
+
 -- of one slot more, this one is
 pub led_new : (t : ℕ) (span : Span) (v w : View) → w.grip.holds ≡ t ∷ v.grip.holds
-    → Contains w.ways (record { slot = t; span = span }) → AreLed v w
+    → Contains w.ways (record { slot = t; span = span }) → AreLedBy span v w
 led_new t span v w holds way q now was =
-    (way_to t span, way, here (ap (λ (l : List ℕ). has_slot l q) (sym holds) ∙ now))
+    subst (λ (i : ℕ). Contains w.ways (way_to i span)) (here (ap (λ (l : List ℕ). has_slot l q) (sym holds) ∙ now)) way
   where
     here : has_slot (t ∷ v.grip.holds) q ≡ true → t ≡ q
     here either = elim (or_cases (eqb t q) (has_slot v.grip.holds q) either) [
@@ -355,8 +371,8 @@ walked_entered t v = record {
   is = refl;
 }
 
-pub place_entered : (t : ℕ) (v w : View) (x : At) (span : Span) (at : ℕ) → w ≡ entered t v → IsPointerAt v x span at
-    → IsPointerAt w x span at
+pub place_entered : (t : ℕ) (v w : View) (x : At) (span : Span) (at : ℕ) → w ≡ entered t v → IsArrayPointerAt v x span at
+    → IsArrayPointerAt w x span at
 place_entered t v w x span at is place =
     place_stays v w x span at (subst (HasWalked v) (sym is) (walked_entered t v)) place
 
@@ -468,14 +484,19 @@ is_followed span at v n w h =
 -- ---- refusals at a pointer
 
 pub word_loaded : (place : At) (span : Span) (at : ℕ) (v : View) (n : ℕ) (u : View) → IsLoaded span at v n u
-    → IsPointerAt v place span at → IsPointersWord u at
+    → IsArrayPointerAt v place span at → IsPointersWord u at
 word_loaded place span at v n u l p =
     record { place = place; span = span; is = place_stays v u place span at l.walked p }
 
-pub way_loaded : (k : Key) (place : At) (span : Span) (at : ℕ) (v : View) (n : ℕ) (u : View) → in_span span k ≡ true
-    → IsLoaded span at v n u → IsPointerAt v place span at → IsWayWord k u at
-way_loaded k place span at v n u over l p =
-    record { place = place; span = span; is = place_stays v u place span at l.walked p; over = over }
+pub way_loaded : (k : Key) (place : At) (span : Span) (at : ℕ) (v : View) (n : ℕ) (u : View)
+    → IsOnto v.layout span at k → IsLoaded span at v n u → IsArrayPointerAt v place span at → IsWayWord k u at
+way_loaded k place span at v n u onto l p = record {
+  place = place;
+  span = span;
+  is = place_stays v u place span at l.walked p;
+  over = onto.over;
+  on = on_stays v u k at l.walked onto.on;
+}
 
 -- no word but this one of a pointer was met
 pub only_but : (at : ℕ) (v w : View) → IsPointersWord w at → ((a : ℕ) → a ≢ at → seen_at w.reads a ≡ seen_at v.reads a)
@@ -488,7 +509,7 @@ only_but at v w p others = λ a. by_test a (eqb a at) refl
     by_test a false other = inl (others a (λ e. true≢false (sym (eq-eqb a at e) ∙ other)))
 
 pub only_loaded : (place : At) (span : Span) (at : ℕ) (v : View) (n : ℕ) (u : View) → IsLoaded span at v n u
-    → IsPointerAt v place span at → OnlyMet v u
+    → IsArrayPointerAt v place span at → OnlyMet v u
 only_loaded place span at v n u l p = only_but at v u (word_loaded place span at v n u l p) l.others
 
 -- it is as the set has it, or not in the set
@@ -512,25 +533,25 @@ keeps_but pointers met at n v w set_is here others = λ a word has p seen. by_te
 
 -- the set has it with another word
 pub met_refuses : (pointers : List Seen) (slots : List ℕ) (place : At) (span : Span) (at : ℕ) (why : RefusalCause)
-    (v : View) (n : ℕ) (u : View) → IsLoaded span at v n u → IsPointerAt v place span at → IsMetElse pointers at n why
-    → (k : Key) → in_span span k ≡ true → RefusesPointer k pointers slots why v u
-met_refuses pointers slots place span at (causes.Conflict other expected seen) v n u l p h k over =
+    (v : View) (n : ℕ) (u : View) → IsLoaded span at v n u → IsArrayPointerAt v place span at → IsMetElse pointers at n why
+    → (k : Key) → IsOnto v.layout span at k → RefusesPointer k pointers slots why v u
+met_refuses pointers slots place span at (causes.Conflict other expected seen) v n u l p h k onto =
     subst (λ j. IsPointerChanged k pointers j expected seen v u) (sym h.0)
     (subst (λ i. IsPointerChanged k pointers at expected i v u) (sym h.1) record {
-      place = way_loaded k place span at v n u over l p;
+      place = way_loaded k place span at v n u onto l p;
       was = seen_at v.reads at;
       saw = l.saw;
       known = inl h.2;
       before = λ p has seen. inl seen;
       cause = inr h.3;
     })
-met_refuses pointers slots place span at (causes.Full held) v n u l p h k over = absurd h
-met_refuses pointers slots place span at (causes.Wide set) v n u l p h k over = absurd h
-met_refuses pointers slots place span at (causes.NumberLimit clock) v n u l p h k over = absurd h
+met_refuses pointers slots place span at (causes.Full held) v n u l p h k onto = absurd h
+met_refuses pointers slots place span at (causes.Wide set) v n u l p h k onto = absurd h
+met_refuses pointers slots place span at (causes.NumberLimit clock) v n u l p h k onto = absurd h
 
 -- it was loaded again
 pub changed_since : (place : At) (span : Span) (at word : ℕ) (v : View) (n : ℕ) (u : View) → IsLoaded span at v n u
-    → IsPointerAt v place span at → seen_at v.reads at ≡ Some word → (2 ^ 60 ≤ n) ⊎ (n ≢ word)
+    → IsArrayPointerAt v place span at → seen_at v.reads at ≡ Some word → (2 ^ 60 ≤ n) ⊎ (n ≢ word)
     → IsChangedSince span at word n v u
 changed_since place span at word v n u l p met cause = record {
   place = place;
@@ -548,10 +569,10 @@ shut_or_other word again shut = by_test (ltb again (2 ^ 60)) refl
     by_test false high = let most : 2 ^ 60 ≤ again = grind (arith, nat_tests) in inl most
 
 pub since_changes : (k : Key) (pointers : List Seen) (met : Bool) (span : Span) (at word seen : ℕ) (v u w : View)
-    → in_span span k ≡ true → v.steps ≤ u.steps → IsMetAs pointers at word met → IsChangedSince span at word seen u w
-    → IsPointerChanged k pointers at word seen v w
-since_changes k pointers met span at word seen v u w over since set_is c = record {
-  place = record { place = c.place; span = span; is = c.is; over = over };
+    → IsOnto w.layout span at k → v.steps ≤ u.steps → IsMetAs pointers at word met
+    → IsChangedSince span at word seen u w → IsPointerChanged k pointers at word seen v w
+since_changes k pointers met span at word seen v u w onto since set_is c = record {
+  place = record { place = c.place; span = span; is = c.is; over = onto.over; on = onto.on };
   was = Some word;
   saw = saw_back at seen (Some word) v u w since c.saw;
   known = by_met met set_is;
@@ -565,29 +586,30 @@ since_changes k pointers met span at word seen v u w over since set_is c = recor
     by_met false is = inr (is, refl)
 
 pub hold_refuses : (k : Key) (pointers : List Seen) (met : Bool) (slots : List ℕ) (span : Span) (at word : ℕ)
-    (why : RefusalCause) (v u w : View) → in_span span k ≡ true → v.steps ≤ u.steps → IsMetAs pointers at word met
-    → RefusesHold slots span at word why u w → RefusesPointer k pointers slots why v w
-hold_refuses k pointers met slots span at word (causes.Conflict other expected seen) v u w over since set_is h =
+    (why : RefusalCause) (v u w : View) → IsOnto w.layout span at k → v.steps ≤ u.steps → u.grip ≡ v.grip
+    → IsMetAs pointers at word met → RefusesHold slots span at word why u w → RefusesPointer k pointers slots why v w
+hold_refuses k pointers met slots span at word (causes.Conflict other expected seen) v u w onto since grip set_is h =
     subst (λ j. IsPointerChanged k pointers j expected seen v w) (sym h.0)
     (subst (λ i. IsPointerChanged k pointers at i seen v w) (sym h.1)
-    (since_changes k pointers met span at word seen v u w over since set_is h.2))
-hold_refuses k pointers met slots span at word (causes.Full held) v u w over since set_is h = absurd h
-hold_refuses k pointers met slots span at word (causes.Wide set) v u w over since set_is h =
+    (since_changes k pointers met span at word seen v u w onto since set_is h.2))
+hold_refuses k pointers met slots span at word (causes.Full held) v u w onto since grip set_is h = absurd h
+hold_refuses k pointers met slots span at word (causes.Wide set) v u w onto since grip set_is h =
     let some = h.1 in
     let room = h.3 in
-    subst (λ (s : SetName). IsHeldWide k slots s w) (sym h.0) (
+    subst (λ (s : SetName). IsHeldWide k slots s v w) (sym h.0) (
       room.full,
       record {
         at = at;
         word = word;
-        on = record { place = room.place; span = span; is = room.is; over = over };
+        on = record { place = room.place; span = span; is = room.is; over = onto.over; on = onto.on };
         saw = room.saw;
         led = some;
         unshut = h.2;
         unheld = room.unheld some;
       },
+      led_over k span v w onto.over (led_since span v u w grip h.4),
     )
-hold_refuses k pointers met slots span at word (causes.NumberLimit clock) v u w over since set_is h = absurd h
+hold_refuses k pointers met slots span at word (causes.NumberLimit clock) v u w onto since grip set_is h = absurd h
 
 -- so is a walk
 pub pointer_walks : (k : Key) (pointers : List Seen) (slots : List ℕ) (why : RefusalCause) (v w : View)
@@ -636,7 +658,7 @@ hold_same slots at word span v can led held = record {
   grows = omega arith;
   words = λ a. refl;
   only = λ x has. inl has;
-  led = led_none v v refl;
+  led = led_none span v v refl;
   others = λ a apart. refl;
   still = led.met;
   held = (led.known (sym (can.holds (word / 2 ^ 32 - 1)) ∙ held), led.there);
@@ -645,7 +667,7 @@ hold_same slots at word span v can led held = record {
 
 -- the holds are full
 pub hold_wide : (slots : List ℕ) (place : At) (at word : ℕ) (span : Span) (v : View) → CanWalk slots v
-    → IsPointerAt v place span at → IsLedTo word span at v → 2 ^ 32 ≤ word → word < 2 ^ 60
+    → IsArrayPointerAt v place span at → IsLedTo word span at v → 2 ^ 32 ≤ word → word < 2 ^ 60
     → has_slot slots (word / 2 ^ 32 - 1) ≡ false → length slots ≡ 128
     → HoldsSo (length slots + 1) slots at word span (Err (causes.Wide Holds)) v v
 hold_wide slots place at word span v can p led some less unheld full = record {
@@ -671,12 +693,13 @@ hold_wide slots place at word span v can p led some less unheld full = record {
       saw = led.met;
       unheld = λ more. unheld;
     },
+    led_none span v v refl,
   );
 }
 
 -- the slot was entered, and the pointer loaded once more
 module _ (slots : List ℕ) (place : At) (at word : ℕ) (span : Span) (v e : View) (again : ℕ) (w : View)
-    (can : CanWalk slots v) (p : IsPointerAt v place span at) (led : IsLedTo word span at v)
+    (can : CanWalk slots v) (p : IsArrayPointerAt v place span at) (led : IsLedTo word span at v)
     (enters : e ≡ entered (word / 2 ^ 32 - 1) v) (f : IsFollowed span at e again w) where
   abbrev t : ℕ
   t = word / 2 ^ 32 - 1

@@ -20,7 +20,7 @@ use Rattle.engine_pages.specs.declared.view.RefusalCause.{RefusalCause}
 use Rattle.engine_pages.specs.declared.view.RefusalCause.TheVariants as causes
 use Rattle.engine_pages.specs.declared.view.View.{View}
 use Rattle.engine_pages.specs.Layout.{words_of}
-use Rattle.engine_pages.specs.Pointers.{IsPointerAt, StandsFor}
+use Rattle.engine_pages.specs.Pointers.{IsArrayPointerAt, StandsFor}
 use Rattle.engine_pages.specs.Records.{IsRecordAt}
 use Rattle.engine_pages.specs.Steps.{kept_at, seen_at}
 use Rattle.engine_pages.specs.Words.{IsSmall}
@@ -29,7 +29,8 @@ use Rattle.array_pages.specs.declared.finding.Found.{Found}
 use Rattle.array_pages.specs.declared.finding.Found.TheVariants as places
 use Rattle.array_pages.specs.declared.walk.Reached.{Reached}
 use Rattle.array_pages.specs.declared.walk.Reached.TheVariants as ends
-use Rattle.array_pages.specs.Walks.{IsPointersWord, IsWide, IsPointerChanged, KeepsWords, MeetsSo, OnlyMet, SawLast}
+use Rattle.array_pages.specs.Walks.{IsPointersWord, IsWayPlace, IsWide, IsPointerChanged, KeepsWords, MeetsSo}
+use Rattle.array_pages.specs.Walks.{OnlyMet, SawLast}
 
 -- ---- one pointer down
 
@@ -89,17 +90,17 @@ pub record IsFoundIn (k : Key) (at word value : ℕ) (v w : View) : Type 0 where
   pub others : (a : ℕ) → a ≢ at → a ≢ at + 1 → (seen_at w.reads a ≡ seen_at v.reads a) ⊎ IsPointersWord w a
   pub words : KeepsWords v w
 
--- The pages in memory end at this pointer, over keys that the key is one of. It is kept as the one part of its word,
--- which vouches for just the keys of the pointer, with what is found below its page, and for this content of the key,
--- whose value is that of the last decided write, or what stood there at first. The pointer is in the set with this
--- word, or there is room for it. No words were met but those of pointers, and of those no other one is newly kept as a
--- part.
+-- The pages in memory end at this pointer, on the way to the key. It is kept as the one part of its word, which vouches
+-- for just the keys of the pointer, with what is found below its page, and for this content of the key, whose value is
+-- that of the last decided write, or what stood there at first. The pointer is in the set with this word, or there is
+-- room for it. No words were met but those of pointers, and of those no other one is newly kept as a part.
 pub record IsFoundBelow (k : Key) (c : Content) (pointers : List Seen) (p : Seen) (v w : View) : Type 0 where
   pub place : At
   pub span : Span
-  pub is : IsPointerAt w place span p.at
+  pub is : IsArrayPointerAt w place span p.at
   pub within : p.at < words_of w.layout
   pub over : in_span span k ≡ true
+  pub on : IsWayPlace w.layout k p.at
   pub bare : p.word < 2 ^ 32
   pub part : Part
   pub of : IsPointerPart w place span p.word part
@@ -168,5 +169,5 @@ abbrev pub RefusesFind : Key → List Seen → List ℕ → RefusalCause → Vie
 RefusesFind k pointers slots (causes.Conflict at expected seen) v w =
     IsPointerChanged k pointers at expected seen v w ⊎ IsRecordChanged k at expected seen v w
 RefusesFind k pointers slots (causes.Full held) v w = ⊥
-RefusesFind k pointers slots (causes.Wide set) v w = IsWide k pointers slots set w
+RefusesFind k pointers slots (causes.Wide set) v w = IsWide k pointers slots set v w
 RefusesFind k pointers slots (causes.NumberLimit clock) v w = ⊥

@@ -4,7 +4,6 @@ use Rattle.std.specs.Prelude.{Some, None, Result, IfOk, IfErr, OnOk, if◌then�
 use Rattle.serial_model.specs.declared.key.Key.{Key}
 use Rattle.homes.specs.declared.places.At.{At}
 use Rattle.homes.specs.declared.places.Span.{Span}
-use Rattle.homes.specs.Homes.{in_span}
 use Rattle.snapshot_store.specs.ArrayPages.{last_at}
 use Rattle.drop_core.specs.Table.{has_slot}
 use Rattle.tx_sets.specs.declared.seen.Seen.{Seen}
@@ -13,7 +12,7 @@ use Rattle.engine_pages.specs.declared.view.RefusalCause.{RefusalCause}
 use Rattle.engine_pages.specs.declared.view.RefusalCause.TheVariants as causes
 use Rattle.engine_pages.specs.declared.view.SetName.TheVariants.{Holds}
 use Rattle.engine_pages.specs.declared.view.View.{View}
-use Rattle.engine_pages.specs.Pointers.{IsPointerAt, StandsFor}
+use Rattle.engine_pages.specs.Pointers.{IsArrayPointerAt, StandsFor}
 use Rattle.engine_pages.specs.Steps.{seen_at}
 use Rattle.page_pool.specs.Pool.{IsChanged, IsFull}
 use Rattle.dual_pointer.specs.Copies.{IsLeadOf}
@@ -24,8 +23,8 @@ use Rattle.array_pages.specs.declared.walk.Reached.{Reached}
 use Rattle.array_pages.specs.Finding.{HasReached, IsFound, IsFoundIn, IsRecordChanged, RefusesFind}
 use Rattle.array_pages.specs.Making.{as_published, CanMake, HasMade, HasSettled, RefusesMake}
 use Rattle.array_pages.specs.Snapshots.{CanLook}
-use Rattle.array_pages.specs.Walks.{AreLed, CanWalk, HasWalked, KeepsMet, KeepsWords, OnlyMet, OnlyWays}
-use Rattle.array_pages.specs.Walks.{OnlyWaysTo, RefusesWalk, SawLast}
+use Rattle.array_pages.specs.Walks.{AreLedBy, AreLedTo, CanWalk, HasWalked, IsOnto, KeepsMet, KeepsWords, OnlyMet}
+use Rattle.array_pages.specs.Walks.{OnlyWays, OnlyWaysTo, RefusesWalk, SawLast}
 
 -- ---- a pointer and the set
 
@@ -54,7 +53,7 @@ pub record IsLedTo (word : ℕ) (span : Span) (at : ℕ) (v : View) : Type 0 whe
 -- The pointer over these keys was seen once more, and is shut or another word than this one, which it was before.
 pub record IsChangedSince (span : Span) (at word seen : ℕ) (v w : View) : Type 0 where
   pub place : At
-  pub is : IsPointerAt w place span at
+  pub is : IsArrayPointerAt w place span at
   pub saw : SawLast at seen (Some word) v w
   pub cause : (2 ^ 60 ≤ seen) ⊎ (seen ≢ word)
 
@@ -63,7 +62,7 @@ pub record IsChangedSince (span : Span) (at word seen : ℕ) (v w : View) : Type
 pub record HasNoRoom (slots : List ℕ) (span : Span) (at word : ℕ) (w : View) : Type 0 where
   pub full : length slots ≡ 128
   pub place : At
-  pub is : IsPointerAt w place span at
+  pub is : IsArrayPointerAt w place span at
   pub saw : seen_at w.reads at ≡ Some word
   pub unheld : 2 ^ 32 ≤ word → has_slot slots (word / 2 ^ 32 - 1) ≡ false
 
@@ -73,7 +72,7 @@ RefusesHold slots span at word (causes.Conflict other expected seen) v w =
     (other ≡ at) × (expected ≡ word) × IsChangedSince span at word seen v w
 RefusesHold slots span at word (causes.Full held) v w = ⊥
 RefusesHold slots span at word (causes.Wide set) v w =
-    (set ≡ Holds) × (2 ^ 32 ≤ word) × (word < 2 ^ 60) × HasNoRoom slots span at word w
+    (set ≡ Holds) × (2 ^ 32 ≤ word) × (word < 2 ^ 60) × HasNoRoom slots span at word w × AreLedBy span v w
 RefusesHold slots span at word (causes.NumberLimit clock) v w = ⊥
 
 -- The slot that the pointer leads to is held, and its page is over these keys; the pointer is as it was. The holds are
@@ -88,7 +87,7 @@ pub record HoldsSo (few : ℕ) (slots : List ℕ) (at word : ℕ) (span : Span) 
   pub words : KeepsWords v w
   pub others : (a : ℕ) → a ≢ at → seen_at w.reads a ≡ seen_at v.reads a
   pub only : OnlyWays span v w
-  pub led : OnOk r (AreLed v w)
+  pub led : OnOk r (AreLedBy span v w)
   pub still : OnOk r (seen_at w.reads at ≡ Some word)
   pub held : IfOk r (λ t. Contains w.ways (record { slot = t; span = span }) × (t < w.layout.slots))
   pub cause : IfErr r (λ why. RefusesHold slots span at word why v w)
@@ -104,11 +103,11 @@ pub record ReachesSo
   pub most : w.steps ≤ v.steps + 3
   pub grows : length slots ≤ few
   pub only : OnlyWays span v w
-  pub led : OnOk r (AreLed v w)
+  pub led : OnOk r (AreLedBy span v w)
   pub others : OnlyMet v w
   pub keeps : OnOk r (KeepsMet pointers v w)
   pub reached : IfOk r (λ end. HasReached pointers end place span at v w)
-  pub cause : IfErr r (λ why. (k : Key) → in_span span k ≡ true → RefusesWalk k pointers slots why v w)
+  pub cause : IfErr r (λ why. (k : Key) → IsOnto v.layout span at k → RefusesWalk k pointers slots why v w)
 
 -- ---- a record
 
@@ -150,7 +149,7 @@ pub record FindsSo
   pub most : w.steps ≤ v.steps + bound
   pub grows : length slots ≤ few
   pub only : OnlyWaysTo k v w
-  pub led : OnOk r (AreLed v w)
+  pub led : OnOk r (AreLedTo k v w)
   pub keeps : OnOk r (KeepsMet pointers v w)
   pub found : IfOk r (λ f. IsFound k pointers f v w)
   pub cause : IfErr r (λ why. RefusesFind k pointers slots why v w)
@@ -193,9 +192,9 @@ pub record HasPublished (t : ℕ) (span : Span) (n : ℕ) (v w : View) : Type 0 
 abbrev pub RefusesInstall : List ℕ → Span → ℕ → ℕ → RefusalCause → View → View → Type 0
 RefusesInstall slots span at word (causes.Conflict other expected seen) v w =
     ((other ≡ at) × (expected ≡ word) × IsChangedSince span at word seen v w) ⊎ IsChanged other expected seen v w
-RefusesInstall slots span at word (causes.Full held) v w = IsFull held v w × AreLed v w
+RefusesInstall slots span at word (causes.Full held) v w = IsFull held v w × AreLedBy span v w
 RefusesInstall slots span at word (causes.Wide set) v w =
-    (set ≡ Holds) × (word < 2 ^ 32) × HasNoRoom slots span at word w
+    (set ≡ Holds) × (word < 2 ^ 32) × HasNoRoom slots span at word w × AreLedBy span v w
 RefusesInstall slots span at word (causes.NumberLimit clock) v w = ⊥
 
 -- The pointer leads to a slot that the pass holds, or why not; the holds are at most so many then.
@@ -208,7 +207,7 @@ pub record InstallsSo
   pub kept : w.seat.kept ≡ v.seat.kept
   pub words : KeepsWords v w
   pub only : OnlyWays span v w
-  pub led : OnOk r (AreLed v w)
+  pub led : OnOk r (AreLedBy span v w)
   pub others : (a : ℕ) → a ≢ at → seen_at w.reads a ≡ seen_at v.reads a
   pub held : IfOk r (λ t. Contains w.ways (record { slot = t; span = span }) × (t < w.layout.slots))
   pub cause : IfErr r (λ why. RefusesInstall slots span at word why v w)
@@ -226,9 +225,9 @@ pub record SettlesSo
   pub kept : w.seat.kept ≡ v.seat.kept
   pub words : KeepsWords v w
   pub only : OnlyWays span v w
-  pub led : OnOk r (AreLed v w)
+  pub led : OnOk r (AreLedBy span v w)
   pub settled : IfOk r (λ s. HasSettled pointers s span at v w)
-  pub cause : IfErr r (λ why. (k : Key) → in_span span k ≡ true → RefusesMake k pointers slots why v w)
+  pub cause : IfErr r (λ why. (k : Key) → IsOnto v.layout span at k → RefusesMake k pointers slots why v w)
 
 -- A pointer that was moved was seen once more, and is as the set has it, or why not.
 pub record ChecksSo
@@ -243,7 +242,7 @@ pub record ChecksSo
   pub grip : w.grip ≡ v.grip
   pub others : (a : ℕ) → (a ≢ at) ⊎ (moved ≡ false) → seen_at w.reads a ≡ seen_at v.reads a
   pub same : OnOk r (moved ≡ true → (word : ℕ) → word_at at pointers ≡ Some word → seen_at w.reads at ≡ Some word)
-  pub cause : IfErr r (λ why. (k : Key) → in_span span k ≡ true → (slots : List ℕ)
+  pub cause : IfErr r (λ why. (k : Key) → IsOnto v.layout span at k → (slots : List ℕ)
       → RefusesMake k pointers slots why v w)
 
 -- By at most so many steps, and with at most so many holds, the pages on the way to the record of the key are in slots
@@ -258,6 +257,6 @@ pub record MakesSo
   pub kept : w.seat.kept ≡ v.seat.kept
   pub words : KeepsWords v w
   pub only : OnlyWaysTo k v w
-  pub led : OnOk r (AreLed v w)
+  pub led : OnOk r (AreLedTo k v w)
   pub made : IfOk r (λ at. HasMade k pointers at v w)
   pub cause : IfErr r (λ why. RefusesMake k pointers slots why v w)

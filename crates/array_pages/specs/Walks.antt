@@ -1,11 +1,12 @@
 -- What it leaves to go down the pages of an array: words are loaded, and slots entered.
-use Rattle.std.specs.Prelude.{◌≡◌, ◌≢◌, ◌⊎◌, ℕ, ◌-◌, ◌/◌, ◌^◌, ◌<◌, ◌≤◌, Bool, true, false, List, Contains, Option}
-use Rattle.std.specs.Prelude.{Some, None, length}
+use Rattle.std.specs.Prelude.{◌≡◌, ◌≢◌, ◌⊎◌, ℕ, ◌-◌, ◌/◌, ◌%◌, ◌^◌, ◌<◌, ◌≤◌, Bool, true, false, List}
+use Rattle.std.specs.Prelude.{Contains, Option, Some, None, length}
 use Rattle.lists.specs.Fronts.{IsFront}
 use Rattle.serial_model.specs.Decls.{AreDecls}
 use Rattle.homes.specs.declared.places.At.{At}
 use Rattle.homes.specs.declared.places.Span.{Span}
 use Rattle.homes.specs.Homes.{in_span}
+use Rattle.snapshot_store.specs.ArrayPages.{indexes_at}
 use Rattle.commit_core.specs.declared.attempt.Attempt.{Attempt}
 use Rattle.commit_core.specs.declared.part.Part.{Part}
 use Rattle.serial_model.specs.declared.key.Key.{Key}
@@ -16,6 +17,7 @@ use Rattle.commit_core.specs.Serial.{last_write}
 use Rattle.drop_core.specs.Table.{has_slot}
 use Rattle.tx_sets.specs.declared.seen.Seen.{Seen}
 use Rattle.tx_sets.specs.Entries.{word_at}
+use Rattle.engine_pages.specs.declared.layout.Layout.{Layout}
 use Rattle.engine_pages.specs.declared.view.Lead.{Lead}
 use Rattle.engine_pages.specs.declared.view.RefusalCause.{RefusalCause}
 use Rattle.engine_pages.specs.declared.view.RefusalCause.TheVariants as causes
@@ -23,7 +25,9 @@ use Rattle.engine_pages.specs.declared.view.SetName.{SetName}
 use Rattle.engine_pages.specs.declared.view.SetName.TheVariants as sets
 use Rattle.engine_pages.specs.declared.view.View.{View}
 use Rattle.engine_pages.specs.declared.view.Way.{Way}
-use Rattle.engine_pages.specs.Pointers.{IsPointerAt, WaysAgree}
+use Rattle.engine_pages.specs.Layout.{page_at, root_at}
+use Rattle.engine_pages.specs.Pages.{root_span}
+use Rattle.engine_pages.specs.Pointers.{IsArrayPointerAt, WaysAgree}
 use Rattle.engine_pages.specs.Steps.{glance, kept_at, seen_at}
 use Rattle.engine_pages.specs.Views.{IsActive}
 
@@ -95,10 +99,15 @@ OnlyWays span v w = (x : Way) → Contains w.ways x → Contains v.ways x ⊎ (x
 abbrev pub OnlyWaysTo : Key → View → View → Type 0
 OnlyWaysTo k v w = (x : Way) → Contains w.ways x → Contains v.ways x ⊎ (in_span x.span k ≡ true)
 
--- there is a way into each slot that is held now and wasn't before
-abbrev pub AreLed : View → View → Type 0
-AreLed v w = (t : ℕ) → has_slot w.grip.holds t ≡ true → has_slot v.grip.holds t ≡ false
-    → (x : Way) × Contains w.ways x × (x.slot ≡ t)
+-- each slot that is held now and wasn't before has a page over these keys
+abbrev pub AreLedBy : Span → View → View → Type 0
+AreLedBy span v w = (t : ℕ) → has_slot w.grip.holds t ≡ true → has_slot v.grip.holds t ≡ false
+    → Contains w.ways (record { slot = t; span = span })
+
+-- each slot that is held now and wasn't before has a page on the way to the key: over keys that it is one of
+abbrev pub AreLedTo : Key → View → View → Type 0
+AreLedTo k v w = (t : ℕ) → has_slot w.grip.holds t ≡ true → has_slot v.grip.holds t ≡ false
+    → (x : Way) × Contains w.ways x × (x.slot ≡ t) × (in_span x.span k ≡ true)
 
 -- ---- the words that were met
 
@@ -106,14 +115,27 @@ AreLed v w = (t : ℕ) → has_slot w.grip.holds t ≡ true → has_slot v.grip.
 pub record IsPointersWord (v : View) (at : ℕ) : Type 0 where
   pub place : At
   pub span : Span
-  pub is : IsPointerAt v place span at
+  pub is : IsArrayPointerAt v place span at
+
+-- The word is that of a pointer on the way to the key, by its place alone: the root's of its storage, or, in the page of
+-- a slot, the one over the key, of a page over leaves or of one over such pages.
+pub record IsWayPlace (l : Layout) (k : Key) (at : ℕ) : Type 0 where
+  pub stands : ((r : ℕ) × (r < length l.decls) × (in_span (root_span l.decls r) k ≡ true) × (at ≡ root_at r))
+      ⊎ ((t : ℕ) × (i : ℕ) × (t < l.slots) × ((i ≡ k.key % indexes_at 1 / indexes_at 0) ⊎ (i ≡ k.key / indexes_at 1))
+      × (at ≡ page_at l.slots t i))
+
+-- the key is one of the pointer's, whose word is on the way to it
+pub record IsOnto (l : Layout) (span : Span) (at : ℕ) (k : Key) : Type 0 where
+  pub over : in_span span k ≡ true
+  pub on : IsWayPlace l k at
 
 -- the word is that of a pointer on the way to the key: over keys that it is one of
 pub record IsWayWord (k : Key) (v : View) (at : ℕ) : Type 0 where
   pub place : At
   pub span : Span
-  pub is : IsPointerAt v place span at
+  pub is : IsArrayPointerAt v place span at
   pub over : in_span span k ≡ true
+  pub on : IsWayPlace v.layout k at
 
 -- no words but those of pointers were met
 abbrev pub OnlyMet : View → View → Type 0
@@ -183,30 +205,31 @@ pub record NeedsHold (k : Key) (slots : List ℕ) (w : View) : Type 0 where
   pub unheld : has_slot slots (word / 2 ^ 32 - 1) ≡ false
 
 -- so it is with the holds, and with no other set
-abbrev pub IsHeldWide : Key → List ℕ → SetName → View → Type 0
-IsHeldWide k slots sets.Reads w = ⊥
-IsHeldWide k slots sets.Writes w = ⊥
-IsHeldWide k slots sets.Pointers w = ⊥
-IsHeldWide k slots sets.Holds w = (length slots ≡ 128) × NeedsHold k slots w
+abbrev pub IsHeldWide : Key → List ℕ → SetName → View → View → Type 0
+IsHeldWide k slots sets.Reads v w = ⊥
+IsHeldWide k slots sets.Writes v w = ⊥
+IsHeldWide k slots sets.Pointers v w = ⊥
+IsHeldWide k slots sets.Holds v w = (length slots ≡ 128) × NeedsHold k slots w × AreLedTo k v w
 
--- the set has as many entries as there is room for, and the way to the key needs one more
-abbrev pub IsWide : Key → List Seen → List ℕ → SetName → View → Type 0
-IsWide k pointers slots sets.Reads w = ⊥
-IsWide k pointers slots sets.Writes w = ⊥
-IsWide k pointers slots sets.Pointers w = (length pointers ≡ 128) × NeedsPointer k pointers w
-IsWide k pointers slots sets.Holds w = (length slots ≡ 128) × NeedsHold k slots w
+-- The set has as many entries as there is room for, and the way to the key needs one more. What the call holds newly is
+-- on that way.
+abbrev pub IsWide : Key → List Seen → List ℕ → SetName → View → View → Type 0
+IsWide k pointers slots sets.Reads v w = ⊥
+IsWide k pointers slots sets.Writes v w = ⊥
+IsWide k pointers slots sets.Pointers v w = (length pointers ≡ 128) × NeedsPointer k pointers w × AreLedTo k v w
+IsWide k pointers slots sets.Holds v w = (length slots ≡ 128) × NeedsHold k slots w × AreLedTo k v w
 
 -- a pointer was refused, or the slot that it leads to
 abbrev pub RefusesPointer : Key → List Seen → List ℕ → RefusalCause → View → View → Type 0
 RefusesPointer k pointers slots (causes.Conflict at expected seen) v w =
     IsPointerChanged k pointers at expected seen v w
 RefusesPointer k pointers slots (causes.Full held) v w = ⊥
-RefusesPointer k pointers slots (causes.Wide set) v w = IsHeldWide k slots set w
+RefusesPointer k pointers slots (causes.Wide set) v w = IsHeldWide k slots set v w
 RefusesPointer k pointers slots (causes.NumberLimit clock) v w = ⊥
 
 -- a walk was refused at a pointer, or for a set that was full
 abbrev pub RefusesWalk : Key → List Seen → List ℕ → RefusalCause → View → View → Type 0
 RefusesWalk k pointers slots (causes.Conflict at expected seen) v w = IsPointerChanged k pointers at expected seen v w
 RefusesWalk k pointers slots (causes.Full held) v w = ⊥
-RefusesWalk k pointers slots (causes.Wide set) v w = IsWide k pointers slots set w
+RefusesWalk k pointers slots (causes.Wide set) v w = IsWide k pointers slots set v w
 RefusesWalk k pointers slots (causes.NumberLimit clock) v w = ⊥

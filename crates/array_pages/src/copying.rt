@@ -6,7 +6,7 @@ ghost use Rattle.array_pages.specs.Steps.{CanCopy, HasPublished, InstallsSo, IsB
 ghost use Rattle.engine_pages.specs.Layout.{words_of};
 ghost use Rattle.engine_pages.specs.Pages.{is_array};
 ghost use Rattle.engine_pages.specs.Passes.{view, IsPassOf};
-ghost use Rattle.engine_pages.specs.Pointers.{IsPointerAt};
+ghost use Rattle.engine_pages.specs.Pointers.{IsArrayPointerAt};
 ghost use Rattle.engine_pages.specs.Views.{IsActive};
 ghost use Rattle.page_pool.specs.Pool.{HasTaken};
 
@@ -34,7 +34,7 @@ pub(crate) fn install_copy(
 ) -> Result<u32, RefusalCause>
     requires of { IsPassOf engine.now pass.old }
     requires can { CanMake holds.old (view pass.old) }
-    requires place { IsPointerAt (view pass.old) place span at }
+    requires place { IsArrayPointerAt (view pass.old) place span at }
     requires word { at < words_of (view pass.old).layout }
     requires array { is_array (view pass.old).layout.decls span.storage ≡ true }
     requires kind { CanCopy leaf span }
@@ -88,8 +88,8 @@ fn publish_page(
     Ok(slot)
 }
 
-// A slot of the pass's own, or why there was none.
-fn give_slot(engine: &Engine, pass: &mut Pass) -> Result<u32, RefusalCause>
+/// A slot of the pass's own, or why there was none.
+pub fn give_slot(engine: &Engine, pass: &mut Pass) -> Result<u32, RefusalCause>
     requires of { IsPassOf engine.now pass.old }
     requires pass { IsActive (view pass.old).role }
     ensures of { IsPassOf engine.now pass.new }
@@ -109,8 +109,8 @@ fn give_slot(engine: &Engine, pass: &mut Pass) -> Result<u32, RefusalCause>
     }
 }
 
-// Fills the page of a slot of the pass's own with the words of a snapshot page, or with zeros for 0.
-fn copy_page(engine: &Engine, pass: &mut Pass, slot: u32, page: u64)
+/// Fills the page of a slot of the pass's own with the words of a snapshot page, or with zeros for 0.
+pub fn copy_page(engine: &Engine, pass: &mut Pass, slot: u32, page: u64)
     requires of { IsPassOf engine.now pass.old }
     requires can { CanLook (view pass.old) }
     requires slot { slot < (view pass.old).layout.slots }

@@ -1,16 +1,17 @@
 // The record of a key.
-ghost use Rattle.std.specs.Prelude.{◌≡◌, ◌+◌, ◌%◌, ◌<◌, ◌≤◌, false, length, Contains, IfOk, IfErr, OnOk};
+ghost use Rattle.std.specs.Prelude.{◌≡◌, ◌+◌, ◌%◌, ◌<◌, ◌≤◌, ℕ, List, false, length, Contains, IfOk, IfErr, OnOk};
 ghost use Rattle.array_pages.specs.Finding.{IsContentBelow, IsFound, RefusesFind};
 ghost use Rattle.array_pages.specs.Spans.{find_steps, keys_above, walk_holds, IsArrayKey, IsOver};
 ghost use Rattle.array_pages.specs.Steps.{FindsSo, ReadsSo};
-ghost use Rattle.array_pages.specs.Walks.{AreLed, CanWalk, HasWalked, KeepsMet, OnlyWaysTo};
+ghost use Rattle.array_pages.specs.Walks.{AreLedTo, CanWalk, HasWalked, IsWayPlace, KeepsMet, OnlyWaysTo};
 ghost use Rattle.commit_core.specs.CoreState.{is_trying};
 ghost use Rattle.engine_pages.specs.Layout.{words_of};
 ghost use Rattle.engine_pages.specs.Passes.{view, IsPassOf};
-ghost use Rattle.engine_pages.specs.Pointers.{IsPointerAt, WaysAgree};
+ghost use Rattle.engine_pages.specs.Pointers.{IsArrayPointerAt};
+ghost use Rattle.engine_pages.specs.Records.{IsRecordAt};
 ghost use Rattle.engine_pages.specs.Views.{IsActive};
-ghost use Rattle.serial_model.specs.Decls.{AreDecls};
 ghost use Rattle.snapshot_store.specs.ArrayPages.{indexes_at};
+ghost use Rattle.tx_sets.specs.declared.seen.Seen.{Seen as TheSeen};
 
 use crate::sizes::{LEAF, MIDDLE, RECORD, TOP};
 use crate::snapshots::{in_leaf, in_middle, in_top};
@@ -64,7 +65,7 @@ pub fn find(
     ensures most { (view pass.new).steps ≤ (view pass.old).steps + find_steps }
     ensures grows { length holds.new ≤ length holds.old + walk_holds }
     ensures only { OnlyWaysTo key (view pass.old) (view pass.new) }
-    ensures led { OnOk result (AreLed (view pass.old) (view pass.new)) }
+    ensures led { OnOk result (AreLedTo key (view pass.old) (view pass.new)) }
     ensures keeps { OnOk result (KeepsMet pointers.now (view pass.old) (view pass.new)) }
     ensures found { IfOk result (λ found.
         IsFound key pointers.now found (view pass.old) (view pass.new)) }
@@ -116,7 +117,8 @@ fn find_in_leaf(
     requires of { IsPassOf engine.now pass.old }
     requires can { CanWalk holds.old (view pass.old) }
     requires fits { IsArrayKey (view pass.old).layout.decls key }
-    requires place { IsPointerAt (view pass.old) place (keys_above key 0 low) at }
+    requires place { IsArrayPointerAt (view pass.old) place (keys_above key 0 low) at }
+    requires on { IsWayPlace (view pass.old).layout key at }
     requires word { at < words_of (view pass.old).layout }
     requires over { IsOver key 0 low }
     requires even { low % 32 ≡ 0 }
@@ -151,10 +153,12 @@ fn find_in_middle(
     requires of { IsPassOf engine.now pass.old }
     requires can { CanWalk holds.old (view pass.old) }
     requires fits { IsArrayKey (view pass.old).layout.decls key }
-    requires place { IsPointerAt (view pass.old) place (keys_above key 1 low) at }
+    requires place { IsArrayPointerAt (view pass.old) place (keys_above key 1 low) at }
+    requires on { IsWayPlace (view pass.old).layout key at }
     requires word { at < words_of (view pass.old).layout }
     requires over { IsOver key 1 low }
     requires even { low % 32 ≡ 0 }
+    requires whole { low % 2048 ≡ 0 }
     requires low { low + indexes_at 1 ≤ 131072 }
     ensures of { IsPassOf engine.now pass.new }
     ensures finds { FindsSo 9 (length holds.old + 2) key pointers.now holds.new result
@@ -194,7 +198,8 @@ fn find_in_top(
     requires of { IsPassOf engine.now pass.old }
     requires can { CanWalk holds.old (view pass.old) }
     requires fits { IsArrayKey (view pass.old).layout.decls key }
-    requires place { IsPointerAt (view pass.old) place (keys_above key 2 0) at }
+    requires place { IsArrayPointerAt (view pass.old) place (keys_above key 2 0) at }
+    requires on { IsWayPlace (view pass.old).layout key at }
     requires word { at < words_of (view pass.old).layout }
     requires over { IsOver key 2 0 }
     ensures of { IsPassOf engine.now pass.new }
@@ -263,6 +268,48 @@ fn read_record(
         index: index as usize,
     };
     let at = word_at(engine, slot, RECORD * index);
+    read_word(engine, pass, key, spot, at)
+}
+
+/// The record of a key in a page that the pass holds already, whose word stands here: at most three steps, and nothing
+/// more is held.
+#[inline(always)]
+pub fn read_at(
+    engine: &Engine,
+    pass: &mut Pass,
+    key: Key,
+    spot: Spot,
+    at: u32,
+) -> Result<Found, RefusalCause>
+    requires of { IsPassOf engine.now pass.old }
+    requires active { IsActive (view pass.old).role }
+    requires rest { is_trying (view pass.old).seat.stage ≡ false }
+    requires place { IsRecordAt (view pass.old) key spot at }
+    requires index { spot.index ≡ key.key % 32 }
+    ensures of { IsPassOf engine.now pass.new }
+    ensures finds { (slots : List ℕ) → CanWalk slots (view pass.old) → (pointers : List TheSeen)
+        → FindsSo 3 (length slots) key pointers slots result (view pass.old) (view pass.new) }
+{
+    read_word(engine, pass, key, spot, at)
+}
+
+// The word of a record, its value, and the word once more.
+#[inline(always)]
+fn read_word(
+    engine: &Engine,
+    pass: &mut Pass,
+    key: Key,
+    spot: Spot,
+    at: u32,
+) -> Result<Found, RefusalCause>
+    requires of { IsPassOf engine.now pass.old }
+    requires active { IsActive (view pass.old).role }
+    requires rest { is_trying (view pass.old).seat.stage ≡ false }
+    requires place { IsRecordAt (view pass.old) key spot at }
+    requires index { spot.index ≡ key.key % 32 }
+    ensures of { IsPassOf engine.now pass.new }
+    ensures reads { ReadsSo key result (view pass.old) (view pass.new) }
+{
     let word = see(engine, pass, key, spot, at);
     if word >= LOCK {
         return Err(conflict(at, word, word));

@@ -1,11 +1,11 @@
 //! The records of arrays, in pages of slots over the pages of a snapshot.
 //!
 //! Promises: `find` tells where the record of a key is, which was live and as told at the step that loaded the word,
-//! and keeps the part that vouches for it (`found`); `make_volatile` brings each page on the way to a record into
-//! memory, copied from the snapshot page or empty, and changes no key's content: each slot that it was given leads
-//! somewhere then, or was given up (`made`, `can`). Both come to pages on the way to the key alone (`only`, `led`), by
-//! so many steps at most (`most`), hold at most three slots more (`grows`), and are refused only for the causes that
-//! they tell (`cause`).
+//! and keeps the part that vouches for it (`found`); `read_at` tells the same of one in a page that the pass holds;
+//! `make_volatile` brings each page on the way to a record into memory, copied from the snapshot page or empty, and
+//! changes no key's content: each slot that it was given leads somewhere then, or was given up (`made`, `can`). The two
+//! walks come to pages on the way to the key alone (`only`, `led`), by so many steps at most (`most`), hold at most
+//! three slots more (`grows`), and are refused only for the causes that they tell (`cause`).
 //! Terms: *way*, a slot that the pass holds with the keys of its page; *level*, how many pages stand between a page and
 //! the records: a leaf is at level 0, and an array's root at level 0 to 2; *to leave memory*, to come to a pointer that
 //! leads to no slot: it is kept, and stands for all keys below it.
@@ -25,5 +25,8 @@ mod snapshots;
 mod storages;
 mod walk;
 
-pub use finding::{Found, find};
+pub use copying::{copy_page, give_slot};
+pub use finding::{Found, find, read_at};
 pub use making::make_volatile;
+pub use storages::word_at;
+pub use walk::{conflict, note_hold};

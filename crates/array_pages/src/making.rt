@@ -1,13 +1,13 @@
 // The record of a key is brought into a page in memory.
-ghost use Rattle.std.specs.Prelude.{◌≡◌, ◌+◌, ◌*◌, ◌<◌, ◌≤◌, Bool, true, length, IfOk, IfErr, OnOk};
+ghost use Rattle.std.specs.Prelude.{◌≡◌, ◌+◌, ◌*◌, ◌%◌, ◌<◌, ◌≤◌, true, length, IfOk, IfErr, OnOk};
 ghost use Rattle.array_pages.specs.Making.{CanMake, HasMade, RefusesMake};
 ghost use Rattle.array_pages.specs.Spans.{keys_above, make_steps, walk_holds, IsArrayKey, IsOver};
 ghost use Rattle.array_pages.specs.Steps.{CanCopy, ChecksSo, MakesSo, SettlesSo};
-ghost use Rattle.array_pages.specs.Walks.{AreLed, HasWalked, KeepsWords, OnlyWaysTo};
+ghost use Rattle.array_pages.specs.Walks.{AreLedTo, HasWalked, IsWayPlace, KeepsWords, OnlyWaysTo};
 ghost use Rattle.engine_pages.specs.Layout.{words_of};
 ghost use Rattle.engine_pages.specs.Pages.{is_array, is_leaf_span};
 ghost use Rattle.engine_pages.specs.Passes.{view, IsPassOf};
-ghost use Rattle.engine_pages.specs.Pointers.{IsPointerAt};
+ghost use Rattle.engine_pages.specs.Pointers.{IsArrayPointerAt};
 ghost use Rattle.engine_pages.specs.Views.{IsActive};
 ghost use Rattle.snapshot_store.specs.ArrayPages.{indexes_at, last_at};
 
@@ -53,7 +53,7 @@ pub fn make_volatile(
         ≤ (view pass.old).steps + make_steps (view pass.old).layout.slots }
     ensures grows { length holds.new ≤ length holds.old + walk_holds }
     ensures only { OnlyWaysTo key (view pass.old) (view pass.new) }
-    ensures led { OnOk result (AreLed (view pass.old) (view pass.new)) }
+    ensures led { OnOk result (AreLedTo key (view pass.old) (view pass.new)) }
     ensures made { IfOk result (λ at. HasMade key pointers.now at (view pass.old) (view pass.new)) }
     ensures cause { IfErr result (λ why.
         RefusesMake key pointers.now holds.new why (view pass.old) (view pass.new)) }
@@ -103,9 +103,11 @@ fn make_leaf(
     requires of { IsPassOf engine.now pass.old }
     requires can { CanMake holds.old (view pass.old) }
     requires fits { IsArrayKey (view pass.old).layout.decls key }
-    requires place { IsPointerAt (view pass.old) place (keys_above key 0 low) at }
+    requires place { IsArrayPointerAt (view pass.old) place (keys_above key 0 low) at }
+    requires on { IsWayPlace (view pass.old).layout key at }
     requires word { at < words_of (view pass.old).layout }
     requires over { IsOver key 0 low }
+    requires even { low % 32 ≡ 0 }
     requires low { low + indexes_at 0 ≤ 131072 }
     ensures of { IsPassOf engine.now pass.new }
     ensures makes { MakesSo ((view pass.old).layout.slots + 135) (length holds.old + 1)
@@ -133,9 +135,11 @@ fn make_middle(
     requires of { IsPassOf engine.now pass.old }
     requires can { CanMake holds.old (view pass.old) }
     requires fits { IsArrayKey (view pass.old).layout.decls key }
-    requires place { IsPointerAt (view pass.old) place (keys_above key 1 low) at }
+    requires place { IsArrayPointerAt (view pass.old) place (keys_above key 1 low) at }
+    requires on { IsWayPlace (view pass.old).layout key at }
     requires word { at < words_of (view pass.old).layout }
     requires over { IsOver key 1 low }
+    requires whole { low % 2048 ≡ 0 }
     requires low { low + indexes_at 1 ≤ 131072 }
     ensures of { IsPassOf engine.now pass.new }
     ensures makes { MakesSo (2 * ((view pass.old).layout.slots + 135)) (length holds.old + 2)
@@ -169,7 +173,8 @@ fn make_top(
     requires of { IsPassOf engine.now pass.old }
     requires can { CanMake holds.old (view pass.old) }
     requires fits { IsArrayKey (view pass.old).layout.decls key }
-    requires place { IsPointerAt (view pass.old) place (keys_above key 2 0) at }
+    requires place { IsArrayPointerAt (view pass.old) place (keys_above key 2 0) at }
+    requires on { IsWayPlace (view pass.old).layout key at }
     requires word { at < words_of (view pass.old).layout }
     requires over { IsOver key 2 0 }
     ensures of { IsPassOf engine.now pass.new }
@@ -204,7 +209,7 @@ fn settle(
 ) -> Result<Settled, RefusalCause>
     requires of { IsPassOf engine.now pass.old }
     requires can { CanMake holds.old (view pass.old) }
-    requires place { IsPointerAt (view pass.old) place span at }
+    requires place { IsArrayPointerAt (view pass.old) place span at }
     requires word { at < words_of (view pass.old).layout }
     requires array { is_array (view pass.old).layout.decls span.storage ≡ true }
     requires kind { CanCopy leaf span }
@@ -244,7 +249,7 @@ fn check_moved(
 ) -> Result<(), RefusalCause>
     requires of { IsPassOf engine.now pass.old }
     requires active { IsActive (view pass.old).role }
-    requires place { IsPointerAt (view pass.old) place span at }
+    requires place { IsArrayPointerAt (view pass.old) place span at }
     requires word { at < words_of (view pass.old).layout }
     ensures of { IsPassOf engine.now pass.new }
     ensures checks { ChecksSo pointers.now span at moved result (view pass.old) (view pass.new) }

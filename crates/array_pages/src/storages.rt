@@ -27,7 +27,7 @@ pub(crate) fn array_of(engine: &Engine, storage: u8) -> (usize, u64)
 
 /// The place of a word of the page in a slot.
 #[inline(always)]
-pub(crate) fn word_at(engine: &Engine, slot: u32, index: u32) -> u32
+pub fn word_at(engine: &Engine, slot: u32, index: u32) -> u32
     requires slot { slot < engine.now.table.shared.key.slots }
     requires index { index < 64 }
     ensures { result ≡ page_at engine.now.table.shared.key.slots slot index }

@@ -6,7 +6,7 @@ ghost use Rattle.drop_core.specs.Table.{has_slot};
 ghost use Rattle.engine_pages.specs.Layout.{words_of};
 ghost use Rattle.engine_pages.specs.Pages.{is_array};
 ghost use Rattle.engine_pages.specs.Passes.{view, IsPassOf};
-ghost use Rattle.engine_pages.specs.Pointers.{IsPointerAt};
+ghost use Rattle.engine_pages.specs.Pointers.{IsArrayPointerAt};
 ghost use Rattle.engine_pages.specs.declared.view.RefusalCause.TheVariants as causes;
 
 use dual_pointer::see_pointer;
@@ -28,8 +28,9 @@ pub(crate) enum Reached {
     Page(u64),
 }
 
+/// The cause of a refusal: a word that was seen is not the expected one.
 #[inline(always)]
-pub(crate) fn conflict(word: u32, expected: u64, seen: u64) -> RefusalCause
+pub fn conflict(word: u32, expected: u64, seen: u64) -> RefusalCause
     ensures { result ≡ causes.Conflict word expected seen }
 {
     RefusalCause::Conflict {
@@ -68,7 +69,7 @@ pub(crate) fn reach(
 ) -> Result<Reached, RefusalCause>
     requires of { IsPassOf engine.now pass.old }
     requires can { CanWalk holds.old (view pass.old) }
-    requires place { IsPointerAt (view pass.old) place span at }
+    requires place { IsArrayPointerAt (view pass.old) place span at }
     requires word { at < words_of (view pass.old).layout }
     requires array { is_array (view pass.old).layout.decls span.storage ≡ true }
     ensures of { IsPassOf engine.now pass.new }
@@ -111,7 +112,7 @@ pub(crate) fn hold(
 ) -> Result<u32, RefusalCause>
     requires of { IsPassOf engine.now pass.old }
     requires can { CanWalk holds.old (view pass.old) }
-    requires place { IsPointerAt (view pass.old) place span at }
+    requires place { IsArrayPointerAt (view pass.old) place span at }
     requires word { at < words_of (view pass.old).layout }
     requires slot { 2 ^ 32 ≤ word }
     requires unshut { word < 2 ^ 60 }
@@ -140,7 +141,7 @@ pub(crate) fn hold(
 
 /// Notes a slot that the pass holds now.
 #[inline(always)]
-pub(crate) fn note_hold(holds: &mut Holds, slot: u32)
+pub fn note_hold(holds: &mut Holds, slot: u32)
     requires absent { has_slot holds.old slot ≡ false }
     requires room { length holds.old < 128 }
     ensures { holds.new ≡ holds.old ++ slot ∷ [] }

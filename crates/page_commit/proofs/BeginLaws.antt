@@ -40,6 +40,9 @@ timed_pages v u n h = record {
   drafts = ap (λ (y : View). y.drafts) h.is;
   copies = ap (λ (y : View). y.copies) h.is;
   blanks = ap (λ (y : View). y.blanks) h.is;
+  leaves = ap (λ (y : View). y.new_leaves) h.is;
+  inners = ap (λ (y : View). y.new_inners) h.is;
+  heads = ap (λ (y : View). y.heads) h.is;
 }
 
 -- what is kept where nothing was read or met
@@ -86,6 +89,9 @@ begun_live sets v u n over empty h =
       drafts = h.drafts;
       copies = h.copies;
       blanks = h.blanks;
+      leaves = h.leaves;
+      inners = h.inners;
+      heads = h.heads;
     }
 
 pub begun : (sets : Sets) (v w : View) (n : ℕ) → IsOver v → AreEmpty sets → Begun v n w → n % 2 ^ 40 < draw_limit
@@ -141,6 +147,9 @@ refuses_begin v w n over b high =
             drafts = ap (λ (y : View). y.drafts) is;
             copies = ap (λ (y : View). y.copies) is;
             blanks = ap (λ (y : View). y.blanks) is;
+            leaves = ap (λ (y : View). y.new_leaves) is;
+            inners = ap (λ (y : View). y.new_inners) is;
+            heads = ap (λ (y : View). y.heads) is;
           }) over.holds;
         };
         layout = layout;

@@ -1,8 +1,9 @@
 -- A page that was brought up for a write: the transaction goes on, and nothing was read.
-use Rattle.std.proofs.Common.{◌≡◌, inl, inr, ℕ, List, [], sym, ap, subst}
+use Rattle.std.proofs.Common.{◌≡◌, inl, inr, ℕ, List, [], sym, ap, ◌∙◌, subst}
 use Rattle.std.specs.Prelude.{Contains}
 use Rattle.lists.specs.Each.{AreDistinct}
 use Rattle.serial_model.specs.declared.key.Key.{Key}
+use Rattle.homes.specs.declared.places.Spot.{Spot}
 use Rattle.tx_sets.specs.declared.reads.ReadEntry.{ReadEntry}
 use Rattle.tx_sets.specs.declared.seen.Seen.{Seen}
 use Rattle.tx_sets.specs.declared.sets.Sets.{Sets}
@@ -11,11 +12,13 @@ use Rattle.engine_pages.specs.declared.layout.Layout.{Layout}
 use Rattle.engine_pages.specs.declared.view.View.{View}
 use Rattle.array_pages.specs.Making.{CanMake, HasMade}
 use Rattle.array_pages.specs.Spans.{IsArrayKey}
-use Rattle.array_pages.specs.Walks.{HasWalked, KeepsWords, OnlyWaysTo}
+use Rattle.array_pages.specs.Walks.{AreLedTo, HasWalked, KeepsWords, OnlyWaysTo}
 use Rattle.page_commit.specs.Live.{entry_places, AreMet, AreParts, ArePointersKept, ArePointersMet, IsLive}
 use Rattle.page_commit.specs.Keeping.{HasBrought}
-use Rattle.page_commit.proofs.GrowLaws.{key_here, knows_more, met_pointer_grown, read_grown, KnowsMore}
-use Rattle.page_commit.proofs.WalkedLaws.{inside_only, kept_walked, live_walked, met_only, only_walked, points_walked}
+use Rattle.page_commit.proofs.GrowLaws.{key_here, knows_more, met_pointer_grown, read_grown, spot_of_word}
+use Rattle.page_commit.proofs.GrowLaws.{KnowsMore}
+use Rattle.page_commit.proofs.WalkedLaws.{held_to, inside_only, kept_walked, live_walked, met_only, only_walked}
+use Rattle.page_commit.proofs.WalkedLaws.{points_walked}
 
 -- the parts are those that were kept, where the pass knows more
 pub parts_grown : (sets new : Sets) (v w : View) → IsLive sets v → KnowsMore v w → new.reads ≡ sets.reads
@@ -43,9 +46,9 @@ parts_grown sets new v w live more reads pointers kept = subst (AreParts new w) 
 }
 
 pub brought : (sets new : Sets) (v w : View) (k : Key) (at : ℕ) → IsLive sets v → HasWalked v w
-    → CanMake new.holds w → w.seat.kept ≡ v.seat.kept → KeepsWords v w → OnlyWaysTo k v w → HasMade k sets.pointers at v w
-    → new.reads ≡ sets.reads → new.pointers ≡ sets.pointers → new.writes ≡ sets.writes → HasBrought k at sets new v w
-brought sets new v w k at live walk can kept words paths made reads pointers writes =
+    → CanMake new.holds w → w.seat.kept ≡ v.seat.kept → KeepsWords v w → OnlyWaysTo k v w → AreLedTo k v w
+    → HasMade k sets.pointers at v w → new.reads ≡ sets.reads → new.pointers ≡ sets.pointers → new.writes ≡ sets.writes → HasBrought k at sets new v w
+brought sets new v w k at live walk can kept words paths led made reads pointers writes =
     let more = knows_more v w walk in
     let agree = can.walks.agree in
     let decls = can.walks.declared in record {
@@ -62,11 +65,14 @@ brought sets new v w k at live walk can kept words paths made reads pointers wri
       };
       only = only_walked v w walk;
       paths = paths;
+      held = held_to k sets.holds new.holds v w live.holds can.walks.holds led;
       kept = kept;
       reads = reads;
       pointers = pointers;
       writes = writes;
       place = key_here w k made.record_at.spot at made.record_at.place;
+      index = sym (ap (λ (y : Spot). y.index) (spot_of_word w k made.record_at.spot at made.record_at.place))
+          ∙ made.record_at.index;
     }
 
 -- the key's storage is as it was

@@ -33,10 +33,10 @@ use Rattle.engine_pages.specs.Steps.{kept_at, read_at, seen_at}
 use Rattle.engine_pages.specs.Touches.{has_took}
 use Rattle.engine_pages.specs.Views.{IsActive}
 use Rattle.page_records.specs.Attempts.{is_as_seen, checked_at, failed_at, CanCheckWord, Checked, HeldStays}
-use Rattle.page_records.specs.Locks.{lock_bit, took_at}
+use Rattle.page_records.specs.Locks.{lock_bit, took_at, array_absence}
 use Rattle.engine_pages.specs.declared.engine.Engine.{Engine}
 use Rattle.engine_pages.specs.Passes.{Pass, view, IsPassOf}
-use Rattle.page_commit.proofs.PlaceLaws.{spot_here, one_key, one_place}
+use Rattle.page_commit.proofs.PlaceLaws.{spot_here, one_key, one_place, key_array}
 use Rattle.page_commit.specs.Places.{ground, spot_at, Ground, IsKeyAt, IsKeyIn}
 use Rattle.page_commit.specs.Live.{IsWordFor, entry_places, read_word, reads_at, IsReadPart, IsWriteOf}
 use Rattle.page_commit.specs.Steps.{entry_words, pointer_words, tooks_of, AreAsRead, CheckConflict, HasCheckedSome}
@@ -298,7 +298,9 @@ can_check_one reads sets done d v w h apart same p lt =
             (ap (list_any (λ z. same_word z (Record x))) (no_pointers v.layout.slots sets.pointers));
         small = t.shown.small;
       },
-      sym t.shown.number,
+      (let number = t.shown.number in
+          let none = array_absence v.layout.decls e.key t.content.value (key_array (ground v) e.key e.at t.place) in
+          omega (arith, number, none)),
     )
 
 pub own_now : (sets : Sets) (n m : ℕ) (e : ReadEntry) (own : Bool) (v w : View) → HasTried sets v

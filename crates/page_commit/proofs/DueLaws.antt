@@ -28,12 +28,12 @@ use Rattle.page_pool.specs.Pool.{IsChanged}
 use Rattle.page_records.specs.Ends.{is_left, IsDue}
 use Rattle.array_pages.specs.Finding.{IsFoundIn, IsRecordChanged, RefusesFind}
 use Rattle.array_pages.specs.Making.{IsMadeWide, NoneUsable, RefusesMake}
-use Rattle.array_pages.specs.Walks.{HasWalked, IsPointerChanged, IsWide}
+use Rattle.array_pages.specs.Walks.{HasWalked, IsPointerChanged, IsWayPlace, IsWide}
 use Rattle.page_commit.specs.Places.{IsKeyAt}
 use Rattle.page_commit.specs.Live.{read_word, IsLive}
 use Rattle.page_commit.specs.Refusing.{IsConflictAt, IsPointerConflict, TellsOnly}
-use Rattle.page_commit.specs.Calls.{IsFullOf, IsInMemory, IsSlotConflict, IsWordIn, NeedsHold, NeedsPointer, RefusesRead}
-use Rattle.page_commit.specs.Calls.{RefusesWrite}
+use Rattle.page_commit.specs.Calls.{IsFullOf, IsInMemory, IsSlotConflict, IsWordIn, NeedsHold, NeedsPointer}
+use Rattle.page_commit.specs.Calls.{RefusesRead, RefusesWrite}
 use Rattle.page_commit.specs.Steps.{HasGivenUp, TellsOf}
 use Rattle.page_commit.proofs.CheckLaws.{number_small}
 use Rattle.page_commit.proofs.CommitLaws.{kept_others, last_same, told_key, told_none, touched_same}
@@ -41,7 +41,7 @@ use Rattle.page_commit.proofs.GiveUpLaws.{none_left}
 use Rattle.page_commit.proofs.GrowLaws.{key_here, knows_more, met_before, no_entry, none_read, pointer_here}
 use Rattle.page_commit.proofs.KeepLaws.{in_pointers}
 use Rattle.page_commit.proofs.WalkedLaws.{set_points}
-use Rattle.engine_pages.specs.Pointers.{WaysAgree}
+use Rattle.engine_pages.specs.Pointers.{WaysAgree, any_pointer}
 use Rattle.serial_model.specs.Decls.{AreDecls}
 
 -- a live transaction has walked
@@ -82,7 +82,7 @@ pointer_due sets k at expected seen v w h p =
       p.place.place,
       p.place.span,
       record {
-        place = p.place.is;
+        place = any_pointer w p.place.place p.place.span at p.place.is;
         here = ap (λ l. is_left l p.place.place) (gone_none sets v w h) ∙ none_left p.place.place;
         step = p.saw.step;
         last = p.saw.last;
@@ -158,7 +158,7 @@ slot_due at expected seen u w c =
     let y : View = c.seen in
     let f = c.first in
     let layout : w.layout ≡ u.layout = ap (λ (z : View). z.layout) c.only ∙ ap (λ (z : View). z.layout) f.seen.only in
-    inr (inr (
+    inr (inr (inl (
       c.slot,
       record {
         place = c.place;
@@ -172,10 +172,10 @@ slot_due at expected seen u w c =
         last = slot_last f.before at expected seen u y w f.seen.steps c.only;
         other = c.other;
       },
-    ))
+    )))
 
-pub full_due : (held : Option (ℕ × ℕ)) (v w : View) → NoneUsable held v w → IsDue (Some (refusals.Full held)) w
-full_due held v w n =
+pub full_due : (k : Key) (held : Option (ℕ × ℕ)) (v w : View) → NoneUsable held k v w → IsDue (Some (refusals.Full held)) w
+full_due k held v w n =
     let f = n.full in record {
       words = f.words;
       step = n.before.steps;
@@ -203,7 +203,7 @@ pub make_due : (why : RefusalCause) (sets : Sets) (slots : List ℕ) (k : Key) (
     → RefusesMake k sets.pointers slots why v w → IsDue (Some why) w
 make_due (refusals.Conflict at expected seen) sets slots k v w h (inl p) = pointer_due sets k at expected seen v w h p
 make_due (refusals.Conflict at expected seen) sets slots k v w h (inr c) = slot_due at expected seen c.0 w c.2
-make_due (refusals.Full held) sets slots k v w h r = full_due held v w r
+make_due (refusals.Full held) sets slots k v w h r = full_due k held v w r
 make_due (refusals.Wide set) sets slots k v w h r = tt
 make_due (refusals.NumberLimit clock) sets slots k v w h r = absurd r
 
@@ -255,6 +255,9 @@ module _ (why : RefusalCause) (sets : Sets) (v w x : View) (h : Walked sets v w)
   blamed_walk : w.blamed ≡ v.blamed
   blamed_walk = ap (λ (y : View). y.blamed) h.walk.is
 
+  layout_walk : w.layout ≡ v.layout
+  layout_walk = ap (λ (y : View). y.layout) h.walk.is
+
   pub slots_same : w.layout.slots ≡ v.layout.slots
   slots_same = ap (λ (y : View). y.layout.slots) h.walk.is
 
@@ -263,7 +266,7 @@ module _ (why : RefusalCause) (sets : Sets) (v w x : View) (h : Walked sets v w)
 
   pub pointer_cause : (k : Key) (at expected seen : ℕ) → why ≡ refusals.Conflict at expected seen
       → IsPointerChanged k sets.pointers at expected seen v w
-      → IsPointerConflict sets.pointers at expected seen v x × (x.blamed ≡ v.blamed)
+      → IsPointerConflict sets.pointers at expected seen v x × (x.blamed ≡ v.blamed) × IsWayPlace v.layout k at
   pointer_cause k at expected seen same p = (
     record {
       step = p.saw.step;
@@ -277,6 +280,7 @@ module _ (why : RefusalCause) (sets : Sets) (v w x : View) (h : Walked sets v w)
     },
     told_none [] why p.place.span at expected seen v w x blamed_walk same
         (pointer_here w p.place.place p.place.span at h.decls p.place.is) g,
+    subst (λ (l : Layout). IsWayPlace l k at) layout_walk p.place.on,
   )
 
   pub record_conflict : (k : Key) (at expected seen : ℕ) → why ≡ refusals.Conflict at expected seen
@@ -344,8 +348,8 @@ module _ (why : RefusalCause) (sets : Sets) (v w x : View) (h : Walked sets v w)
           ∙ (ap (λ l. l ++ g.met) blamed_walk
           ∙ (ap (λ l. v.blamed ++ l) (tells.2 c.slot there c.place) ∙ append-nil v.blamed)))
 
-  pub full_cause : (held : Option (ℕ × ℕ)) → NoneUsable held v w → IsFullOf held v x
-  full_cause held n = record {
+  pub full_cause : (k : Key) (held : Option (ℕ × ℕ)) → NoneUsable held k v w → IsFullOf held v x
+  full_cause k held n = record {
     words = n.full.words;
     count = n.full.count ∙ ap (λ (z : View). z.layout.slots) n.walked.is;
     taken = n.full.taken;
@@ -381,26 +385,39 @@ seen_in (f ∷ reads) at n is = by_test (f.word == at) refl is (seen_in reads at
 
 -- ---- the cause of a read
 
-needs_hold : (slots : List ℕ) (makes : Bool) (why : RefusalCause) (at word : ℕ) (w x : View) → HasGivenUp [] why w x
-    → seen_at w.reads at ≡ Some word → word < 2 ^ 60 → (makes ≡ false → 2 ^ 32 ≤ word)
-    → (2 ^ 32 ≤ word → has_slot slots (word / 2 ^ 32 - 1) ≡ false) → NeedsHold slots makes x
-needs_hold slots makes why at word w x g saw unshut leads unheld =
+-- the layout stays behind the end
+given_layout : (why : RefusalCause) (w x : View) → HasGivenUp [] why w x → x.layout ≡ w.layout
+given_layout why w x g = ap (λ (y : View). y.layout) g.left.is ∙ ap (λ (y : View). y.layout) g.forgot
+
+-- and so does where a pointer on the way stands
+place_given : (why : RefusalCause) (k : Key) (at word : ℕ) (w x : View) → HasGivenUp [] why w x → word ≡ at
+    → IsWayPlace w.layout k at → IsWayPlace x.layout k word
+place_given why k at word w x g same on =
+    subst (λ (n : ℕ). IsWayPlace x.layout k n) (sym same)
+    (subst (λ (l : Layout). IsWayPlace l k at) (sym (given_layout why w x g)) on)
+
+needs_hold : (k : Key) (slots : List ℕ) (makes : Bool) (why : RefusalCause) (at word : ℕ) (w x : View)
+    → HasGivenUp [] why w x → IsWayPlace w.layout k at → seen_at w.reads at ≡ Some word → word < 2 ^ 60
+    → (makes ≡ false → 2 ^ 32 ≤ word) → (2 ^ 32 ≤ word → has_slot slots (word / 2 ^ 32 - 1) ≡ false)
+    → NeedsHold k slots makes x
+needs_hold k slots makes why at word w x g on saw unshut leads unheld =
     let r = seen_in w.reads at word saw in record {
       read = r.0;
       met = kept_others [] why w x g r.0 r.1 refl;
+      on = place_given why k at r.0.word w x g r.2 on;
       unshut = subst (λ (n : ℕ). n < 2 ^ 60) (sym r.3) unshut;
       leads = λ no. subst (λ (n : ℕ). 2 ^ 32 ≤ n) (sym r.3) (leads no);
       unheld = subst (λ (n : ℕ). 2 ^ 32 ≤ n → has_slot slots (n / 2 ^ 32 - 1) ≡ false) (sym r.3) unheld;
     }
 
-find_wide : (set : SetName) (sets new : Sets) (k : Key) (w x : View) → HasGivenUp [] (refusals.Wide set) w x
-    → IsWide k sets.pointers new.holds set w
+find_wide : (set : SetName) (sets new : Sets) (k : Key) (v w x : View) → HasGivenUp [] (refusals.Wide set) w x
+    → IsWide k sets.pointers new.holds set v w
     → ((set ≡ Reads) × (length sets.reads ≡ 256) × IsInMemory k x)
-    ⊎ (((set ≡ Holds) × (length new.holds ≡ 128) × NeedsHold new.holds false x)
-    ⊎ ((set ≡ Pointers) × (length sets.pointers ≡ 128) × NeedsPointer sets.pointers x))
-find_wide Reads sets new k w x g h = absurd h
-find_wide Writes sets new k w x g h = absurd h
-find_wide Pointers sets new k w x g h =
+    ⊎ (((set ≡ Holds) × (length new.holds ≡ 128) × NeedsHold k new.holds false x)
+    ⊎ ((set ≡ Pointers) × (length sets.pointers ≡ 128) × NeedsPointer k sets.pointers x))
+find_wide Reads sets new k v w x g h = absurd h
+find_wide Writes sets new k v w x g h = absurd h
+find_wide Pointers sets new k v w x g h =
     let n = h.1 in
     let r = seen_in w.reads n.at n.word n.saw in
     inr (inr (
@@ -409,16 +426,18 @@ find_wide Pointers sets new k w x g h =
       record {
         read = r.0;
         met = kept_others [] (refusals.Wide Pointers) w x g r.0 r.1 refl;
+        on = place_given (refusals.Wide Pointers) k n.at r.0.word w x g r.2 n.on.on;
         bare = subst (λ (i : ℕ). i < 2 ^ 32) (sym r.3) n.bare;
         absent = ap (λ (i : ℕ). word_at i sets.pointers) r.2 ∙ n.absent;
       },
     ))
-find_wide Holds sets new k w x g h =
+find_wide Holds sets new k v w x g h =
     let n = h.1 in
     inr (inl (
       refl,
       h.0,
-      needs_hold new.holds false (refusals.Wide Holds) n.at n.word w x g n.saw n.unshut (λ no. n.led) (λ led. n.unheld),
+      needs_hold k new.holds false (refusals.Wide Holds) n.at n.word w x g n.on.on n.saw n.unshut (λ no. n.led)
+          (λ led. n.unheld),
     ))
 
 pub find_cause : (why : RefusalCause) (sets new : Sets) (k : Key) (v w x : View) → Walked sets v w
@@ -440,7 +459,7 @@ find_cause (refusals.Wide set) sets new k v w x h none unwritten r g = (
   none,
   unwritten,
   draws_same (refusals.Wide set) sets v w x h g,
-  find_wide set sets new k w x g r,
+  find_wide set sets new k v w x g r,
   touches_same (refusals.Wide set) sets v w x h g,
 )
 find_cause (refusals.NumberLimit clock) sets new k v w x h none unwritten r g = absurd r
@@ -473,20 +492,21 @@ entry_cause sets new k at word value v w x h none unwritten f full g =
 
 -- ---- the cause of a write
 
-make_wide : (set : SetName) (sets new : Sets) (k : Key) (w x : View) → length sets.writes < 16
-    → HasGivenUp [] (refusals.Wide set) w x → IsMadeWide k new.holds set w
+make_wide : (set : SetName) (sets new : Sets) (k : Key) (v w x : View) → length sets.writes < 16
+    → HasGivenUp [] (refusals.Wide set) w x → IsMadeWide k new.holds set v w
     → ((set ≡ Writes) × (length sets.writes ≡ 16))
-    ⊎ ((length sets.writes < 16) × (set ≡ Holds) × (length new.holds ≡ 128) × NeedsHold new.holds true x)
-make_wide Reads sets new k w x room g h = absurd h
-make_wide Writes sets new k w x room g h = absurd h
-make_wide Pointers sets new k w x room g h = absurd h
-make_wide Holds sets new k w x room g h =
+    ⊎ ((length sets.writes < 16) × (set ≡ Holds) × (length new.holds ≡ 128) × NeedsHold k new.holds true x)
+make_wide Reads sets new k v w x room g h = absurd h
+make_wide Writes sets new k v w x room g h = absurd h
+make_wide Pointers sets new k v w x room g h = absurd h
+make_wide Holds sets new k v w x room g h =
     let n = h.1 in
     inr (
       room,
       refl,
       h.0,
-      needs_hold new.holds true (refusals.Wide Holds) n.at n.word w x g n.saw n.unshut (λ no. absurd (true≢false no)) n.unheld,
+      needs_hold k new.holds true (refusals.Wide Holds) n.at n.word w x g n.on.on n.saw n.unshut
+          (λ no. absurd (true≢false no)) n.unheld,
     )
 
 pub make_cause : (why : RefusalCause) (sets new : Sets) (k : Key) (v w x : View) → Walked sets v w
@@ -495,7 +515,7 @@ pub make_cause : (why : RefusalCause) (sets new : Sets) (k : Key) (v w x : View)
 make_cause (refusals.Conflict at expected seen) sets new k v w x h room unwritten (inl p) g =
     let why : RefusalCause = refusals.Conflict at expected seen in
     let c = pointer_cause why sets v w x h g k at expected seen refl p in
-    (room, unwritten, draws_same why sets v w x h g, inl c.0, c.1, touches_same why sets v w x h g)
+    (room, unwritten, draws_same why sets v w x h g, inl (c.0, c.2), c.1, touches_same why sets v w x h g)
 make_cause (refusals.Conflict at expected seen) sets new k v w x h room unwritten (inr s) g =
     let why : RefusalCause = refusals.Conflict at expected seen in
     let c = slot_cause why sets v w x h g at expected seen s.0 refl s.1 s.2 in
@@ -505,12 +525,16 @@ make_cause (refusals.Full held) sets new k v w x h room unwritten r g =
       room,
       unwritten,
       draws_same why sets v w x h g,
-      full_cause why sets v w x h g held r,
+      full_cause why sets v w x h g k held r,
       touches_same why sets v w x h g,
     )
 make_cause (refusals.Wide set) sets new k v w x h room unwritten r g =
-    let why : RefusalCause = refusals.Wide set in
-    (unwritten, draws_same why sets v w x h g, make_wide set sets new k w x room g r, touches_same why sets v w x h g)
+    let why : RefusalCause = refusals.Wide set in (
+      unwritten,
+      draws_same why sets v w x h g,
+      make_wide set sets new k v w x room g r,
+      touches_same why sets v w x h g,
+    )
 make_cause (refusals.NumberLimit clock) sets new k v w x h room unwritten r g = absurd r
 
 -- the write set was full

@@ -22,6 +22,7 @@ use Rattle.tx_sets.specs.declared.reads.ReadEntry.{ReadEntry}
 use Rattle.tx_sets.specs.declared.seen.Seen.{Seen}
 use Rattle.tx_sets.specs.declared.sets.Sets.{Sets}
 use Rattle.tx_sets.specs.Entries.{has_read, has_word, has_write, places_of, read_of, word_at, IsPushed}
+use Rattle.engine_pages.specs.declared.layout.Layout.{Layout}
 use Rattle.engine_pages.specs.declared.view.RefusalCause.TheVariants as refusals
 use Rattle.engine_pages.specs.declared.view.SetName.TheVariants.{Reads}
 use Rattle.engine_pages.specs.declared.view.View.{View}
@@ -32,7 +33,7 @@ use Rattle.array_pages.specs.declared.finding.Found.{Found}
 use Rattle.array_pages.specs.declared.finding.Found.TheVariants as places
 use Rattle.array_pages.specs.Finding.{IsFound, IsFoundBelow, IsFoundIn}
 use Rattle.array_pages.specs.Spans.{IsArrayKey}
-use Rattle.array_pages.specs.Walks.{CanWalk, HasWalked, KeepsMet, MeetsSo, OnlyWaysTo}
+use Rattle.array_pages.specs.Walks.{AreLedTo, CanWalk, HasWalked, IsWayPlace, KeepsMet, MeetsSo, OnlyWaysTo}
 use Rattle.page_commit.specs.Places.{ground, spot_at, IsKeyAt}
 use Rattle.page_commit.specs.Live.{ArePointersKept, ArePointersMet, IsLive, IsMetPointer, IsReadPart}
 use Rattle.page_commit.specs.Calls.{RefusesRead}
@@ -43,7 +44,8 @@ use Rattle.page_commit.specs.Turning.{OnlyWalked}
 use Rattle.page_commit.proofs.GrowLaws.{key_grown, key_here, knows_more, no_entry, place_of_word, pointer_here, spot_of_word}
 use Rattle.page_commit.proofs.KeepLaws.{entry_parts, entry_stays, kept_new, pointer_cases, pointer_parts, pointer_stays}
 use Rattle.page_commit.proofs.KeepLaws.{same_pointer}
-use Rattle.page_commit.proofs.WalkedLaws.{inside_entry, inside_only, kept_walked, live_walked, met_entry, met_only}
+use Rattle.page_commit.proofs.WalkedLaws.{held_same, held_to, inside_entry, inside_only, kept_walked, live_walked}
+use Rattle.page_commit.proofs.WalkedLaws.{met_entry, met_only}
 use Rattle.page_commit.proofs.WalkedLaws.{only_walked, places_push, pointers_push, points_walked}
 
 -- ---- keys that were read, or not
@@ -112,6 +114,7 @@ value_again sets v k e live is = record {
   live = live;
   only = nothing_walked v;
   paths = λ x has. inl has;
+  held = held_same k sets.holds sets.holds v refl;
   again = λ x of. same x (sym is ∙ of);
   anew = λ none. absurd (none_some (sym none ∙ is));
   places = λ q a p. p;
@@ -141,7 +144,8 @@ value_again sets v k e live is = record {
 -- ---- a record in a page in memory
 
 module _ (sets new : Sets) (v w : View) (k : Key) (at word value : ℕ) (live : IsLive sets v) (walk : HasWalked v w)
-    (can : CanWalk new.holds w) (paths : OnlyWaysTo k v w) (keeps : KeepsMet sets.pointers v w) (f : IsFoundIn k at word value v w)
+    (can : CanWalk new.holds w) (paths : OnlyWaysTo k v w) (led : AreLedTo k v w) (keeps : KeepsMet sets.pointers v w)
+    (f : IsFoundIn k at word value v w)
     (none : has_read k sets.reads ≡ false)
     (reads : new.reads ≡ sets.reads ++ record { key = k; at = at; word = word; value = value } ∷ [])
     (pointers : new.pointers ≡ sets.pointers) (writes : new.writes ≡ sets.writes) where
@@ -179,6 +183,7 @@ module _ (sets new : Sets) (v w : View) (k : Key) (at word value : ℕ) (live : 
     live = live_entry;
     only = only_walked v w walk;
     paths = paths;
+    held = held_to k sets.holds new.holds v w live.holds can.holds led;
     again = λ x of. absurd (none_some x (sym (unread k sets.reads none) ∙ of));
     anew = λ fresh. f.has ∙ ap (λ (c : Content). unwrap_or c.value 0) f.last;
     places = λ q a p. key_grown v w q a (knows_more v w walk) p;
@@ -216,7 +221,8 @@ below_met k c pointers p v w are fits f = record {
 
 module _ (sets new : Sets) (v w : View) (k : Key) (c : Content) (p : Seen) (answer : ℕ) (live : IsLive sets v)
     (walk : HasWalked v w) (can : CanWalk new.holds w) (fits : IsArrayKey w.layout.decls k)
-    (paths : OnlyWaysTo k v w) (keeps : KeepsMet sets.pointers v w) (f : IsFoundBelow k c sets.pointers p v w)
+    (paths : OnlyWaysTo k v w) (led : AreLedTo k v w) (keeps : KeepsMet sets.pointers v w)
+    (f : IsFoundBelow k c sets.pointers p v w)
     (none : has_read k sets.reads ≡ false) (reads : new.reads ≡ sets.reads) (writes : new.writes ≡ sets.writes)
     (meets : MeetsPointer p sets.pointers new.pointers) (is : answer ≡ unwrap_or c.value 0) where
   met : IsMetPointer w p f.part
@@ -280,13 +286,14 @@ module _ (sets new : Sets) (v w : View) (k : Key) (c : Content) (p : Seen) (answ
     live = live_below;
     only = only_walked v w walk;
     paths = paths;
+    held = held_to k sets.holds new.holds v w live.holds can.holds led;
     again = λ x of. absurd (none_some x (sym (unread k sets.reads none) ∙ of));
     anew = λ fresh. is ∙ ap (λ (o : Option ℕ). unwrap_or o 0) f.last;
     places = λ q a place. key_grown v w q a (knows_more v w walk) place;
     keeps = pointer_stays sets new v w p f.part live.decls can.agree (knows_more v w walk) live.parts live.once met meets
         f.kept;
     reads = inl reads;
-    pointers = elim meets [ inl m ↦ inl m.1 | inr m ↦ inr (p, m.1) ];
+    pointers = elim meets [ inl m ↦ inl m.1 | inr m ↦ inr (p, m.1, on_before) ];
     writes = writes;
     content = c.value;
     value_is = is;
@@ -301,6 +308,9 @@ module _ (sets new : Sets) (v w : View) (k : Key) (c : Content) (p : Seen) (answ
       none_some : (x : ReadEntry) → None ≡ Some x → ⊥
       none_some x same = absurd cc
 
+      on_before : IsWayPlace v.layout k p.at
+      on_before = subst (λ (l : Layout). IsWayPlace l k p.at) (ap (λ (y : View). y.layout) walk.is) f.on
+
 -- ---- wherever it was found
 
 -- the key's storage is as it was
@@ -312,20 +322,21 @@ fits_now v w k walk fits =
 -- the sets between have what those before have, and the holds behind the walk
 pub value_found : (f : Found) (answer : ℕ) (sets mid new : Sets) (v w : View) (k : Key) → mid.reads ≡ sets.reads
     → mid.pointers ≡ sets.pointers → mid.writes ≡ sets.writes → IsLive sets v → HasWalked v w → CanWalk mid.holds w
-    → IsArrayKey v.layout.decls k → OnlyWaysTo k v w → KeepsMet sets.pointers v w → IsFound k sets.pointers f v w
-    → has_read k sets.reads ≡ false → KeepsFound k f answer mid new → HasValue k answer sets new v w
-value_found (places.Volatile at word value) answer sets mid new v w k reads pointers writes live walk can fits paths keeps f none h =
+    → IsArrayKey v.layout.decls k → OnlyWaysTo k v w → AreLedTo k v w → KeepsMet sets.pointers v w
+    → IsFound k sets.pointers f v w → has_read k sets.reads ≡ false → KeepsFound k f answer mid new
+    → HasValue k answer sets new v w
+value_found (places.Volatile at word value) answer sets mid new v w k reads pointers writes live walk can fits paths led keeps f none h =
     subst (λ (n : ℕ). HasValue k n sets new v w) (sym h.0)
-    (value_in sets new v w k at word value live walk (subst (λ l. CanWalk l w) (sym h.1.holds) can) paths keeps f none
+    (value_in sets new v w k at word value live walk (subst (λ l. CanWalk l w) (sym h.1.holds) can) paths led keeps f none
     (h.3 ∙ ap (λ l. l ++ record { key = k; at = at; word = word; value = value } ∷ []) reads) (h.2 ∙ pointers)
     (h.1.writes ∙ writes))
-value_found (places.Snapshot value number p) answer sets mid new v w k reads pointers writes live walk can fits paths keeps f none h =
+value_found (places.Snapshot value number p) answer sets mid new v w k reads pointers writes live walk can fits paths led keeps f none h =
     value_below sets new v w k (record { number = number_in number; value = Some value }) p answer live walk
-    (subst (λ l. CanWalk l w) (sym h.1.holds) can) (fits_now v w k walk fits) paths keeps f none (h.3 ∙ reads)
+    (subst (λ l. CanWalk l w) (sym h.1.holds) can) (fits_now v w k walk fits) paths led keeps f none (h.3 ∙ reads)
     (h.1.writes ∙ writes) (subst (λ (l : List Seen). MeetsPointer p l new.pointers) pointers h.2) h.0
-value_found (places.Zero p) answer sets mid new v w k reads pointers writes live walk can fits paths keeps f none h =
+value_found (places.Zero p) answer sets mid new v w k reads pointers writes live walk can fits paths led keeps f none h =
     value_below sets new v w k nothing p answer live walk (subst (λ l. CanWalk l w) (sym h.1.holds) can)
-    (fits_now v w k walk fits) paths keeps f none (h.3 ∙ reads) (h.1.writes ∙ writes)
+    (fits_now v w k walk fits) paths led keeps f none (h.3 ∙ reads) (h.1.writes ∙ writes)
     (subst (λ (l : List Seen). MeetsPointer p l new.pointers) pointers h.2) h.0
 
 -- what is kept of what was found so

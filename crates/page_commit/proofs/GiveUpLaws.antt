@@ -21,7 +21,7 @@ use Rattle.engine_pages.specs.declared.view.Role.{Role}
 use Rattle.engine_pages.specs.declared.view.Role.TheVariants.{Worker}
 use Rattle.engine_pages.specs.declared.view.Touch.{Touch}
 use Rattle.engine_pages.specs.declared.view.View.{View}
-use Rattle.engine_pages.specs.Pointers.{WaysAgree}
+use Rattle.engine_pages.specs.Pointers.{WaysAgree, any_pointer}
 use Rattle.engine_pages.specs.Touches.{has_took, touch}
 use Rattle.engine_pages.specs.Views.{seat_number, IsResting}
 use Rattle.page_records.specs.Attempts.{HasDrawn, attempt_of}
@@ -55,7 +55,9 @@ has_locks ws found v w free h = record {
 pub tells_of : (why : RefusalCause) (met : List Touch) (v : View) → IsMetFor (Some why) met v → TellsOf why met v
 tells_of (refusals.Conflict at expected seen) met v of = (
   (λ k place. of.keyed k (spot_at v.layout.slots at) place),
-  (λ sp place. of.pointer (pointer_at v.layout.slots at) sp (pointer_there v sp at place)),
+  (λ sp place.
+      of.pointer (pointer_at v.layout.slots at) sp
+      (any_pointer v (pointer_at v.layout.slots at) sp at (pointer_there v sp at place))),
   (λ t low is. of.slot t low is),
 )
 tells_of (refusals.Full held) met v of = of
@@ -158,7 +160,8 @@ is_due ws at expected seen v w (inr m) gone apart h =
       pointer_at w.layout.slots at,
       m.span,
       record {
-        place = pointer_there w m.span at (subst (λ (y : View). IsPointerIn (ground y) m.span at) (sym h.is) m.place);
+        place = any_pointer w (pointer_at w.layout.slots at) m.span at
+            (pointer_there w m.span at (subst (λ (y : View). IsPointerIn (ground y) m.span at) (sym h.is) m.place));
         here = ap (λ (y : View). is_left y.gone (pointer_at w.layout.slots at)) h.is
             ∙ (ap (λ l. is_left l (pointer_at w.layout.slots at)) gone ∙ none_left (pointer_at w.layout.slots at));
         step = m.step;
@@ -206,6 +209,9 @@ refused_from why drew sets ws v w x live pages role seen since mine draws marks 
       drafts = ap (λ (y : View). y.drafts) h;
       copies = ap (λ (y : View). y.copies) h;
       blanks = ap (λ (y : View). y.blanks) h;
+      leaves = ap (λ (y : View). y.new_leaves) h;
+      inners = ap (λ (y : View). y.new_inners) h;
+      heads = ap (λ (y : View). y.heads) h;
     } in
     let all : SamePages v g.mid = same_then v w g.mid pages mid in record {
       over = record {

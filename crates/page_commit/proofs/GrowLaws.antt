@@ -28,7 +28,7 @@ use Rattle.engine_pages.specs.declared.view.View.{View}
 use Rattle.engine_pages.specs.declared.view.Way.{Way}
 use Rattle.engine_pages.specs.Layout.{page_at, words_of}
 use Rattle.engine_pages.specs.Pages.{child_span, is_array, root_span}
-use Rattle.engine_pages.specs.Pointers.{IsPointerAt, StandsFor, WaysAgree}
+use Rattle.engine_pages.specs.Pointers.{IsArrayPointerAt, StandsFor, WaysAgree}
 use Rattle.engine_pages.specs.Records.{IsRecordAt, IsRecordIn}
 use Rattle.engine_pages.specs.Steps.{seen_at}
 use Rattle.dual_pointer.specs.Parts.{IsPointerPart, part_stays}
@@ -110,7 +110,7 @@ pub key_here : (v : View) (k : Key) (x : Spot) (at : ℕ) → IsRecordAt v k x a
 key_here v k x at p = subst (λ (y : Spot). IsRecordAt v k y at) (spot_of_word v k x at p) p
 
 -- so does that of a pointer
-pub place_of_word : (v : View) (x : At) (sp : Span) (at : ℕ) → AreDecls v.layout.decls → IsPointerAt v x sp at
+pub place_of_word : (v : View) (x : At) (sp : Span) (at : ℕ) → AreDecls v.layout.decls → IsArrayPointerAt v x sp at
     → x ≡ pointer_at v.layout.slots at
 place_of_word v (Root r) sp at are p =
     let few = are.few in
@@ -132,7 +132,7 @@ place_of_word v (In y) sp at are p =
     ∙ sym (ap (λ (b : Bool). cond b (Root (at - 10))
     (In (record { slot = slot_of v.layout.slots at; index = word_of v.layout.slots at }))) high))
 
-pub pointer_here : (v : View) (x : At) (sp : Span) (at : ℕ) → AreDecls v.layout.decls → IsPointerAt v x sp at
+pub pointer_here : (v : View) (x : At) (sp : Span) (at : ℕ) → AreDecls v.layout.decls → IsArrayPointerAt v x sp at
     → IsPointerIn (ground v) sp at
 pointer_here v (Root r) sp at are p =
     let few = are.few in

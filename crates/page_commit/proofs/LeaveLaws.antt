@@ -11,7 +11,7 @@ use Rattle.drop_core.specs.Table.{has_slot}
 use Rattle.drop_core.specs.declared.grip.Grip.{Grip}
 use Rattle.engine_rule.specs.JointState.{keeps_word}
 use Rattle.engine_pages.specs.declared.layout.Layout.{Layout}
-use Rattle.engine_pages.specs.declared.view.Head.{Head}
+use Rattle.engine_pages.specs.declared.view.Inner.{Inner}
 use Rattle.engine_pages.specs.declared.view.Known.{Known}
 use Rattle.engine_pages.specs.declared.view.Moved.{Moved}
 use Rattle.engine_pages.specs.declared.view.Shut.{Shut}
@@ -34,6 +34,9 @@ pub record SamePages (v w : View) : Type 0 where
   pub drafts : w.drafts ≡ v.drafts
   pub copies : w.copies ≡ v.copies
   pub blanks : w.blanks ≡ v.blanks
+  pub leaves : w.new_leaves ≡ v.new_leaves
+  pub inners : w.new_inners ≡ v.new_inners
+  pub heads : w.heads ≡ v.heads
 
 pub same_then : (u v w : View) → SamePages u v → SamePages v w → SamePages u w
 same_then u v w a b = record {
@@ -43,6 +46,9 @@ same_then u v w a b = record {
   drafts = b.drafts ∙ a.drafts;
   copies = b.copies ∙ a.copies;
   blanks = b.blanks ∙ a.blanks;
+  leaves = b.leaves ∙ a.leaves;
+  inners = b.inners ∙ a.inners;
+  heads = b.heads ∙ a.heads;
 }
 
 pub holds_stay : (slots : List ℕ) (v w : View) → SamePages v w → HasHolds slots v → HasHolds slots w
@@ -54,6 +60,9 @@ holds_stay slots v w same h = record {
   drafts = same.drafts ∙ h.drafts;
   copies = same.copies ∙ h.copies;
   blanks = same.blanks ∙ h.blanks;
+  leaves = same.leaves ∙ h.leaves;
+  inners = same.inners ∙ h.inners;
+  heads = same.heads ∙ h.heads;
 }
 
 -- ---- leaving
@@ -64,8 +73,8 @@ pub record IsLeaving (slots : List ℕ) (v w : View) (done : ℕ) : Type 0 where
   pub holds : List ℕ
   pub ways : List Way
   pub known : List Known
-  pub heads : List Head
   pub moved : List Moved
+  pub inners : List Inner
   pub shuts : List Shut
   pub gone : List ℕ
   pub agree : WaysAgree v.ways → WaysAgree ways
@@ -75,8 +84,8 @@ pub record IsLeaving (slots : List ℕ) (v w : View) (done : ℕ) : Type 0 where
     grip = record v.grip { holds = holds };
     ways = ways;
     known = known;
-    heads = heads;
     moved = moved;
+    inners = inners;
     shuts = shuts;
     gone = gone;
   }
@@ -87,8 +96,8 @@ starts_leaving slots v h = record {
   holds = v.grip.holds;
   ways = v.ways;
   known = v.known;
-  heads = v.heads;
   moved = v.moved;
+  inners = v.inners;
   shuts = v.shuts;
   gone = v.gone;
   agree = λ are. are;
@@ -176,8 +185,8 @@ left_one slots v w x done d apart p lt is =
       grip = record v.grip { holds = p.holds };
       ways = p.ways;
       known = p.known;
-      heads = p.heads;
       moved = p.moved;
+      inners = p.inners;
       shuts = p.shuts;
       gone = p.gone;
     } in
@@ -189,8 +198,8 @@ left_one slots v w x done d apart p lt is =
       holds = y.grip.holds;
       ways = y.ways;
       known = y.known;
-      heads = y.heads;
       moved = y.moved;
+      inners = y.inners;
       shuts = y.shuts;
       gone = y.gone;
       agree = λ are. agree_fewer t p.ways (p.agree are);
@@ -221,8 +230,8 @@ left_all slots v w done p le =
       steps = p.steps;
       ways = p.ways;
       known = p.known;
-      heads = p.heads;
       moved = p.moved;
+      inners = p.inners;
       shuts = p.shuts;
       gone = p.gone;
       agree = p.agree;
@@ -235,8 +244,8 @@ left_all slots v w done p le =
       grip = record v.grip { holds = l };
       ways = p.ways;
       known = p.known;
-      heads = p.heads;
       moved = p.moved;
+      inners = p.inners;
       shuts = p.shuts;
       gone = p.gone;
     }
@@ -252,6 +261,9 @@ left_holds slots v w h l = record {
   drafts = ap (λ (y : View). y.drafts) l.is ∙ h.drafts;
   copies = ap (λ (y : View). y.copies) l.is ∙ h.copies;
   blanks = ap (λ (y : View). y.blanks) l.is ∙ h.blanks;
+  leaves = ap (λ (y : View). y.new_leaves) l.is ∙ h.leaves;
+  inners = ap (λ (y : View). y.new_inners) l.is ∙ h.inners;
+  heads = ap (λ (y : View). y.heads) l.is ∙ h.heads;
 }
 
 pub left_agree : (v w : View) → WaysAgree v.ways → HasLeft v w → WaysAgree w.ways

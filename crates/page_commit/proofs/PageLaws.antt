@@ -18,6 +18,9 @@ locked_pages ws found v w h = record {
   drafts = ap (λ (y : View). y.drafts) h.is;
   copies = ap (λ (y : View). y.copies) h.is;
   blanks = ap (λ (y : View). y.blanks) h.is;
+  leaves = ap (λ (y : View). y.new_leaves) h.is;
+  inners = ap (λ (y : View). y.new_inners) h.is;
+  heads = ap (λ (y : View). y.heads) h.is;
 }
 
 pub drawn_pages : (changes : List Change) (n : ℕ) (v w : View) → HasDrawn changes v n w → SamePages v w
@@ -28,6 +31,9 @@ drawn_pages changes n v w h = record {
   drafts = ap (λ (y : View). y.drafts) h.is;
   copies = ap (λ (y : View). y.copies) h.is;
   blanks = ap (λ (y : View). y.blanks) h.is;
+  leaves = ap (λ (y : View). y.new_leaves) h.is;
+  inners = ap (λ (y : View). y.new_inners) h.is;
+  heads = ap (λ (y : View). y.heads) h.is;
 }
 
 pub checked_pages : (v w : View) → HasChecked v w → SamePages v w
@@ -38,6 +44,9 @@ checked_pages v w h = record {
   drafts = ap (λ (y : View). y.drafts) h.is;
   copies = ap (λ (y : View). y.copies) h.is;
   blanks = ap (λ (y : View). y.blanks) h.is;
+  leaves = ap (λ (y : View). y.new_leaves) h.is;
+  inners = ap (λ (y : View). y.new_inners) h.is;
+  heads = ap (λ (y : View). y.heads) h.is;
 }
 
 pub failed_pages : (v w : View) → HasFailed v w → SamePages v w
@@ -48,6 +57,9 @@ failed_pages v w h = record {
   drafts = ap (λ (y : View). y.drafts) h.is;
   copies = ap (λ (y : View). y.copies) h.is;
   blanks = ap (λ (y : View). y.blanks) h.is;
+  leaves = ap (λ (y : View). y.new_leaves) h.is;
+  inners = ap (λ (y : View). y.new_inners) h.is;
+  heads = ap (λ (y : View). y.heads) h.is;
 }
 
 pub chosen_pages : (m : ℕ) (v w : View) → HasChosen v m w → SamePages v w
@@ -58,6 +70,9 @@ chosen_pages m v w h = record {
   drafts = ap (λ (y : View). y.drafts) h.is;
   copies = ap (λ (y : View). y.copies) h.is;
   blanks = ap (λ (y : View). y.blanks) h.is;
+  leaves = ap (λ (y : View). y.new_leaves) h.is;
+  inners = ap (λ (y : View). y.new_inners) h.is;
+  heads = ap (λ (y : View). y.heads) h.is;
 }
 
 pub published_pages : (v w : View) → HasPublished v w → SamePages v w
@@ -68,6 +83,9 @@ published_pages v w h = record {
   drafts = ap (λ (y : View). y.drafts) h.is;
   copies = ap (λ (y : View). y.copies) h.is;
   blanks = ap (λ (y : View). y.blanks) h.is;
+  leaves = ap (λ (y : View). y.new_leaves) h.is;
+  inners = ap (λ (y : View). y.new_inners) h.is;
+  heads = ap (λ (y : View). y.heads) h.is;
 }
 
 pub unlocked_pages : (ws : List Write) (v w : View) → HasUnlocked ws v w → SamePages v w
@@ -78,6 +96,9 @@ unlocked_pages ws v w h = record {
   drafts = ap (λ (y : View). y.drafts) h.is;
   copies = ap (λ (y : View). y.copies) h.is;
   blanks = ap (λ (y : View). y.blanks) h.is;
+  leaves = ap (λ (y : View). y.new_leaves) h.is;
+  inners = ap (λ (y : View). y.new_inners) h.is;
+  heads = ap (λ (y : View). y.heads) h.is;
 }
 
 pub forgotten_pages : (why : Option RefusalCause) (v w : View) → HasForgotten why v w → SamePages v w
@@ -88,4 +109,7 @@ forgotten_pages why v w h = record {
   drafts = ap (λ (y : View). y.drafts) h.is;
   copies = ap (λ (y : View). y.copies) h.is;
   blanks = ap (λ (y : View). y.blanks) h.is;
+  leaves = ap (λ (y : View). y.new_leaves) h.is;
+  inners = ap (λ (y : View). y.new_inners) h.is;
+  heads = ap (λ (y : View). y.heads) h.is;
 }

@@ -11,12 +11,14 @@ use Rattle.homes.specs.Homes.{same_key}
 use Rattle.homes.specs.Laws.{same_key-self}
 use Rattle.engine_pages.specs.declared.view.View.{View}
 use Rattle.engine_pages.specs.Layout.{page_at}
-use Rattle.engine_pages.specs.Pointers.{IsPointerAt, WaysAgree}
+use Rattle.engine_pages.specs.Pages.{is_array}
+use Rattle.engine_pages.specs.Pointers.{IsArrayPointerAt, WaysAgree}
 use Rattle.engine_pages.specs.declared.engine.Engine.{Engine}
 use Rattle.engine_pages.specs.declared.layout.Layout.{Layout}
 use Rattle.engine_pages.specs.Passes.{Pass, view, IsPassOf}
-use Rattle.engine_pages.specs.Records.{IsRecordAt}
+use Rattle.engine_pages.specs.Records.{IsRecordAt, IsAnyRecordAt}
 use Rattle.page_commit.specs.Places.{IsKeyAt, ground, pointer_at, slot_of, spot_at, word_of, Ground}
+use Rattle.engine_pages.specs.Pages.{is_array}
 use Rattle.page_commit.specs.Places.{IsKeyIn, IsPointerIn}
 
 -- ---- one word, one key
@@ -57,16 +59,16 @@ no_pointer g k sp at agree a (inr c) =
 
 -- where the word of a pointer stands
 pub pointer_there : (v : View) (sp : Span) (at : ℕ) → IsPointerIn (ground v) sp at
-    → IsPointerAt v (pointer_at v.layout.slots at) sp at
+    → IsArrayPointerAt v (pointer_at v.layout.slots at) sp at
 pointer_there v sp at (inl r) =
     let low : nat_lt at 32 ≡ true = let few = r.few in let is = r.word in grind (arith, nat_tests) in
     let root : r.root ≡ at - 10 = let is = r.word in omega arith in
-    subst (λ b. IsPointerAt v (cond b (Root (at - 10)) (In (record { slot = slot_of v.layout.slots at; index = word_of v.layout.slots at }))) sp at)
+    subst (λ b. IsArrayPointerAt v (cond b (Root (at - 10)) (In (record { slot = slot_of v.layout.slots at; index = word_of v.layout.slots at }))) sp at)
     (sym low)
-    (subst (λ (i : ℕ). IsPointerAt v (Root i) sp at) root (r.there, r.span, r.word))
+    (subst (λ (i : ℕ). IsArrayPointerAt v (Root i) sp at) root (r.there, r.span, r.word))
 pointer_there v sp at (inr c) =
     let high : nat_lt at 32 ≡ false = let is = c.word in grind (arith, nat_tests) in
-    subst (λ b. IsPointerAt v (cond b (Root (at - 10)) (In (record { slot = slot_of v.layout.slots at; index = word_of v.layout.slots at }))) sp at)
+    subst (λ b. IsArrayPointerAt v (cond b (Root (at - 10)) (In (record { slot = slot_of v.layout.slots at; index = word_of v.layout.slots at }))) sp at)
     (sym high) record {
       way = c.way;
       has = c.has;
@@ -132,6 +134,10 @@ one_pointer g sp tp at other a b same = by_sides (stands_so g sp at a) (stands_s
         (sym x.0 ∙ (same ∙ y.0)) in
         x.1 ∙ (ap (λ (z : Spot). page_at g.layout.slots z.slot z.index) spot ∙ sym y.1)
 
+-- the key is one of an array
+pub key_array : (g : Ground) (k : Key) (at : ℕ) → IsKeyIn g k at → is_array g.layout.decls k.storage ≡ true
+key_array g k at p = ap (λ (q : Key). is_array g.layout.decls q.storage) p.key ∙ p.kind
+
 -- ---- the place that a call computes
 
 -- it is that of the word, of as many slots as the pass has
@@ -142,3 +148,8 @@ spot_here e p at x of is = is ∙ ap (λ (l : Layout). spot_at l.slots at) (sym 
 pub spot_is : (e : Engine) (p : Pass) (k : Key) (at : ℕ) (x : Spot) → IsPassOf e p → x ≡ spot_at e.table.shared.key.slots at
     → IsKeyAt (view p) k at → IsRecordAt (view p) k x at
 spot_is e p k at x of is place = subst (λ (y : Spot). IsRecordAt (view p) k y at) (sym (spot_here e p at x of is)) place
+
+-- and that of any record
+pub spot_any : (e : Engine) (p : Pass) (k : Key) (at : ℕ) (x : Spot) → IsPassOf e p → x ≡ spot_at e.table.shared.key.slots at
+    → IsKeyAt (view p) k at → IsAnyRecordAt (view p) k x at
+spot_any e p k at x of is place = inl (spot_is e p k at x of is place)

@@ -27,7 +27,7 @@ use Rattle.tx_sets.specs.declared.writes.Write.{Write}
 use Rattle.tx_sets.specs.Entries.{places_of, word_at, writes_at}
 use Rattle.engine_pages.specs.declared.view.Read.{Read}
 use Rattle.engine_pages.specs.declared.view.View.{View}
-use Rattle.engine_pages.specs.Pointers.{IsPointerAt}
+use Rattle.engine_pages.specs.Pointers.{IsArrayPointerAt, any_pointer}
 use Rattle.engine_pages.specs.Rule.{has_word}
 use Rattle.engine_pages.specs.Steps.{kept_at, seen_at}
 use Rattle.dual_pointer.specs.Parts.{part_stays}
@@ -160,8 +160,8 @@ with_checked v checked w = record v {
   reads = w.reads;
 }
 
-pointer_later : (v w : View) (checked : List Word) (x : At) (sp : Span) (at : ℕ) → IsPointerAt v x sp at
-    → IsPointerAt (with_checked v checked w) x sp at
+pointer_later : (v w : View) (checked : List Word) (x : At) (sp : Span) (at : ℕ) → IsArrayPointerAt v x sp at
+    → IsArrayPointerAt (with_checked v checked w) x sp at
 pointer_later v w checked (Root r) sp at h = h
 pointer_later v w checked (In y) sp at h = record {
   way = h.way;
@@ -201,10 +201,13 @@ can_check_pointer ps sets done d v w h apart same p lt = by_part (h.parts.pointe
         (λ f has. placed f (in_take sets.pointers done f has)) m.place clear in (
           m.span,
           subst (λ (y : View). CanCheckPointer y (pointer_at y.layout.slots q'.at) m.span q'.at q'.word) (sym p.is) record {
-            place = pointer_later v (record v { steps = p.steps; last = p.last; loaded = p.loaded; reads = p.reads })
+            place = any_pointer (with_checked v (entry_words v.layout.slots (take (length sets.reads) sets.reads)
+                ++ pointer_words v.layout.slots (take done sets.pointers))
+                (record v { steps = p.steps; last = p.last; loaded = p.loaded; reads = p.reads })) x m.span q'.at
+                (pointer_later v (record v { steps = p.steps; last = p.last; loaded = p.loaded; reads = p.reads })
                 (entry_words v.layout.slots (take (length sets.reads) sets.reads)
                 ++ pointer_words v.layout.slots (take done sets.pointers)) x m.span q'.at
-                (pointer_there v m.span q'.at m.place);
+                (pointer_there v m.span q'.at m.place));
             bare = m.bare;
             index = h.index;
             attempt = h.attempt;

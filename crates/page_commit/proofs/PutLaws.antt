@@ -15,16 +15,18 @@ use Rattle.commit_core.specs.Keys.{written}
 use Rattle.commit_core.specs.CoreState.{settled}
 use Rattle.tx_sets.specs.declared.writes.Write.{Write}
 use Rattle.tx_sets.specs.Entries.{has_write}
+use Rattle.engine_pages.specs.declared.layout.Layout.{Layout}
 use Rattle.engine_pages.specs.declared.view.Loaded.{Loaded}
 use Rattle.engine_pages.specs.declared.view.Read.{Read}
 use Rattle.engine_pages.specs.declared.view.Took.{Took}
 use Rattle.engine_pages.specs.declared.view.View.{View}
-use Rattle.page_records.specs.Locks.{took_at, not_at, opened, put_at, CanPut, CanOpenAnew}
+use Rattle.page_records.specs.Locks.{took_at, not_at, opened, put_at, CanPut, CanOpenAnew, array_absence}
+use Rattle.engine_pages.specs.Pages.{is_array}
 use Rattle.engine_pages.specs.Views.{IsActive}
 use Rattle.homes.specs.declared.places.Spot.{Spot}
 use Rattle.engine_pages.specs.declared.engine.Engine.{Engine}
 use Rattle.engine_pages.specs.Passes.{Pass, view, IsPassOf}
-use Rattle.page_commit.proofs.PlaceLaws.{spot_here}
+use Rattle.page_commit.proofs.PlaceLaws.{spot_here, key_array}
 use Rattle.page_commit.specs.Places.{ground, spot_at, Ground, IsKeyAt}
 use Rattle.page_commit.specs.Committing.{changes_of}
 use Rattle.page_commit.specs.Live.{IsWriteOf}
@@ -131,14 +133,16 @@ can_put_one writes found number done d v w h p lt are all = record {
   stage = ap (λ (y : View). y.seat.stage) p.is ∙ p.begun h.index lt h.begun;
   at = ap (λ (y : View). slice_get y.history h.index) p.is ∙ h.at;
   locked = first_locked writes found done d v w p lt;
+  value = Some (unwrap_or (get_or writes done d).value 0);
   writes = ap (written (get_or writes done d).key) h.writes_are ∙ found_in (ground v) writes done d lt are all;
+  is = refl;
 }
 
 pub can_open_one : (writes : List Write) (found : List ℕ) (number done : ℕ) (d : Write) (v w x : View) (at value : ℕ)
-    → HasDecided writes found number v → IsPublishing writes found v w done → done < length writes
-    → x ≡ put_at (get_or writes done d).key at value w
+    → HasDecided writes found number v → IsPublishing writes found v w done → done < length writes → AreApart writes
+    → AllByRecursion (IsWriteOf (ground v)) writes → x ≡ put_at (get_or writes done d).key at value w
     → CanOpenAnew x (get_or writes done d).key (spot_at v.layout.slots (get_or writes done d).at) number
-can_open_one writes found number done d v w x at value h p lt is =
+can_open_one writes found number done d v w x at value h p lt are all is =
     let one : Write = get_or writes done d in record {
       found = get_or found done 0;
       took = subst (λ (y : View). Contains y.took (took_at one.key (spot_at v.layout.slots one.at) (get_or found done 0)))
@@ -151,7 +155,15 @@ can_open_one writes found number done d v w x at value h p lt is =
       locked = ap (λ (y : View). has_key y.seat.locks one.key) is ∙ first_locked writes found done d v w p lt;
       put = ap (λ (y : View). has_key y.seat.put one.key) is
           ∙ any_push_new (λ (q : Key). same_key q one.key) w.seat.put one.key (same_key-self one.key);
-      number = h.word;
+      value = Some (unwrap_or one.value 0);
+      writes = ap (written one.key) h.writes_are ∙ found_in (ground v) writes done d lt are all;
+      number =
+          let word = h.word in
+          let layout : x.layout ≡ v.layout = ap (λ (y : View). y.layout) is ∙ ap (λ (y : View). y.layout) p.is in
+          let array : is_array x.layout.decls one.key.storage ≡ true =
+          ap (λ (y : Layout). is_array y.decls one.key.storage) layout
+          ∙ key_array (ground v) one.key one.at (all_get (IsWriteOf (ground v)) writes done d lt all).place in
+          let none = array_absence x.layout.decls one.key (Some (unwrap_or one.value 0)) array in omega (arith, word, none);
     }
 
 pub published_one : (writes : List Write) (found : List ℕ) (number done : ℕ) (d : Write) (v w x y : View)

@@ -20,6 +20,7 @@ use Rattle.engine_pages.specs.Pointers.{WaysAgree}
 use Rattle.engine_pages.specs.Touches.{touch}
 use Rattle.engine_pages.specs.Views.{seat_number, IsResting}
 use Rattle.page_records.specs.Ends.{worker_of, HasForgotten}
+use Rattle.array_pages.specs.Walks.{IsWayPlace}
 use Rattle.page_commit.specs.Live.{HasHolds, IsLive}
 use Rattle.page_commit.specs.Calls.{IsWordIn, NeedsPointer, RefusesRead}
 use Rattle.page_commit.specs.Refusing.{HasRefused, IsConflict, IsPointerConflict, TellsOnly}
@@ -76,6 +77,9 @@ walked_refused why sets slots v w x live only holds agree told g =
       drafts = ap (λ (y : View). y.drafts) h;
       copies = ap (λ (y : View). y.copies) h;
       blanks = ap (λ (y : View). y.blanks) h;
+      leaves = ap (λ (y : View). y.new_leaves) h;
+      inners = ap (λ (y : View). y.new_inners) h;
+      heads = ap (λ (y : View). y.heads) h;
     } in record {
       over = record {
         decls = subst (λ (y : Layout). Rattle.serial_model.specs.Decls.AreDecls y.decls) (sym layout') live.decls;
@@ -182,6 +186,7 @@ read_refused_since (refusals.Conflict at expected seen) sets mid new k v w x onl
           subst (λ (l : List Seen). IsPointerConflict l at expected seen v x) pointers
               (pointer_since mid.pointers at expected seen v w x only.since c.0),
           c.1 ∙ ap (λ (y : View). y.blamed) o,
+          subst (λ (y : Layout). IsWayPlace y k at) (ap (λ (y : View). y.layout) o) c.2,
         )
       ],
       r.4 ∙ ap (λ (y : View). y.touched) o,
@@ -198,7 +203,7 @@ read_refused_since (refusals.Wide set) sets mid new k v w x only reads pointers 
       | inr d ↦ inr (
         d.0,
         subst (λ (l : List Seen). length l ≡ 128) pointers d.1,
-        subst (λ (l : List Seen). NeedsPointer l x) pointers d.2,
+        subst (λ (l : List Seen). NeedsPointer k l x) pointers d.2,
       )
     ])
   ],

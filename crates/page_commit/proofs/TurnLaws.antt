@@ -21,6 +21,8 @@ use Rattle.serial_model.specs.Keys.{is_tree, is_tree_of}
 use Rattle.serial_model.specs.Step.{reply_of}
 use Rattle.commit_core.specs.declared.part.Part.{Part}
 use Rattle.serial_bridge.specs.Transaction.{Sees, Vouched, wrote, added, taken, Turn, Turns, Continues, Stops}
+use Rattle.homes.specs.Homes.{in_span}
+use Rattle.drop_core.specs.Table.{has_slot}
 use Rattle.tx_sets.specs.declared.reads.ReadEntry.{ReadEntry}
 use Rattle.tx_sets.specs.declared.seen.Seen.{Seen}
 use Rattle.tx_sets.specs.declared.sets.Sets.{Sets}
@@ -28,6 +30,7 @@ use Rattle.tx_sets.specs.declared.writes.Write as written_of
 use Rattle.tx_sets.specs.Entries.{has_write, places_of, value_of, writes_at, IsInserted}
 use Rattle.engine_pages.specs.declared.layout.Layout.{Layout}
 use Rattle.engine_pages.specs.declared.view.View.{View}
+use Rattle.engine_pages.specs.declared.view.Way.{Way}
 use Rattle.engine_pages.specs.Pages.{is_array, is_array_kind}
 use Rattle.array_pages.proofs.DeclLaws.{decl_in}
 use Rattle.array_pages.specs.Spans.{IsArrayKey}
@@ -39,7 +42,7 @@ use Rattle.page_commit.specs.Live.{entry_places, AreMet, ArePointersKept, ArePoi
 use Rattle.page_commit.specs.Altering.{altered, ended_by, op_of, Alters}
 use Rattle.page_commit.specs.Keeping.{HasBrought, HasValue, KeepsSets}
 use Rattle.page_commit.specs.Turning.{as_walked, AreWritesOf, HasDone, HasStopped, IsValueRead, MayRead, MayWrite, MeetsOnly}
-use Rattle.page_commit.specs.Turning.{OnlyWalked, OnlyWaysOf, PartsStay, ReadsOnly}
+use Rattle.page_commit.specs.Turning.{HoldsWaysOf, HoldsWaysTo, OnlyWalked, OnlyWaysOf, PartsStay, ReadsOnly}
 use Rattle.page_commit.proofs.CommitResults.{parts_dropped}
 use Rattle.page_commit.proofs.FoundLaws.{nothing_walked}
 use Rattle.page_commit.proofs.WriteLaws.{value_none, value_there, word_apart, writes_more, writes_only, HasWritten}
@@ -99,6 +102,7 @@ walks_then u v w a b = record {
     | inl mid ↦ elim (a.parts part mid) [ inl old ↦ inl old | inr new ↦ inr (last_by part new) ]
     | inr new ↦ inr (last_since part new)
   ];
+  ways = λ x has. b.ways x (a.ways x has);
   is = b.is ∙ ap (λ (y : View). as_walked y w) a.is;
 }
   where
@@ -173,6 +177,27 @@ may_write (ways.Take amount) k q W is = is
 ways_of : (op : Op) (k : Key) (v w : View) → MayRead op k ⊎ MayWrite op k → OnlyWaysTo k v w → OnlyWaysOf op v w
 ways_of op k v w may only x has = elim (only x has) [ inl old ↦ inl old | inr over ↦ inr (k, may, over) ]
 
+-- the slots that are held newly, by the operation
+held_of : (op : Op) (k : Key) (old new : List ℕ) (w : View) → MayRead op k ⊎ MayWrite op k → HoldsWaysTo k old new w
+    → HoldsWaysOf op old new w
+held_of op k old new w may held t has none =
+    let x = held t has none in (x.0, x.1, x.2, k, may, x.3)
+
+-- none is, where they are the same
+none_held : (op : Op) (old new : List ℕ) (w : View) → new ≡ old → HoldsWaysOf op old new w
+none_held op old new w same t has none =
+    absurd (true≢false (sym has ∙ (ap (λ (l : List ℕ). has_slot l t) same ∙ none)))
+
+-- those of one part of the operation and of the next
+held_then : (op : Op) (old mid new : List ℕ) (v w : View) → ((x : Way) → Contains v.ways x → Contains w.ways x)
+    → HoldsWaysOf op old mid v → HoldsWaysOf op mid new w → HoldsWaysOf op old new w
+held_then op old mid new v w ways early late t has none = by_test (has_slot mid t) refl
+  where
+    by_test : (b : Bool) → has_slot mid t ≡ b → (x : Way) × Contains w.ways x × (x.slot ≡ t)
+        × (k : Key) × (MayRead op k ⊎ MayWrite op k) × (in_span x.span k ≡ true)
+    by_test true is = let x = early t is none in (x.0, ways x.0 x.1, x.2, x.3, x.4, x.5)
+    by_test false is = late t has is
+
 -- at most this key was read, and at most one pointer met
 reads_key : (op : Op) (k : Key) (value : ℕ) (sets new : Sets) (v w : View) → MayRead op k → HasValue k value sets new v w
     → ReadsOnly op sets.reads new.reads
@@ -182,10 +207,10 @@ reads_key op k value sets new v w may h = elim h.reads [
 ]
 
 meets_key : (op : Op) (k : Key) (value : ℕ) (sets new : Sets) (v w : View) → MayRead op k → HasValue k value sets new v w
-    → MeetsOnly op sets.pointers new.pointers
+    → MeetsOnly v.layout op sets.pointers new.pointers
 meets_key op k value sets new v w may h = elim h.pointers [
   | inl same ↦ inl same
-  | inr more ↦ inr (k, may, more.0, more.1)
+  | inr more ↦ inr (k, may, more.0, more.1, more.2)
 ]
 
 pub own_read : (sets : Sets) (v : View) (k : Key) (value : Option ℕ) → IsLive sets v
@@ -194,6 +219,7 @@ own_read sets v k value live is = record {
   live = live;
   only = nothing_walked v;
   paths = λ x has. inl has;
+  held = none_held (Read k) sets.holds sets.holds v refl;
   reads = inl refl;
   pointers = inl refl;
   joined = inl refl;
@@ -232,6 +258,7 @@ value_read sets new v w k value live fits none h = record {
   live = h.live;
   only = h.only;
   paths = ways_of (Read k) k v w (inl refl) h.paths;
+  held = held_of (Read k) k sets.holds new.holds w (inl refl) h.held;
   reads = reads_key (Read k) k value sets new v w refl h;
   pointers = meets_key (Read k) k value sets new v w refl h;
   joined = inr (k, refl);
@@ -260,6 +287,7 @@ value_rewritten sets new v k value live reads pointers holds is all = record {
   live = same_live sets new v live reads pointers holds all;
   only = nothing_walked v;
   paths = λ x has. inl has;
+  held = none_held (Write k value) sets.holds new.holds v holds;
   reads = inl reads;
   pointers = inl pointers;
   joined = inl refl;
@@ -283,6 +311,8 @@ value_brought sets mid new v w k value at none h same is =
           record { place = h.place; value = refl } h.live.writes);
       only = h.only;
       paths = ways_of (Write k value) k v w (inr refl) h.paths;
+      held = subst (λ (l : List ℕ). HoldsWaysOf (Write k value) sets.holds l w) (sym same.holds)
+          (held_of (Write k value) k sets.holds mid.holds w (inr refl) h.held);
       reads = inl (same.reads ∙ h.reads);
       pointers = inl (same.pointers ∙ h.pointers);
       joined = inl h.kept;
@@ -366,6 +396,7 @@ own_altered by sets new v k before value live is after reads pointers holds now 
   live = same_live sets new v live reads pointers holds all;
   only = nothing_walked v;
   paths = λ x has. inl has;
+  held = none_held (op_of k by) sets.holds new.holds v holds;
   reads = inl reads;
   pointers = inl pointers;
   joined = inl refl;
@@ -389,6 +420,7 @@ own_ends by sets v k before live is after = stops_so by (op_of k by) sets sets v
   live = live;
   only = nothing_walked v;
   paths = λ x has. inl has;
+  held = none_held (op_of k by) sets.holds sets.holds v refl;
   reads = inl refl;
   pointers = inl refl;
   joined = inl refl;
@@ -413,6 +445,12 @@ module _ (by : By) (sets mid late : Sets) (u v w : View) (k : Key) (at before : 
     | inr over ↦ inr (k, inl (may_read by k), over)
   ]
 
+  held_both : HoldsWaysOf (op_of k by) sets.holds late.holds w
+  held_both =
+      held_then (op_of k by) sets.holds mid.holds late.holds v w h.only.ways
+      (held_of (op_of k by) k sets.holds mid.holds v (inl (may_read by k)) b.held)
+      (held_of (op_of k by) k mid.holds late.holds w (inl (may_read by k)) h.held)
+
   writes_same : late.writes ≡ sets.writes
   writes_same = h.writes ∙ b.writes
 
@@ -424,10 +462,11 @@ module _ (by : By) (sets mid late : Sets) (u v w : View) (k : Key) (at before : 
       subst (λ (l : List ReadEntry). ReadsOnly (op_of k by) l late.reads) b.reads
       (reads_key (op_of k by) k before mid late v w (may_read by k) h)
 
-  meets_both : MeetsOnly (op_of k by) sets.pointers late.pointers
+  meets_both : MeetsOnly u.layout (op_of k by) sets.pointers late.pointers
   meets_both =
-      subst (λ (l : List Seen). MeetsOnly (op_of k by) l late.pointers) b.pointers
-      (meets_key (op_of k by) k before mid late v w (may_read by k) h)
+      subst (λ (y : Layout). MeetsOnly y (op_of k by) sets.pointers late.pointers) (walks_layout u v b.only)
+      (subst (λ (l : List Seen). MeetsOnly v.layout (op_of k by) l late.pointers) b.pointers
+      (meets_key (op_of k by) k before mid late v w (may_read by k) h))
 
   seen_both : (own : List Change) → AreWritesOf sets.writes own → Sees w.seat.kept own k h.content
   seen_both own same =
@@ -453,8 +492,10 @@ module _ (by : By) (sets mid late : Sets) (u v w : View) (k : Key) (at before : 
             record { place = place_both; value = refl } h.live.writes);
         only = only_both;
         paths = paths_both;
+        held = subst (λ (l : List ℕ). HoldsWaysOf (op_of k by) sets.holds l w) (sym same.holds) held_both;
         reads = subst (λ (l : List ReadEntry). ReadsOnly (op_of k by) sets.reads l) (sym same.reads) reads_both;
-        pointers = subst (λ (l : List Seen). MeetsOnly (op_of k by) sets.pointers l) (sym same.pointers) meets_both;
+        pointers = subst (λ (l : List Seen). MeetsOnly u.layout (op_of k by) sets.pointers l) (sym same.pointers)
+            meets_both;
         joined = inr (k, may_read by k);
         writes = λ q has. may_write by k q (has_write q sets.writes ≡ true)
             (subst (λ (l : List written_of.Write). (has_write q l ≡ true) ⊎ (k ≡ q)) writes_same
@@ -475,6 +516,7 @@ module _ (by : By) (sets mid late : Sets) (u v w : View) (k : Key) (at before : 
     live = h.live;
     only = only_both;
     paths = paths_both;
+    held = held_both;
     reads = reads_both;
     pointers = meets_both;
     joined = inr (k, may_read by k);

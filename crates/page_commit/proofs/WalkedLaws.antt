@@ -7,7 +7,9 @@ use Rattle.std.proofs.lemmas.Bool.{eqb-true, eq-eqb}
 use Rattle.lists.specs.Each.{all_push, AreDistinct}
 use Rattle.lists.specs.Elements.{in_cases, in_head, in_none, in_tail}
 use Rattle.serial_model.specs.Decls.{AreDecls}
+use Rattle.serial_model.specs.declared.key.Key.{Key}
 use Rattle.commit_core.specs.CoreState.{is_trying}
+use Rattle.drop_core.specs.Table.{has_slot}
 use Rattle.tx_sets.specs.declared.reads.ReadEntry.{ReadEntry}
 use Rattle.tx_sets.specs.declared.seen.Seen.{Seen}
 use Rattle.tx_sets.specs.declared.sets.Sets.{Sets}
@@ -19,12 +21,12 @@ use Rattle.engine_pages.specs.Pointers.{WaysAgree}
 use Rattle.engine_pages.specs.Steps.{kept_at, seen_at}
 use Rattle.page_records.specs.Ends.{worker_of}
 use Rattle.array_pages.specs.Making.{CanMake}
-use Rattle.array_pages.specs.Walks.{CanWalk, HasWalked, IsPointersWord, KeepsMet, OnlyMet}
+use Rattle.array_pages.specs.Walks.{AreLedTo, CanWalk, HasWalked, HoldsAre, IsPointersWord, KeepsMet, OnlyMet}
 use Rattle.array_pages.proofs.WalkLaws.{pointer_apart}
 use Rattle.page_commit.specs.Places.{ground, spot_at, IsKeyAt}
 use Rattle.page_commit.specs.Live.{entry_places, read_word, AreInside, AreMet, AreParts, ArePointersKept, ArePointersMet}
 use Rattle.page_commit.specs.Live.{HasHolds, IsLive, IsWriteOf, StandsIn}
-use Rattle.page_commit.specs.Turning.{OnlyWalked}
+use Rattle.page_commit.specs.Turning.{HoldsWaysTo, OnlyWalked}
 use Rattle.page_commit.proofs.DrawLaws.{active_worker}
 use Rattle.page_commit.proofs.GrowLaws.{knows_more, met_before, no_value, none_read, pointer_stands, points_here}
 use Rattle.page_commit.proofs.GrowLaws.{record_stands}
@@ -55,6 +57,9 @@ can_make sets v live = record {
   drafts = live.holds.drafts;
   copies = live.holds.copies;
   blanks = live.holds.blanks;
+  leaves = live.holds.leaves;
+  inners = live.holds.inners;
+  heads = live.holds.heads;
 }
   where
     no_keeper : v.role ≡ Keeper → ⊥
@@ -68,6 +73,7 @@ only_walked v w walk = record {
   seen = walk.seen;
   since = walk.since;
   parts = walk.parts;
+  ways = walk.ways;
   is = walk.is;
 }
 
@@ -81,7 +87,20 @@ walked_holds slots late v w h walk can = record {
   drafts = ap (λ (y : View). y.drafts) walk.is ∙ h.drafts;
   copies = ap (λ (y : View). y.copies) walk.is ∙ h.copies;
   blanks = ap (λ (y : View). y.blanks) walk.is ∙ h.blanks;
+  leaves = ap (λ (y : View). y.new_leaves) walk.is ∙ h.leaves;
+  inners = ap (λ (y : View). y.new_inners) walk.is ∙ h.inners;
+  heads = ap (λ (y : View). y.heads) walk.is ∙ h.heads;
 }
+
+-- the slots that are held newly, by the sets
+pub held_to : (k : Key) (old new : List ℕ) (v w : View) → HasHolds old v → HoldsAre new w → AreLedTo k v w
+    → HoldsWaysTo k old new w
+held_to k old new v w before now led t has none = led t (sym (now t) ∙ has) (sym (before.holds t) ∙ none)
+
+-- none is, where they are the same
+pub held_same : (k : Key) (old new : List ℕ) (w : View) → new ≡ old → HoldsWaysTo k old new w
+held_same k old new w same t has none =
+    absurd (true≢false (sym has ∙ (ap (λ (l : List ℕ). has_slot l t) same ∙ none)))
 
 -- what the sets have, and what was met of it, as the view behind a walk has it
 pub record HasGrown (sets new : Sets) (w : View) : Type 0 where

@@ -17,6 +17,7 @@ use Rattle.engine_pages.specs.Layout.{page_at, slot_at}
 use Rattle.engine_pages.specs.Slots.{first_retired, is_taken_word, is_usable_word, looks}
 use Rattle.engine_pages.specs.Steps.{glance}
 use Rattle.array_pages.specs.Spans.{find_steps, make_steps}
+use Rattle.array_pages.specs.Walks.{IsWayPlace}
 use Rattle.page_commit.specs.Refusing.{IsConflictAt, IsPointerConflict}
 use Rattle.engine_pages.specs.declared.view.RefusalCause.TheVariants as refusals
 
@@ -61,17 +62,20 @@ pub record IsInMemory (k : Key) (w : View) : Type 0 where
   pub place : IsWordIn w.layout.slots k read.word
   pub small : read.seen < 2 ^ 60
 
--- The call saw a word of the table that leads to no slot, where the set of pointers has none.
-pub record NeedsPointer (pointers : List Seen) (w : View) : Type 0 where
+-- The call saw a pointer on the way to the key that leads to no slot, where the set of pointers has none.
+pub record NeedsPointer (k : Key) (pointers : List Seen) (w : View) : Type 0 where
   pub read : Read
   pub met : Contains w.reads read
+  pub on : IsWayPlace w.layout k read.word
   pub bare : read.seen < 2 ^ 32
   pub absent : word_at read.word pointers ≡ None
 
--- The call saw a word of the table that leads to a slot which isn't held, or, where pages are made, to none.
-pub record NeedsHold (slots : List ℕ) (makes : Bool) (w : View) : Type 0 where
+-- The call saw a pointer on the way to the key that leads to a slot which isn't held, or, where pages are made, to
+-- none.
+pub record NeedsHold (k : Key) (slots : List ℕ) (makes : Bool) (w : View) : Type 0 where
   pub read : Read
   pub met : Contains w.reads read
+  pub on : IsWayPlace w.layout k read.word
   pub unshut : read.seen < 2 ^ 60
   pub leads : makes ≡ false → 2 ^ 32 ≤ read.seen
   pub unheld : 2 ^ 32 ≤ read.seen → has_slot slots (read.seen / 2 ^ 32 - 1) ≡ false
@@ -108,14 +112,14 @@ abbrev pub RefusesRead : Sets → Sets → Key → RefusalCause → View → Vie
 RefusesRead sets new k (refusals.Conflict at expected seen) v w =
     (has_read k sets.reads ≡ false) × (has_write k sets.writes ≡ false) × (w.draws ≡ v.draws)
     × ((IsConflictAt sets.reads k at expected seen v w × IsWordIn v.layout.slots k at)
-    ⊎ (IsPointerConflict sets.pointers at expected seen v w × (w.blamed ≡ v.blamed)))
+    ⊎ (IsPointerConflict sets.pointers at expected seen v w × (w.blamed ≡ v.blamed) × IsWayPlace v.layout k at))
     × (w.touched ≡ v.touched)
 RefusesRead sets new k (refusals.Full held) v w = ⊥
 RefusesRead sets new k (refusals.Wide set) v w =
     (has_read k sets.reads ≡ false) × (has_write k sets.writes ≡ false) × (w.draws ≡ v.draws)
     × (((set ≡ Reads) × (length sets.reads ≡ 256) × IsInMemory k w)
-    ⊎ (((set ≡ Holds) × (length new.holds ≡ 128) × NeedsHold new.holds false w)
-    ⊎ ((set ≡ Pointers) × (length sets.pointers ≡ 128) × NeedsPointer sets.pointers w)))
+    ⊎ (((set ≡ Holds) × (length new.holds ≡ 128) × NeedsHold k new.holds false w)
+    ⊎ ((set ≡ Pointers) × (length sets.pointers ≡ 128) × NeedsPointer k sets.pointers w)))
     × (w.touched ≡ v.touched)
 RefusesRead sets new k (refusals.NumberLimit clock) v w = ⊥
 
@@ -124,14 +128,15 @@ RefusesRead sets new k (refusals.NumberLimit clock) v w = ⊥
 abbrev pub RefusesWrite : Sets → Sets → Key → RefusalCause → View → View → Type 0
 RefusesWrite sets new k (refusals.Conflict at expected seen) v w =
     (length sets.writes < 16) × (has_write k sets.writes ≡ false) × (w.draws ≡ v.draws)
-    × (IsPointerConflict sets.pointers at expected seen v w ⊎ IsSlotConflict at expected seen v w)
+    × ((IsPointerConflict sets.pointers at expected seen v w × IsWayPlace v.layout k at)
+    ⊎ IsSlotConflict at expected seen v w)
     × (w.blamed ≡ v.blamed) × (w.touched ≡ v.touched)
 RefusesWrite sets new k (refusals.Full held) v w =
     (length sets.writes < 16) × (has_write k sets.writes ≡ false) × (w.draws ≡ v.draws) × IsFullOf held v w
     × (w.touched ≡ v.touched)
 RefusesWrite sets new k (refusals.Wide set) v w =
     (has_write k sets.writes ≡ false) × (w.draws ≡ v.draws) × (((set ≡ Writes) × (length sets.writes ≡ 16))
-    ⊎ ((length sets.writes < 16) × (set ≡ Holds) × (length new.holds ≡ 128) × NeedsHold new.holds true w))
+    ⊎ ((length sets.writes < 16) × (set ≡ Holds) × (length new.holds ≡ 128) × NeedsHold k new.holds true w))
     × (w.touched ≡ v.touched)
 RefusesWrite sets new k (refusals.NumberLimit clock) v w = ⊥
 

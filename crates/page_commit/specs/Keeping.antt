@@ -1,19 +1,20 @@
 -- What reads and what writes begin with come to, and what the sets keep of a key that was found.
-use Rattle.std.specs.Prelude.{◌≡◌, ◌⊎◌, ℕ, ◌<◌, ◌==◌, length, Bool, false, List, [], ◌∷◌, ◌++◌, None, Some, Option}
+use Rattle.std.specs.Prelude.{◌≡◌, ◌⊎◌, ℕ, ◌%◌, ◌<◌, ◌==◌, length, Bool, false, List, [], ◌∷◌, ◌++◌, None, Some, Option}
 use Rattle.std.specs.Prelude.{unwrap_or, ⊤}
+use Rattle.wire_form.specs.Leaves.{array_leaf}
 use Rattle.commit_core.specs.Serial.{last_write}
 use Rattle.serial_bridge.specs.Transaction.{Vouched}
 use Rattle.tx_sets.specs.declared.reads.ReadEntry.{ReadEntry}
 use Rattle.tx_sets.specs.Entries.{read_of, word_at}
 use Rattle.engine_pages.specs.declared.view.View.{View}
-use Rattle.page_commit.specs.Places.{IsKeyAt}
+use Rattle.page_commit.specs.Places.{spot_at, IsKeyAt}
 use Rattle.page_commit.specs.Live.{IsLive}
-use Rattle.page_commit.specs.Turning.{OnlyWalked, PartsStay}
+use Rattle.page_commit.specs.Turning.{HoldsWaysTo, OnlyWalked, PartsStay}
 use Rattle.serial_model.specs.declared.key.Key.{Key}
 use Rattle.tx_sets.specs.declared.seen.Seen.{Seen}
 use Rattle.tx_sets.specs.declared.sets.Sets.{Sets}
 use Rattle.array_pages.specs.declared.finding.Found.{Found}
-use Rattle.array_pages.specs.Walks.{MeetsSo, OnlyWaysTo}
+use Rattle.array_pages.specs.Walks.{IsWayPlace, MeetsSo, OnlyWaysTo}
 use Rattle.array_pages.specs.declared.finding.Found.TheVariants as places
 
 -- the pointer under which the key was found is in the set with its word, or there is room for it
@@ -63,28 +64,33 @@ pub record HasValue (k : Key) (value : ℕ) (sets new : Sets) (v w : View) : Typ
   pub live : IsLive new w
   pub only : OnlyWalked v w
   pub paths : OnlyWaysTo k v w
+  pub held : HoldsWaysTo k sets.holds new.holds w
   pub again : (x : ReadEntry) → read_of k sets.reads ≡ Some x → value ≡ x.value
   pub anew : read_of k sets.reads ≡ None
       → value ≡ unwrap_or (last_write v.layout.opening w.history w.decided k).value 0
   pub places : (q : Key) (a : ℕ) → IsKeyAt v q a → IsKeyAt w q a
   pub keeps : PartsStay v.seat.kept w.seat.kept
   pub reads : (new.reads ≡ sets.reads) ⊎ ((e : ReadEntry) × (e.key ≡ k) × (new.reads ≡ sets.reads ++ e ∷ []))
-  pub pointers : (new.pointers ≡ sets.pointers) ⊎ ((p : Seen) × (new.pointers ≡ sets.pointers ++ p ∷ []))
+  pub pointers : (new.pointers ≡ sets.pointers)
+      ⊎ ((p : Seen) × (new.pointers ≡ sets.pointers ++ p ∷ []) × IsWayPlace v.layout k p.at)
   pub writes : new.writes ≡ sets.writes
   pub content : Option ℕ
   pub value_is : value ≡ unwrap_or content 0
   pub vouched : Vouched w.seat.kept k content
 
--- The record of the key stands in a page that the pass holds; nothing was read, met or written.
+-- The record of the key stands in a page that the pass holds, so many records behind the first one of its leaf; nothing
+-- was read, met or written.
 pub record HasBrought (k : Key) (at : ℕ) (sets new : Sets) (v w : View) : Type 0 where
   pub live : IsLive new w
   pub only : OnlyWalked v w
   pub paths : OnlyWaysTo k v w
+  pub held : HoldsWaysTo k sets.holds new.holds w
   pub kept : w.seat.kept ≡ v.seat.kept
   pub reads : new.reads ≡ sets.reads
   pub pointers : new.pointers ≡ sets.pointers
   pub writes : new.writes ≡ sets.writes
   pub place : IsKeyAt w k at
+  pub index : (spot_at w.layout.slots at).index ≡ k.key % array_leaf.room
 
 -- ---- what the sets keep
 

@@ -119,6 +119,9 @@ pub record HasHolds (slots : List ℕ) (v : View) : Type 0 where
   pub drafts : v.drafts ≡ []
   pub copies : v.copies ≡ []
   pub blanks : v.blanks ≡ []
+  pub leaves : v.new_leaves ≡ []
+  pub inners : v.new_inners ≡ []
+  pub heads : v.heads ≡ []
 
 -- ---- transactions
 

@@ -17,7 +17,7 @@ use Rattle.tx_sets.specs.declared.sets.Sets.{Sets}
 use Rattle.tx_sets.specs.declared.writes.Write.{Write}
 use Rattle.tx_sets.specs.Entries.{has_word, writes_at}
 use Rattle.engine_pages.specs.declared.view.Glance.{Glance}
-use Rattle.engine_pages.specs.declared.view.Head.{Head}
+use Rattle.engine_pages.specs.declared.view.Inner.{Inner}
 use Rattle.engine_pages.specs.declared.view.Known.{Known}
 use Rattle.engine_pages.specs.declared.view.Loaded.{Loaded}
 use Rattle.engine_pages.specs.declared.view.Moved.{Moved}
@@ -174,8 +174,8 @@ pub record HasLeft (v w : View) : Type 0 where
   pub steps : ℕ
   pub ways : List Way
   pub known : List Known
-  pub heads : List Head
   pub moved : List Moved
+  pub inners : List Inner
   pub shuts : List Shut
   pub gone : List ℕ
   pub agree : WaysAgree v.ways → WaysAgree ways
@@ -184,8 +184,8 @@ pub record HasLeft (v w : View) : Type 0 where
     grip = record v.grip { holds = [] };
     ways = ways;
     known = known;
-    heads = heads;
     moved = moved;
+    inners = inners;
     shuts = shuts;
     gone = gone;
   }

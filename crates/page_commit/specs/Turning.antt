@@ -1,5 +1,5 @@
 -- What an operation of a transaction comes to: the turn of the serial step, over the parts and the own writes.
-use Rattle.std.specs.Prelude.{◌≡◌, ℕ, ◌⊎◌, ◌+◌, ◌≤◌, length, List, [], ◌∷◌, ◌++◌, Option, Some, None, true}
+use Rattle.std.specs.Prelude.{◌≡◌, ℕ, ◌⊎◌, ◌+◌, ◌≤◌, length, List, [], ◌∷◌, ◌++◌, Option, Some, None, true, false}
 use Rattle.std.specs.Prelude.{Contains, unwrap_or}
 use Rattle.lists.specs.Fronts.{IsFront}
 use Rattle.serial_model.specs.declared.key.Key.{Key}
@@ -12,15 +12,17 @@ use Rattle.commit_core.specs.declared.part.Part.{Part}
 use Rattle.commit_core.specs.Keys.{written}
 use Rattle.commit_core.specs.Serial.{last_write}
 use Rattle.serial_bridge.specs.Transaction.{Vouched, Turns, Continues, Stops}
+use Rattle.drop_core.specs.Table.{has_slot}
 use Rattle.tx_sets.specs.declared.reads.ReadEntry.{ReadEntry}
 use Rattle.tx_sets.specs.declared.seen.Seen.{Seen}
 use Rattle.tx_sets.specs.declared.sets.Sets.{Sets}
 use Rattle.tx_sets.specs.declared.writes.Write.{Write}
 use Rattle.tx_sets.specs.Entries.{has_write, read_of, value_of}
+use Rattle.engine_pages.specs.declared.layout.Layout.{Layout}
 use Rattle.engine_pages.specs.declared.view.View.{View}
 use Rattle.engine_pages.specs.declared.view.Way.{Way}
 use Rattle.homes.specs.Homes.{in_span}
-use Rattle.array_pages.specs.Walks.{IsLastBetween}
+use Rattle.array_pages.specs.Walks.{IsLastBetween, IsWayPlace}
 use Rattle.page_commit.specs.Live.{IsLive}
 
 -- what was written, the newest first, is what the write set has
@@ -44,10 +46,10 @@ MayRead (ops.Scan storage low high) q = ⊥
 abbrev pub ReadsOnly : Op → List ReadEntry → List ReadEntry → Type 0
 ReadsOnly op old new = (new ≡ old) ⊎ ((e : ReadEntry) × MayRead op e.key × (new ≡ old ++ e ∷ []))
 
--- at most one pointer was met where the pages in memory end, by an operation that may read
-abbrev pub MeetsOnly : Op → List Seen → List Seen → Type 0
-MeetsOnly op old new =
-    (new ≡ old) ⊎ ((k : Key) × MayRead op k × (p : Seen) × (new ≡ old ++ p ∷ []))
+-- at most one pointer was met where the pages in memory end, on the way to a key that the operation may read
+abbrev pub MeetsOnly : Layout → Op → List Seen → List Seen → Type 0
+MeetsOnly l op old new =
+    (new ≡ old) ⊎ ((k : Key) × MayRead op k × (p : Seen) × (new ≡ old ++ p ∷ []) × IsWayPlace l k p.at)
 
 -- the parts are as they were, but where the operation may read
 abbrev pub PartsOnly : Op → List Part → List Part → Type 0
@@ -84,13 +86,14 @@ as_walked v w = record v {
 }
 
 -- Words were loaded and slots entered, with draws and decisions that were seen, and pages may have been made; parts
--- may have joined, each of which had the last decided writes of its keys at one of these loads. All else that the
--- pass knows is as it was.
+-- may have joined, each of which had the last decided writes of its keys at one of these loads. Ways that were known
+-- are known still, and all else that the pass knows is as it was.
 pub record OnlyWalked (v w : View) : Type 0 where
   pub drawn : IsFront v.history w.history
   pub seen : IsFront v.decided w.decided
   pub since : v.steps ≤ w.steps
   pub parts : (part : Part) → Contains w.seat.kept part → Contains v.seat.kept part ⊎ IsLastBetween v w part
+  pub ways : (x : Way) → Contains v.ways x → Contains w.ways x
   pub is : w ≡ as_walked v w
 
 -- What a read answers: what the transaction wrote at the key last; else what it first read there; else what this call
@@ -107,14 +110,28 @@ abbrev pub OnlyWaysOf : Op → View → View → Type 0
 OnlyWaysOf op v w = (x : Way) → Contains w.ways x
     → Contains v.ways x ⊎ ((k : Key) × (MayRead op k ⊎ MayWrite op k) × (in_span x.span k ≡ true))
 
--- The transaction goes on after this operation, with this reply or none. It reads at most one record more and writes at
+-- each slot of the second list that isn't one of the first has a page to which a way is known, over keys that this one
+-- is one of
+abbrev pub HoldsWaysTo : Key → List ℕ → List ℕ → View → Type 0
+HoldsWaysTo k old new w = (t : ℕ) → has_slot new t ≡ true → has_slot old t ≡ false
+    → (x : Way) × Contains w.ways x × (x.slot ≡ t) × (in_span x.span k ≡ true)
+
+-- over keys that one of the operation is one of
+abbrev pub HoldsWaysOf : Op → List ℕ → List ℕ → View → Type 0
+HoldsWaysOf op old new w = (t : ℕ) → has_slot new t ≡ true → has_slot old t ≡ false
+    → (x : Way) × Contains w.ways x × (x.slot ≡ t)
+    × (k : Key) × (MayRead op k ⊎ MayWrite op k) × (in_span x.span k ≡ true)
+
+-- The transaction goes on after this operation, with this reply or none. Each slot that it holds newly is the page of a
+-- way to a key of the operation: what it was given it put in. It reads at most one record more and writes at
 -- most one key more.
 pub record HasDone (op : Op) (reply : Option Reply) (sets new : Sets) (v w : View) : Type 0 where
   pub live : IsLive new w
   pub only : OnlyWalked v w
   pub paths : OnlyWaysOf op v w
+  pub held : HoldsWaysOf op sets.holds new.holds w
   pub reads : ReadsOnly op sets.reads new.reads
-  pub pointers : MeetsOnly op sets.pointers new.pointers
+  pub pointers : MeetsOnly v.layout op sets.pointers new.pointers
   pub joined : PartsOnly op v.seat.kept w.seat.kept
   pub writes : WritesOnly op sets.writes new.writes
   pub grows : length new.writes ≤ length sets.writes + 1
@@ -128,8 +145,9 @@ pub record HasStopped (op : Op) (verdict : Verdict) (sets new : Sets) (v w : Vie
   pub live : IsLive new w
   pub only : OnlyWalked v w
   pub paths : OnlyWaysOf op v w
+  pub held : HoldsWaysOf op sets.holds new.holds w
   pub reads : ReadsOnly op sets.reads new.reads
-  pub pointers : MeetsOnly op sets.pointers new.pointers
+  pub pointers : MeetsOnly v.layout op sets.pointers new.pointers
   pub joined : PartsOnly op v.seat.kept w.seat.kept
   pub writes : WritesOnly op sets.writes new.writes
   pub grows : length new.writes ≤ length sets.writes + 1

@@ -1,5 +1,5 @@
 // Reads.
-ghost use Rattle.std.specs.Prelude.{◌≡◌, ◌⊎◌, ◌+◌, ◌++◌, ◌∷◌, ◌≤◌, [], true, false, IfOk, IfErr, OnOk, Some, length};
+ghost use Rattle.std.specs.Prelude.{◌≡◌, ◌⊎◌, ◌+◌, ◌%◌, ◌++◌, ◌∷◌, ◌≤◌, [], true, false, IfOk, IfErr, OnOk, Some, length};
 ghost use Rattle.serial_model.specs.declared.op.Op.TheVariants as ops;
 ghost use Rattle.serial_model.specs.declared.reply.Reply.TheVariants as replies;
 ghost use Rattle.tx_sets.specs.declared.seen.Seen.{Seen as TheSeen};
@@ -8,13 +8,15 @@ ghost use Rattle.engine_pages.specs.Passes.{view, IsPassOf};
 ghost use Rattle.array_pages.specs.Spans.{walk_holds, IsArrayKey};
 ghost use Rattle.array_pages.specs.Walks.{MeetsSo};
 ghost use Rattle.page_commit.specs.Live.{IsLive};
+ghost use Rattle.page_commit.specs.Places.{spot_at, IsKeyAt};
 ghost use Rattle.page_commit.specs.Turning.{HasDone, IsValueRead};
 ghost use Rattle.page_commit.specs.Refusing.{HasRefused};
 ghost use Rattle.page_commit.specs.Calls.{read_most, RefusesRead};
 ghost use Rattle.page_commit.specs.Keeping.{lacks_entry, HasRoomFor, HasValue, KeepsFound, MeetsFound, MeetsPointer};
 
+use crate::places::spot_of;
 use crate::refusing::refuse;
-use array_pages::{Found, find};
+use array_pages::{Found, find, read_at};
 use engine_pages::{Engine, Pass, RefusalCause, SetName};
 use serial_model::Key;
 use tx_sets::{PointerSet, ReadEntry, ReadSet, Seen, Sets};
@@ -72,6 +74,76 @@ pub(crate) fn read_value(
         return read_anew(engine, pass, sets, key);
     };
     Ok(entry.value)
+}
+
+/// The same where the key's record has its word here, in a page that the pass holds.
+#[inline(always)]
+pub(crate) fn read_value_at(
+    engine: &Engine,
+    pass: &mut Pass,
+    sets: &mut Sets,
+    key: Key,
+    at: u32,
+) -> Result<u64, RefusalCause>
+    requires of { IsPassOf engine.now pass.old }
+    requires live { IsLive sets.old (view pass.old) }
+    requires fits { IsArrayKey (view pass.old).layout.decls key }
+    requires unwritten { has_write key sets.old.writes ≡ false }
+    requires place { IsKeyAt (view pass.old) key at }
+    requires index { (spot_at (view pass.old).layout.slots at).index ≡ key.key % 32 }
+    ensures of { IsPassOf engine.now pass.new }
+    ensures value { IfOk result (λ value.
+        HasValue key value sets.old sets.new (view pass.old) (view pass.new)) }
+    ensures cause { IfErr result (λ why.
+        RefusesRead sets.old sets.new key why (view pass.old) (view pass.new)) }
+    ensures refused { IfErr result (λ why. HasRefused why (view pass.old) (view pass.new)) }
+    ensures most { (view pass.new).steps ≤ (view pass.old).steps + read_most }
+    ensures grows { length sets.new.holds ≤ length sets.old.holds + walk_holds }
+{
+    let Some(entry) = sets.reads.find(key) else {
+        return read_held(engine, pass, sets, key, at);
+    };
+    Ok(entry.value)
+}
+
+// Reads a key that the transaction has not met before, in a page that the pass holds.
+#[inline(always)]
+fn read_held(
+    engine: &Engine,
+    pass: &mut Pass,
+    sets: &mut Sets,
+    key: Key,
+    at: u32,
+) -> Result<u64, RefusalCause>
+    requires of { IsPassOf engine.now pass.old }
+    requires live { IsLive sets.old (view pass.old) }
+    requires fits { IsArrayKey (view pass.old).layout.decls key }
+    requires unread { has_read key sets.old.reads ≡ false }
+    requires unwritten { has_write key sets.old.writes ≡ false }
+    requires place { IsKeyAt (view pass.old) key at }
+    requires index { (spot_at (view pass.old).layout.slots at).index ≡ key.key % 32 }
+    ensures of { IsPassOf engine.now pass.new }
+    ensures value { IfOk result (λ value.
+        HasValue key value sets.old sets.new (view pass.old) (view pass.new)) }
+    ensures cause { IfErr result (λ why.
+        RefusesRead sets.old sets.new key why (view pass.old) (view pass.new)) }
+    ensures refused { IfErr result (λ why. HasRefused why (view pass.old) (view pass.new)) }
+    ensures most { (view pass.new).steps ≤ (view pass.old).steps + read_most }
+    ensures grows { length sets.new.holds ≤ length sets.old.holds + walk_holds }
+{
+    let spot = spot_of(engine, at);
+    match read_at(engine, pass, key, spot, at) {
+        Ok(found) => {
+            if is_wide(&sets.reads, found) {
+                let why = RefusalCause::Wide {
+                    set: SetName::Reads,
+                };
+                return Err(refuse(engine, pass, &sets.holds, why));
+            }
+            Ok(keep(sets, key, found))
+        }
+        Err(why) => Err(refuse(engine, pass, &sets.holds, why)),
+    }
 }
 
 // Reads a key that the transaction has not met before.

@@ -11,7 +11,7 @@ ghost use Rattle.page_commit.specs.Refusing.{HasRefused};
 ghost use Rattle.page_commit.specs.Calls.{alter_most, op_holds, write_most, RefusesWrite, RefusesAlter};
 ghost use Rattle.page_commit.specs.Keeping.{HasBrought, KeepsSets};
 
-use crate::reading::read_value;
+use crate::reading::read_value_at;
 use crate::refusing::refuse;
 use array_pages::make_volatile;
 use engine_pages::{Engine, Pass, RefusalCause, SetName};
@@ -168,7 +168,7 @@ fn alter_record(
     ensures grows { length sets.new.holds ≤ length sets.old.holds + op_holds }
 {
     let at = bring_up(engine, pass, sets, key)?;
-    let before = read_value(engine, pass, sets, key)?;
+    let before = read_value_at(engine, pass, sets, key, at)?;
     let Some(value) = after(by, before) else {
         return Ok(ending(by));
     };

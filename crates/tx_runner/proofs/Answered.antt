@@ -7,7 +7,7 @@ use Rattle.std.specs.Prelude.{IfOk, IfErr, option_to_list}
 use Rattle.std.specs.List.{AllByRecursion, Contains}
 use Rattle.std.proofs.lemmas.List.{append-nil, take_more, take-append-drop}
 use Rattle.std.proofs.lemmas.List.Elements.{Contains-append_left}
-use Rattle.lists.specs.Elements.{any_in, any_is, in_push_cases, in_push_new, in_push_old}
+use Rattle.lists.specs.Elements.{any_in, any_is, in_none, in_push_cases, in_push_new, in_push_old}
 use Rattle.lists.specs.Fronts.{front_refl, front_then}
 use Rattle.homes.specs.Homes.{same_key}
 use Rattle.homes.specs.Laws.{same_key-true}
@@ -33,6 +33,7 @@ use Rattle.engine_pages.specs.declared.view.RefusalCause.TheVariants as refusals
 use Rattle.engine_pages.specs.declared.view.View.{View}
 use Rattle.engine_pages.specs.Views.{seat_number}
 use Rattle.engine_seats.specs.Cuts.{HasSeen}
+use Rattle.page_commit.specs.Below.{IsWayPlace}
 use Rattle.page_commit.specs.Live.{IsLive}
 use Rattle.page_commit.specs.Altering.{Alters}
 use Rattle.page_commit.specs.Turning.{as_walked, HasDone, OnlyWalked, HasStopped, MayWrite, MeetsOnly, ReadsOnly}
@@ -43,8 +44,8 @@ use Rattle.page_commit.specs.RunLaws.{goes_on_run, ends_run}
 use Rattle.tx_runner.specs.Lines.{keeps, IsOfKey, IsOnArray}
 use Rattle.tx_runner.specs.Steps.{AreKeysOf, AreWithin, HasAnswered, HasAnsweredAll, IsCauseAmong, IsOpCause}
 use Rattle.tx_runner.specs.Steps.{OpEndsIt, OpGoesOn}
-use Rattle.tx_runner.specs.Tries.{blame_at}
-use Rattle.tx_runner.proofs.Arrays.{array_fits, read_at_key}
+use Rattle.tx_runner.specs.Tries.{IsBesideRecords, blame_at}
+use Rattle.tx_runner.proofs.Arrays.{array_fits, read_at_key, written_at}
 use Rattle.tx_runner.proofs.LastLaws.{last_by, last_since}
 use Rattle.tx_runner.proofs.Sums.{steps_more, steps_within}
 
@@ -80,6 +81,9 @@ alters_answered (Err why) op replies sets new v w a = tt
 
 -- ---- why it was refused
 
+some_none : (k : Key) → Some k ≡ None → ⊥
+some_none k same = absurd cc
+
 pub read_cause : (op : Op) (sets new : Sets) (k : Key) (why : RefusalCause) (v w : View) → IsOfKey op k
     → AreWithin 15 sets → length new.holds ≤ length sets.holds + op_holds → RefusesRead sets new k why v w
     → IsOpCause op why v w
@@ -87,6 +91,7 @@ read_cause op sets new k (refusals.Conflict at expected seen) v w of few grows r
   | inl here ↦ record {
     met = Some k;
     key = λ q is. let same : k ≡ q = cc in subst (IsOfKey op) same of;
+    place = λ none. absurd (some_none k none);
     cause = here.0.conflict.cause;
     blamed = here.0.blamed;
     draws = r.2;
@@ -95,6 +100,7 @@ read_cause op sets new k (refusals.Conflict at expected seen) v w of few grows r
   | inr pointer ↦ record {
     met = None;
     key = λ q is. absurd cc;
+    place = λ none. inr (k, of, pointer.2);
     cause = pointer.0.cause;
     blamed = pointer.1 ∙ sym (append-nil v.blamed);
     draws = r.2;
@@ -120,7 +126,11 @@ pub write_cause : (op : Op) (sets new : Sets) (k : Key) (why : RefusalCause) (v 
 write_cause op sets new k (refusals.Conflict at expected seen) v w may few grows r = record {
   met = None;
   key = λ q is. absurd cc;
-  cause = elim r.3 [ inl pointer ↦ pointer.cause | inr slot ↦ inr slot.other ];
+  place = λ none. elim r.3 [
+    | inl pointer ↦ inr (k, written_at op k may, pointer.1)
+    | inr slot ↦ inl (slot.slot, slot.within, slot.place)
+  ];
+  cause = elim r.3 [ inl pointer ↦ pointer.0.cause | inr slot ↦ inr slot.other ];
   blamed = r.4 ∙ sym (append-nil v.blamed);
   draws = r.2;
   touched = r.5;
@@ -182,9 +192,10 @@ reads_more op old new n (inr more) few = omega (
   length-append old (more.0 ∷ []),
 )
 
-meets_more : (op : Op) (old new : List Seen) (n : ℕ) → MeetsOnly op old new → length old ≤ n → length new ≤ n + 1
-meets_more op old new n (inl same) few = omega (arith, few, ap (λ (l : List Seen). length l) same)
-meets_more op old new n (inr more) few = omega (
+meets_more : (l : Layout) (op : Op) (old new : List Seen) (n : ℕ) → MeetsOnly l op old new → length old ≤ n
+    → length new ≤ n + 1
+meets_more l op old new n (inl same) few = omega (arith, few, ap (λ (l : List Seen). length l) same)
+meets_more l op old new n (inr more) few = omega (
   arith,
   few,
   ap (λ (l : List Seen). length l) more.3,
@@ -201,7 +212,7 @@ done_within : (op : Op) (reply : Option Reply) (sets new : Sets) (v w : View) (n
 done_within op reply sets new v w n d grows few = record {
   reads = reads_more op sets.reads new.reads n d.reads few.reads;
   writes = omega (arith, d.grows, few.writes);
-  pointers = meets_more op sets.pointers new.pointers n d.pointers few.pointers;
+  pointers = meets_more v.layout op sets.pointers new.pointers n d.pointers few.pointers;
   holds = holds_more n (length sets.holds) (length new.holds) few.holds grows;
 }
 
@@ -211,7 +222,7 @@ stopped_within : (op : Op) (verdict : Verdict) (sets new : Sets) (v w : View) (n
 stopped_within op verdict sets new v w n d grows few = record {
   reads = reads_more op sets.reads new.reads n d.reads few.reads;
   writes = omega (arith, d.grows, few.writes);
-  pointers = meets_more op sets.pointers new.pointers n d.pointers few.pointers;
+  pointers = meets_more v.layout op sets.pointers new.pointers n d.pointers few.pointers;
   holds = holds_more n (length sets.holds) (length new.holds) few.holds grows;
 }
 
@@ -239,12 +250,13 @@ among_later ops d op i less has =
     subst (λ (l : List Op). Contains l op) (sym (take_more ops i d less))
     (in_push_old op (get_or ops i d) (take i ops) has)
 
-no_keys : (ops : List Op) (sets : Sets) → AreEmpty sets → AreKeysOf ops sets
-no_keys ops sets empty = record {
+no_keys : (l : Layout) (ops : List Op) (sets : Sets) → AreEmpty sets → AreKeysOf l ops sets
+no_keys l ops sets empty = record {
   reads = λ k has. absurd (let none : has_read k sets.reads ≡ false = ap (has_read k) empty.reads in
       true≢false (sym has ∙ none));
   writes = λ k has. absurd (let none : has_write k sets.writes ≡ false = ap (has_write k) empty.writes in
       true≢false (sym has ∙ none));
+  pointers = λ p has. absurd (in_none p (subst (λ (y : List Seen). Contains y p) empty.pointers has));
 }
 
 read_among : (op : Op) (old new : List ReadEntry) (k : Key) → ReadsOnly op old new → has_read k new ≡ true
@@ -263,11 +275,26 @@ read_among op old new k (inr more) has = by_test (has_read k old) refl
               (read_at_key op more.0.key more.1))
         ]
 
+-- a pointer that was met is one of before, or on the way to a key of the operation
+met_among : (l : Layout) (op : Op) (old new : List Seen) (p : Seen) → MeetsOnly l op old new → Contains new p
+    → Contains old p ⊎ ((k : Key) × IsOfKey op k × IsWayPlace l k p.at)
+met_among l op old new p (inl same) has = inl (subst (λ (y : List Seen). Contains y p) same has)
+met_among l op old new p (inr more) has =
+    elim (in_push_cases p more.2 old (subst (λ (y : List Seen). Contains y p) more.3 has)) [
+      | inl before ↦ inl before
+      | inr last ↦ inr (
+        more.0,
+        read_at_key op more.0 more.1,
+        subst (λ (q : Seen). IsWayPlace l more.0 q.at) last more.4,
+      )
+    ]
+
 -- the keys of one operation more
-keys_more : (ops : List Op) (d : Op) (done : ℕ) (sets new : Sets) → done < length ops
-    → AreKeysOf (take done ops) sets → ReadsOnly (get_or ops done d) sets.reads new.reads
-    → WritesOnly (get_or ops done d) sets.writes new.writes → AreKeysOf (take (done + 1) ops) new
-keys_more ops d done sets new less are reads writes = record {
+keys_more : (l : Layout) (ops : List Op) (d : Op) (done : ℕ) (sets new : Sets) → done < length ops
+    → AreKeysOf l (take done ops) sets → ReadsOnly (get_or ops done d) sets.reads new.reads
+    → MeetsOnly l (get_or ops done d) sets.pointers new.pointers
+    → WritesOnly (get_or ops done d) sets.writes new.writes → AreKeysOf l (take (done + 1) ops) new
+keys_more l ops d done sets new less are reads met writes = record {
   reads = λ k has. elim (read_among (get_or ops done d) sets.reads new.reads k reads has) [
     | inl before ↦
         let key = are.reads k before in
@@ -280,6 +307,16 @@ keys_more ops d done sets new less are reads writes = record {
         record { op = key.op; among = among_later ops d key.op done less key.among; writes = key.writes }
     | inr here ↦ record { op = get_or ops done d; among = among_take ops d done less; writes = here }
   ];
+  pointers = λ p has. elim (met_among l (get_or ops done d) sets.pointers new.pointers p met has) [
+    | inl before ↦
+        let x = are.pointers p before in (
+          x.0,
+          record { op = x.1.op; among = among_later ops d x.1.op done less x.1.among; at = x.1.at },
+          x.2,
+        )
+    | inr here ↦
+        (here.0, record { op = get_or ops done d; among = among_take ops d done less; at = here.1 }, here.2)
+  ];
 }
 
 -- those of first operations are keys of all
@@ -288,12 +325,15 @@ in_taken ops op i has =
     subst (λ (l : List Op). Contains l op) (take-append-drop i ops)
     (Contains-append_left (take i ops) (drop i ops) op has)
 
-keys_of_all : (ops : List Op) (done : ℕ) (sets : Sets) → AreKeysOf (take done ops) sets → AreKeysOf ops sets
-keys_of_all ops done sets are = record {
+keys_of_all : (l : Layout) (ops : List Op) (done : ℕ) (sets : Sets) → AreKeysOf l (take done ops) sets
+    → AreKeysOf l ops sets
+keys_of_all l ops done sets are = record {
   reads = λ k has. let key = are.reads k has in
       record { op = key.op; among = in_taken ops key.op done key.among; at = key.at };
   writes = λ k has. let key = are.writes k has in
       record { op = key.op; among = in_taken ops key.op done key.among; writes = key.writes };
+  pointers = λ p has. let x = are.pointers p has in
+      (x.0, record { op = x.1.op; among = in_taken ops x.1.op done x.1.among; at = x.1.at }, x.2);
 }
 
 -- ---- walks
@@ -304,6 +344,7 @@ nothing_loaded v = record {
   seen = front_refl v.decided;
   since = omega arith;
   parts = λ part has. inl has;
+  ways = λ x has. has;
   is = refl;
 }
 
@@ -326,6 +367,7 @@ loaded_then u v w a b = record {
     ]
     | inr now ↦ inr (last_since u v w part (loaded_layout u v a) (loaded_seen u v a) now)
   ];
+  ways = λ x has. b.ways x (a.ways x has);
   is = b.is ∙ ap (λ (x : View). as_walked x w) a.is;
 }
 
@@ -340,7 +382,7 @@ pub record HasRunSome (ops : List Op) (done : ℕ) (replies : List Reply) (sets 
   pub sized : AreWithin done sets
   pub steps : w.steps ≤ v.steps + done * alter_most v.layout.slots
   pub run : HasRun (take done ops) replies sets w
-  pub keys : AreKeysOf (take done ops) sets
+  pub keys : AreKeysOf w.layout (take done ops) sets
 
 none_took : (start most : ℕ) → start ≤ start + 0 * most
 none_took start most = omega arith
@@ -355,7 +397,7 @@ run_none ops replies sets v none live empty run = record {
   sized = none_within sets empty;
   steps = none_took v.steps (alter_most v.layout.slots);
   run = subst (λ l. HasRun [] l sets v) (sym none) run;
-  keys = no_keys (take 0 ops) sets empty;
+  keys = no_keys v.layout (take 0 ops) sets empty;
 }
 
 few_more : (reply : Option Reply) → length (option_to_list reply) ≤ 1
@@ -367,6 +409,11 @@ op_took : (u v w : View) → OnlyWalked u v → w.steps ≤ v.steps + alter_most
     → w.steps ≤ v.steps + alter_most u.layout.slots
 op_took u v w l most =
     subst (λ (y : Layout). w.steps ≤ v.steps + alter_most y.slots) (loaded_layout u v l) most
+
+-- the keys are the same behind walks
+keys_later : (ops : List Op) (sets : Sets) (v w : View) → OnlyWalked v w → AreKeysOf v.layout ops sets
+    → AreKeysOf w.layout ops sets
+keys_later ops sets v w l are = subst (λ (y : Layout). AreKeysOf y ops sets) (sym (loaded_layout v w l)) are
 
 run_more : (ops : List Op) (d : Op) (done : ℕ) (old now : List Reply) (sets new : Sets) (u v w : View)
     → done < length ops → IsOnArray v.layout.decls (get_or ops done d) → HasRunSome ops done old sets u v
@@ -385,7 +432,8 @@ run_more ops d done old now sets new u v w less on h g most grows = record {
       (subst (λ l. HasRun (take done ops ++ get_or ops done d ∷ []) l new w) (sym g.replies)
       (goes_on_run (take done ops) old (get_or ops done d) g.reply sets new v w h.run
       (array_fits v.layout.decls (get_or ops done d) on) g.done));
-  keys = keys_more ops d done sets new less h.keys g.done.reads g.done.writes;
+  keys = keys_later (take (done + 1) ops) new v w g.done.only
+      (keys_more v.layout ops d done sets new less h.keys g.done.reads g.done.pointers g.done.writes);
 }
 
 -- an operation behind which the transaction goes on
@@ -438,7 +486,7 @@ stops_at : (ops : List Op) (d : Op) (done : ℕ) (verdict : Verdict) (old now : 
     (u v w : View) → keeps verdict ≡ false → done < length ops → IsOnArray v.layout.decls (get_or ops done d)
     → HasRunSome ops done old sets u v → OpEndsIt (get_or ops done d) verdict old now sets new v w
     → length new.holds ≤ length sets.holds + op_holds
-    → HasEnded ops verdict now w × IsLive new w × OnlyWalked u w × AreWithin (length ops) new × AreKeysOf ops new
+    → HasEnded ops verdict now w × IsLive new w × OnlyWalked u w × AreWithin (length ops) new × AreKeysOf w.layout ops new
 stops_at ops d done verdict old now sets new u v w stops less on h e grows = (
   ended_line ops (done + 1) verdict now w stops
       (subst (λ l. HasEnded l verdict now w) (sym (take_more ops done d less))
@@ -449,7 +497,8 @@ stops_at ops d done verdict old now sets new u v w stops less on h e grows = (
   loaded_then u v w h.only e.stopped.only,
   within_more (done + 1) (length ops) new (omega (arith, less))
       (stopped_within (get_or ops done d) verdict sets new v w done e.stopped grows h.sized),
-  keys_of_all ops (done + 1) new (keys_more ops d done sets new less h.keys e.stopped.reads e.stopped.writes),
+  keys_later ops new v w e.stopped.only (keys_of_all v.layout ops (done + 1) new
+      (keys_more v.layout ops d done sets new less h.keys e.stopped.reads e.stopped.pointers e.stopped.writes)),
 )
 
 -- with one operation more they took no more steps than all may
@@ -491,7 +540,7 @@ run_all ops done replies sets v w all h = record {
   only = h.only;
   sized = within_more done (length ops) sets h.within h.sized;
   run = subst (λ l. HasRun l replies sets w) all h.run;
-  keys = keys_of_all ops done sets h.keys;
+  keys = keys_of_all w.layout ops done sets h.keys;
 }
 
 -- ---- a refusal among the operations
@@ -509,6 +558,8 @@ cause_among ops d i why u v w less l c = record {
     by_why (refusals.Conflict at expected seen) c = record {
       met = c.met;
       key = c.key;
+      place = λ none. subst (λ (y : Layout). IsBesideRecords y (IsOfKey (get_or ops i d)) at) (loaded_layout u v l)
+          (c.place none);
       cause = c.cause;
       blamed = c.blamed ∙ ap (λ (x : View). x.blamed ++ blame_at (seat_number x.role) c.met) l.is;
       draws = c.draws ∙ ap (λ (x : View). x.draws) l.is;

@@ -57,6 +57,9 @@ seen_epoch v w clock epoch a is =
       drafts = ap (λ (x : View). x.drafts) a.is;
       copies = ap (λ (x : View). x.copies) a.is;
       blanks = ap (λ (x : View). x.blanks) a.is;
+      leaves = ap (λ (x : View). x.new_leaves) a.is;
+      inners = ap (λ (x : View). x.new_inners) a.is;
+      heads = ap (λ (x : View). x.heads) a.is;
       pages = ap (λ (x : View). x.pages) a.is;
       fills = ap (λ (x : View). x.fills) a.is;
       shuts = ap (λ (x : View). x.shuts) a.is;
@@ -113,6 +116,9 @@ marked_over mark v w over is = subst IsOver (sym is) record {
     drafts = over.holds.drafts;
     copies = over.holds.copies;
     blanks = over.holds.blanks;
+    leaves = over.holds.leaves;
+    inners = over.holds.inners;
+    heads = over.holds.heads;
   };
 }
 

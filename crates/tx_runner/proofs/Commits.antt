@@ -17,6 +17,7 @@ use Rattle.serial_model.specs.declared.number.Number.{Number}
 use Rattle.serial_model.specs.declared.op.Op.{Op}
 use Rattle.serial_model.specs.declared.reply.Reply.{Reply}
 use Rattle.serial_model.specs.declared.reply.Verdict.{Verdict}
+use Rattle.std.specs.List.{AllByRecursion}
 use Rattle.serial_model.specs.declared.reply.Verdict.TheVariants.{Done, Short, Over}
 use Rattle.serial_model.specs.History.{Entry}
 use Rattle.wire_form.specs.Items.{Rises}
@@ -45,7 +46,7 @@ use Rattle.page_commit.specs.RunLaws.{commits_run, commits_end}
 use Rattle.tx_runner.specs.Lines.{keeps, IsAnswered}
 use Rattle.tx_runner.specs.LineEnds.{HasCommittedLine, IsAsAlone}
 use Rattle.tx_runner.specs.Steps.{AreKeysOf, HasRunTo}
-use Rattle.tx_runner.specs.Tries.{HasConflicted, HasDrawsLeft, IsClash, IsWrittenBy, blames_of, drawn_for}
+use Rattle.tx_runner.specs.Tries.{HasConflicted, HasDrawsLeft, IsClash, IsPlaced, IsWrittenBy, blames_of, drawn_for}
 use Rattle.tx_runner.specs.Tries.{why_of, whys_of}
 use Rattle.tx_runner.proofs.Refusals.{blames_then, touches_then}
 use Rattle.tx_runner.proofs.Standing.{StandsAs, left_before, seen_then}
@@ -143,7 +144,7 @@ in_either t (x ∷ xs) ys has = elim (in_cases t x (xs ++ ys) has) [
 
 -- the operations were run since the try began, and then it was committed
 pub try_committed : (ops : List Op) (verdict : Verdict) (replies : List Reply) (commit : Commit) (sets : Sets)
-    (u v w : View) → StandsAs u v → AreKeysOf ops sets → HasRunTo ops verdict replies sets v
+    (u v w : View) → StandsAs u v → AreKeysOf v.layout ops sets → HasRunTo ops verdict replies sets v
     → commit.changes ≡ changes_of (kept_writes (keeps verdict) sets.writes)
     → Rises IsKeyBelow (map (λ (x : Change). x.key) commit.changes) → length commit.changes ≤ 16
     → HasCommitted commit.changes commit.number v w → v.steps ≤ w.steps → HasDrawsLeft u
@@ -154,6 +155,7 @@ try_committed ops verdict replies commit sets u v w s keys run written rises few
   losts = [];
   fewer = omega arith;
   each = tt;
+  placed = tt;
   refused = c.refused ∙ s.refused ∙ sym (append-nil u.refused);
   over = c.over;
   layout = c.layout ∙ s.layout;
@@ -222,6 +224,8 @@ line_committed ops done tries verdict replies commit u v w less h k = record {
   losts = h.losts ++ k.losts;
   fewer = omega (arith, less, h.count, k.fewer, length-append h.losts k.losts);
   each = all_append (IsClash ops) h.losts k.losts h.each k.each;
+  placed = all_append (IsPlaced u.layout ops) h.losts k.losts h.placed
+      (subst (λ (y : Layout). AllByRecursion (IsPlaced y ops) k.losts) h.tried.layout k.placed);
   refused = k.refused ∙ ap (λ l. l ++ whys_of k.losts) h.tried.refused
       ∙ append_assoc u.refused (whys_of h.losts) (whys_of k.losts)
       ∙ ap (λ l. u.refused ++ l) (sym (map-append why_of h.losts k.losts));

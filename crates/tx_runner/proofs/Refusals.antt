@@ -3,20 +3,23 @@ use Rattle.std.proofs.Common.{◌≡◌, inl, inr, Option, Some, None, true≢fa
 use Rattle.std.proofs.Common.{length, List, [], ◌∷◌, ◌++◌}
 use Rattle.std.proofs.Common.{refl, sym, ap, ◌∙◌, subst, arith, append_assoc, length-append}
 use Rattle.std.specs.List.{AllByRecursion, Contains}
+use Rattle.std.specs.Prelude.{◌==◌}
+use Rattle.std.proofs.lemmas.Bool.{eqb-true}
 use Rattle.std.proofs.lemmas.Grind.{flat_map-append}
 use Rattle.std.proofs.lemmas.List.{append-nil, map-append}
 use Rattle.std.proofs.lemmas.List.Sums.{sum_by-append, sum_by-cons}
 use Rattle.lists.specs.Each.{all_push}
-use Rattle.lists.specs.Elements.{any_in}
+use Rattle.lists.specs.Elements.{any_in, any_is}
 use Rattle.lists.specs.Fronts.{front_refl}
 use Rattle.homes.specs.Homes.{same_key}
 use Rattle.homes.specs.Laws.{same_key-self}
 use Rattle.serial_model.specs.declared.key.Key.{Key}
 use Rattle.serial_model.specs.declared.op.Op.{Op}
 use Rattle.tx_sets.specs.declared.reads.ReadEntry.{ReadEntry}
+use Rattle.tx_sets.specs.declared.seen.Seen.{Seen}
 use Rattle.tx_sets.specs.declared.sets.Sets.{Sets}
 use Rattle.tx_sets.specs.declared.writes.Write.{Write}
-use Rattle.tx_sets.specs.Entries.{has_read, has_write}
+use Rattle.tx_sets.specs.Entries.{has_read, has_word, has_write}
 use Rattle.engine_pages.specs.declared.layout.Layout.{Layout}
 use Rattle.engine_pages.specs.declared.view.RefusalCause.{RefusalCause}
 use Rattle.engine_pages.specs.declared.view.RefusalCause.TheVariants as refusals
@@ -26,6 +29,7 @@ use Rattle.engine_pages.specs.declared.view.Touch.{Touch}
 use Rattle.engine_pages.specs.declared.view.View.{View}
 use Rattle.engine_pages.specs.Slots.{first_retired}
 use Rattle.engine_pages.specs.Views.{seat_number}
+use Rattle.page_commit.specs.Below.{IsWayPlace}
 use Rattle.page_commit.specs.Live.{IsOver}
 use Rattle.page_commit.specs.Refusing.{HasRefused, RefusesBegin}
 use Rattle.page_commit.specs.Committing.{IsRecordOf, RefusesCommit, TookOnly, kept_writes}
@@ -33,10 +37,11 @@ use Rattle.tx_runner.specs.declared.lines.LineEnd.{LineEnd}
 use Rattle.tx_runner.specs.declared.lines.LineEnd.TheVariants as answers
 use Rattle.tx_runner.specs.declared.room.LineRoom.{LineRoom}
 use Rattle.tx_runner.specs.LineEnds.{RunsLine}
-use Rattle.tx_runner.specs.Lines.{try_steps, IsOnArray}
+use Rattle.tx_runner.specs.Lines.{try_steps, IsOfKey, IsOnArray}
 use Rattle.tx_runner.specs.Steps.{AreKeysOf, IsCauseAmong, IsOpCause, IsTryCause, RefusesTry, end_of}
-use Rattle.tx_runner.specs.Tries.{AreAllTaken, HasConflicted, HasDrawsLeft, HasTriedFor, IsChangedAt, IsClash}
-use Rattle.tx_runner.specs.Tries.{IsConflicting, IsKeyOf, IsLostAt, IsMetKey, IsWrittenBy, Lost, ToClock, ToOther}
+use Rattle.tx_runner.specs.Tries.{AreAllTaken, HasConflicted, HasDrawsLeft, HasTriedFor, IsBesideRecords, IsChangedAt}
+use Rattle.tx_runner.specs.Tries.{IsClash, IsConflicting, IsKeyOf, IsLostAt, IsMetKey, IsPlaced, IsWrittenBy, Lost}
+use Rattle.tx_runner.specs.Tries.{ToClock, ToOther}
 use Rattle.tx_runner.specs.Tries.{ToSet, ToSlots, TouchesOnly, Writes, blame_at, blame_of, blames_of, drawn_for}
 use Rattle.tx_runner.specs.Tries.{why_of, whys_of}
 use Rattle.tx_runner.proofs.Arrays.{written_at}
@@ -98,15 +103,20 @@ met_key ops None keys = tt
 -- a conflict, behind which so many numbers were drawn
 clash_try : (ops : List Op) (at expected seen : ℕ) (met : Option Key) (u v w : View) → HasDrawsLeft u → StandsAs u v
     → HasRefused (refusals.Conflict at expected seen) v w → IsChangedAt met expected seen
-    → ((k : Key) → met ≡ Some k → IsKeyOf ops k) → w.blamed ≡ v.blamed ++ blame_at (seat_number v.role) met
-    → TouchesOnly ops u w → RefusesTry ops (refusals.Conflict at expected seen) u w
-clash_try ops at expected seen met u v w left s r cause keys blamed touched =
+    → ((k : Key) → met ≡ Some k → IsKeyOf ops k) → (met ≡ None → IsBesideRecords v.layout (IsKeyOf ops) at)
+    → w.blamed ≡ v.blamed ++ blame_at (seat_number v.role) met → TouchesOnly ops u w
+    → RefusesTry ops (refusals.Conflict at expected seen) u w
+clash_try ops at expected seen met u v w left s r cause keys place blamed touched =
     let why : RefusalCause = refusals.Conflict at expected seen in
     let lost : Lost = ToOther (record { why = why; met = met; drew = r.drew }) in record {
       lost = lost;
       is = refl;
       tried = tried_once ops why lost u v w s r refl r.draws blamed touched;
-      cause = ((cause, met_key ops met keys), left);
+      cause = (
+        (cause, met_key ops met keys),
+        left,
+        λ none. subst (λ (y : Layout). IsBesideRecords y (IsKeyOf ops) at) s.layout (place none),
+      );
     }
 
 -- no slot was usable
@@ -137,11 +147,16 @@ pub op_refused : (ops : List Op) (why : RefusalCause) (u v w : View) → HasDraw
     → HasRefused why v w → IsCauseAmong ops why v w → RefusesTry ops why u w
 op_refused ops why u v w left s r c = by_why why r c.op c.among c.cause
   where
+    beside : {at : ℕ} (op : Op) → Contains ops op → IsBesideRecords v.layout (IsOfKey op) at
+        → IsBesideRecords v.layout (IsKeyOf ops) at
+    beside op among (inl slot) = inl slot
+    beside op among (inr way) = inr (way.0, record { op = op; among = among; at = way.1 }, way.2)
+
     by_why : (y : RefusalCause) → HasRefused y v w → (op : Op) → Contains ops op → IsOpCause op y v w
         → RefusesTry ops y u w
     by_why (refusals.Conflict at expected seen) r op among c =
         clash_try ops at expected seen c.met u v w left s r c.cause
-        (λ k is. record { op = op; among = among; at = c.key k is }) c.blamed
+        (λ k is. record { op = op; among = among; at = c.key k is }) (λ none. beside op among (c.place none)) c.blamed
         (untouched ops u w (c.touched ∙ s.touched))
     by_why (refusals.Full told) r op among c =
         full_try ops told c.words u v w left s r c.told_is c.all
@@ -152,7 +167,7 @@ op_refused ops why u v w left s r c = by_why why r c.op c.among c.cause
 
 -- the commit was refused
 pub commit_refused : (ops : List Op) (why : RefusalCause) (sets : Sets) (keep : Bool) (u v w : View) → HasDrawsLeft u
-    → StandsAs u v → AreKeysOf ops sets → HasRefused why v w
+    → StandsAs u v → AreKeysOf v.layout ops sets → HasRefused why v w
     → RefusesCommit sets (kept_writes keep sets.writes) why v w → RefusesTry ops why u w
 commit_refused ops why sets keep u v w left s keys r c = by_why why r c
   where
@@ -166,6 +181,17 @@ commit_refused ops why sets keep u v w left s keys r c = by_why why r c
         let w = kept k keep (has_written k write.0 (kept_writes keep sets.writes) write.1 write.2) in
         record { op = w.op; among = w.among; at = written_at w.op k w.writes }
 
+    some_none : (k : Key) → Some k ≡ None → ⊥
+    some_none k same = absurd cc
+
+    pointer_way : (at : ℕ) → has_word at sets.pointers ≡ true → (k : Key) × IsKeyOf ops k × IsWayPlace v.layout k at
+    pointer_way at has =
+        let p = any_is (λ (s : Seen). s.at == at) sets.pointers has in let x = keys.pointers p.0 p.1 in (
+          x.0,
+          x.1,
+          subst (λ (n : ℕ). IsWayPlace v.layout x.0 n) (eqb-true p.0.at at p.2) x.2,
+        )
+
     touches : TookOnly (kept_writes keep sets.writes) v w → TouchesOnly ops u w
     touches took t has = elim (took t has) [
       | inl before ↦ inl (subst (λ (l : List Touch). Contains l t) s.touched before)
@@ -178,10 +204,10 @@ commit_refused ops why sets keep u v w left s keys r c = by_why why r c
       | inl here ↦
           clash_try ops at expected seen (Some here.0) u v w left s r here.2.conflict.cause
           (λ k is. let same : here.0 ≡ k = cc in subst (IsKeyOf ops) same (read_or_written here.0 at here.1))
-          here.2.blamed (touches c.1)
+          (λ none. absurd (some_none here.0 none)) here.2.blamed (touches c.1)
       | inr pointer ↦
           clash_try ops at expected seen None u v w left s r pointer.1.cause (λ k is. absurd cc)
-          (pointer.2 ∙ sym (append-nil v.blamed)) (touches c.1)
+          (λ none. inr (pointer_way at pointer.0)) (pointer.2 ∙ sym (append-nil v.blamed)) (touches c.1)
     ]
     by_why (refusals.Full told) r c = absurd c
     by_why (refusals.Wide set) r c = absurd c
@@ -195,6 +221,7 @@ none_tried ops v over = record {
   losts = [];
   count = refl;
   each = tt;
+  placed = tt;
   tried = record {
     over = over;
     layout = refl;
@@ -259,6 +286,8 @@ conflicted_more ops done why u v w h r goes = by_lost r.lost r.is r.tried r.caus
           losts = h.losts ++ lost ∷ [];
           count = length-append h.losts (lost ∷ []) ∙ ap (λ n. n + 1) h.count;
           each = all_push (IsClash ops) h.losts lost h.each cause.0;
+          placed = all_push (IsPlaced u.layout ops) h.losts lost h.placed
+              (subst (λ (y : Layout). IsPlaced y ops (ToOther clash)) h.tried.layout cause.2);
           tried = tried_then ops h.losts (lost ∷ []) u v w h.tried tried;
         }
     by_lost (ToSlots words) is tried cause = absurd (goes answers.Full (ap end_of (sym is)))
@@ -279,6 +308,7 @@ lost_behind ops done tries lost u v w less h tried = record {
   losts = h.losts;
   fewer = omega (arith, less, h.count);
   each = h.each;
+  placed = h.placed;
   tried = tried_then ops h.losts (lost ∷ []) u v w h.tried tried;
 }
 

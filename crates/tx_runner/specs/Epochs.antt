@@ -55,6 +55,9 @@ pub record HasSeenEpoch (epoch : ℕ) (v w : View) : Type 0 where
   pub drafts : w.drafts ≡ v.drafts
   pub copies : w.copies ≡ v.copies
   pub blanks : w.blanks ≡ v.blanks
+  pub leaves : w.new_leaves ≡ v.new_leaves
+  pub inners : w.new_inners ≡ v.new_inners
+  pub heads : w.heads ≡ v.heads
   pub pages : w.pages ≡ v.pages
   pub fills : w.fills ≡ v.fills
   pub shuts : w.shuts ≡ v.shuts

@@ -33,8 +33,8 @@ use Rattle.tx_runner.specs.declared.lines.LineEnd.{LineEnd}
 use Rattle.tx_runner.specs.declared.lines.LineEnd.TheVariants as answers
 use Rattle.tx_runner.specs.declared.room.LineRoom.{LineRoom}
 use Rattle.tx_runner.specs.Lines.{keeps, IsAnswered}
-use Rattle.tx_runner.specs.Tries.{HasConflicted, HasDrawsLeft, IsAtLimit, IsClash, IsFullAt, IsWideAt, Lost}
-use Rattle.tx_runner.specs.Tries.{TouchesOnly, blames_of, lost_to, whys_of}
+use Rattle.tx_runner.specs.Tries.{HasConflicted, HasDrawsLeft, IsAtLimit, IsClash, IsFullAt, IsPlaced, IsWideAt}
+use Rattle.tx_runner.specs.Tries.{Lost, TouchesOnly, blames_of, lost_to, whys_of}
 
 -- The entry's transaction, alone on whatever state agrees with the one below its number, as these attempts and
 -- decisions have it, answers what was answered and changes what the attempt writes.
@@ -56,6 +56,7 @@ pub record HasCommittedLine (ops : List Op) (tries : ℕ) (verdict : Verdict) (r
   pub losts : List Lost
   pub fewer : length losts < tries
   pub each : AllByRecursion (IsClash ops) losts
+  pub placed : AllByRecursion (IsPlaced v.layout ops) losts
   pub refused : w.refused ≡ v.refused ++ whys_of losts
   pub over : IsOver w
   pub layout : w.layout ≡ v.layout

@@ -56,6 +56,9 @@ seat_over keeper worker decls rests = record {
     drafts = refl;
     copies = refl;
     blanks = refl;
+    leaves = refl;
+    inners = refl;
+    heads = refl;
   };
 }
 
@@ -76,6 +79,9 @@ seen_over epoch v w s over = record {
     drafts = s.drafts ∙ over.holds.drafts;
     copies = s.copies ∙ over.holds.copies;
     blanks = s.blanks ∙ over.holds.blanks;
+    leaves = s.leaves ∙ over.holds.leaves;
+    inners = s.inners ∙ over.holds.inners;
+    heads = s.heads ∙ over.holds.heads;
   };
 }
 
@@ -96,6 +102,7 @@ over_done v over = record {
   due = over.due;
   resting = over.seat;
   grip = bare_of v.grip (no_slots v.grip.holds (λ t. sym (over.holds.holds t))) over.holds.made over.holds.taken;
+  heads = over.holds.heads;
 }
 
 -- ---- lines on arrays

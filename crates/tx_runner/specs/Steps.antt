@@ -8,8 +8,10 @@ use Rattle.serial_model.specs.declared.reply.Reply.{Reply}
 use Rattle.serial_model.specs.declared.reply.Verdict.{Verdict}
 use Rattle.serial_model.specs.declared.reply.Verdict.TheVariants.{Done, Short, Over}
 use Rattle.serial_model.specs.Numbers.{draw_limit}
+use Rattle.tx_sets.specs.declared.seen.Seen.{Seen}
 use Rattle.tx_sets.specs.declared.sets.Sets.{Sets}
 use Rattle.tx_sets.specs.Entries.{has_read, has_write}
+use Rattle.engine_pages.specs.declared.layout.Layout.{Layout}
 use Rattle.engine_pages.specs.declared.view.RefusalCause.{RefusalCause}
 use Rattle.engine_pages.specs.declared.view.RefusalCause.TheVariants as refusals
 use Rattle.engine_pages.specs.declared.view.SetName.TheVariants.{Holds}
@@ -18,6 +20,7 @@ use Rattle.engine_pages.specs.Layout.{clock_at}
 use Rattle.engine_pages.specs.Slots.{first_retired}
 use Rattle.engine_pages.specs.Steps.{glance}
 use Rattle.engine_pages.specs.Views.{seat_number}
+use Rattle.page_commit.specs.Below.{IsWayPlace}
 use Rattle.page_commit.specs.Calls.{op_holds}
 use Rattle.page_commit.specs.Live.{IsLive}
 use Rattle.page_commit.specs.Turning.{HasDone, HasStopped, MayWrite, OnlyWalked}
@@ -25,8 +28,9 @@ use Rattle.page_commit.specs.Running.{HasRun, HasEnded}
 use Rattle.tx_runner.specs.declared.lines.LineEnd.{LineEnd}
 use Rattle.tx_runner.specs.declared.lines.LineEnd.TheVariants as ends
 use Rattle.tx_runner.specs.Lines.{IsOfKey}
-use Rattle.tx_runner.specs.Tries.{AreAllTaken, HasDrawsLeft, HasTriedFor, IsChangedAt, IsClash, IsKeyOf, IsWrittenBy}
-use Rattle.tx_runner.specs.Tries.{Lost, ToClock, ToOther, ToSet, ToSlots, Writes, blame_at, why_of}
+use Rattle.tx_runner.specs.Tries.{AreAllTaken, HasDrawsLeft, HasTriedFor, IsBesideRecords, IsChangedAt, IsClash}
+use Rattle.tx_runner.specs.Tries.{IsKeyOf, IsPlaced, IsWrittenBy, Lost, ToClock, ToOther, ToSet, ToSlots, Writes}
+use Rattle.tx_runner.specs.Tries.{blame_at, why_of}
 
 -- ---- operations
 
@@ -61,10 +65,12 @@ HasRunTo ops Done replies sets w = HasRun ops replies sets w
 HasRunTo ops Short replies sets w = HasEnded ops Short replies w
 HasRunTo ops Over replies sets w = HasEnded ops Over replies w
 
--- what the transaction has read are keys of the operations, and what it has written are keys that they may write
-pub record AreKeysOf (ops : List Op) (sets : Sets) : Type 0 where
+-- What the transaction has read are keys of the operations, what it has written are keys that they may write, and each
+-- pointer that it met is on the way to a key of theirs.
+pub record AreKeysOf (l : Layout) (ops : List Op) (sets : Sets) : Type 0 where
   pub reads : (k : Key) → has_read k sets.reads ≡ true → IsKeyOf ops k
   pub writes : (k : Key) → has_write k sets.writes ≡ true → IsWrittenBy ops k
+  pub pointers : (p : Seen) → Contains sets.pointers p → (k : Key) × IsKeyOf ops k × IsWayPlace l k p.at
 
 -- and is still under way, with nothing new but loads, parts, and pages in memory
 pub record HasAnsweredAll (ops : List Op) (verdict : Verdict) (replies : List Reply) (sets : Sets) (v w : View)
@@ -73,13 +79,14 @@ pub record HasAnsweredAll (ops : List Op) (verdict : Verdict) (replies : List Re
   pub only : OnlyWalked v w
   pub sized : AreWithin (length ops) sets
   pub run : HasRunTo ops verdict replies sets w
-  pub keys : AreKeysOf ops sets
+  pub keys : AreKeysOf w.layout ops sets
 
--- An operation met a word that was changed, or is locked or shut: the record's of its key, or a pointer's or a slot's.
--- Nothing was drawn or locked.
-pub record IsOpConflict (op : Op) (expected seen : ℕ) (v w : View) : Type 0 where
+-- An operation met a word that was changed, or is locked or shut: the record's of its key, or a slot's, or that of a
+-- pointer on the way to its key. Nothing was drawn or locked.
+pub record IsOpConflict (op : Op) (at expected seen : ℕ) (v w : View) : Type 0 where
   pub met : Option Key
   pub key : (k : Key) → met ≡ Some k → IsOfKey op k
+  pub place : met ≡ None → IsBesideRecords v.layout (IsOfKey op) at
   pub cause : IsChangedAt met expected seen
   pub blamed : w.blamed ≡ v.blamed ++ blame_at (seat_number v.role) met
   pub draws : w.draws ≡ v.draws
@@ -98,7 +105,7 @@ pub record IsOpFull (op : Op) (told : Option (ℕ × ℕ)) (v w : View) : Type 0
 
 -- Why an operation is refused, of a transaction that ran fewer than 16: they fill no set.
 abbrev pub IsOpCause : Op → RefusalCause → View → View → Type 0
-IsOpCause op (refusals.Conflict at expected seen) v w = IsOpConflict op expected seen v w
+IsOpCause op (refusals.Conflict at expected seen) v w = IsOpConflict op at expected seen v w
 IsOpCause op (refusals.Full told) v w = IsOpFull op told v w
 IsOpCause op (refusals.Wide set) v w = ⊥
 IsOpCause op (refusals.NumberLimit clock) v w = ⊥
@@ -114,7 +121,8 @@ pub record IsCauseAmong (ops : List Op) (why : RefusalCause) (v w : View) : Type
 -- The cause of a refusal: of a try that began, a conflict, all slots that were taken, or a full set; or the clock,
 -- which was loaded last.
 abbrev pub IsTryCause : List Op → Lost → View → View → Type 0
-IsTryCause ops (ToOther clash) v w = IsClash ops (ToOther clash) × HasDrawsLeft v
+IsTryCause ops (ToOther clash) v w =
+    IsClash ops (ToOther clash) × HasDrawsLeft v × IsPlaced v.layout ops (ToOther clash)
 IsTryCause ops (ToSlots words) v w = Writes ops × AreAllTaken words v w × HasDrawsLeft v
 IsTryCause ops (ToSet set) v w = (set ≡ Holds) × (128 ≤ op_holds * length ops) × HasDrawsLeft v
 IsTryCause ops (ToClock clock) v w =

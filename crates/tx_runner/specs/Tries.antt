@@ -5,17 +5,19 @@ use Rattle.std.specs.List.{AllByRecursion, list_all}
 use Rattle.serial_model.specs.Numbers.{draw_limit}
 use Rattle.serial_model.specs.declared.key.Key.{Key}
 use Rattle.serial_model.specs.declared.op.Op.{Op}
+use Rattle.engine_pages.specs.declared.layout.Layout.{Layout}
 use Rattle.engine_pages.specs.declared.view.RefusalCause.{RefusalCause}
 use Rattle.engine_pages.specs.declared.view.RefusalCause.TheVariants as refusals
 use Rattle.engine_pages.specs.declared.view.SetName.{SetName}
 use Rattle.engine_pages.specs.declared.view.SetName.TheVariants.{Holds}
 use Rattle.engine_pages.specs.declared.view.Touch.{Touch}
 use Rattle.engine_pages.specs.declared.view.View.{View}
-use Rattle.engine_pages.specs.Layout.{clock_at}
+use Rattle.engine_pages.specs.Layout.{clock_at, slot_at}
 use Rattle.engine_pages.specs.Slots.{first_retired, is_taken_word, looks}
 use Rattle.engine_pages.specs.Steps.{glance}
 use Rattle.engine_pages.specs.Touches.{touch}
 use Rattle.engine_pages.specs.Views.{seat_number}
+use Rattle.page_commit.specs.Below.{IsWayPlace}
 use Rattle.page_commit.specs.Calls.{op_holds}
 use Rattle.page_commit.specs.Between.{HasSeen}
 use Rattle.page_commit.specs.Live.{IsOver}
@@ -59,6 +61,18 @@ IsConflicting (refusals.NumberLimit clock) met = ⊥
 abbrev pub IsMetKey : List Op → Option Key → Type 0
 IsMetKey ops (Some k) = IsKeyOf ops k
 IsMetKey ops None = ⊤
+
+-- the word is that of a slot, or of a pointer on the way to such a key
+abbrev pub IsBesideRecords : Layout → (Key → Type 0) → ℕ → Type 0
+IsBesideRecords l of at =
+    ((t : ℕ) × (t < l.slots) × (at ≡ slot_at t)) ⊎ ((k : Key) × of k × IsWayPlace l k at)
+
+-- so it is with the word of a conflict, for a key of the line
+abbrev pub IsBesideOf : Layout → List Op → RefusalCause → Type 0
+IsBesideOf l ops (refusals.Conflict at expected seen) = IsBesideRecords l (IsKeyOf ops) at
+IsBesideOf l ops (refusals.Full held) = ⊥
+IsBesideOf l ops (refusals.Wide set) = ⊥
+IsBesideOf l ops (refusals.NumberLimit clock) = ⊥
 
 -- ---- no slot was usable
 
@@ -117,6 +131,13 @@ IsClash ops (ToSlots words) = ⊥
 IsClash ops (ToSet set) = ⊥
 IsClash ops (ToClock clock) = ⊥
 
+-- A try that met a conflict, but at no record, met it at a slot, or at a pointer on the way to a key of the line.
+abbrev pub IsPlaced : Layout → List Op → Lost → Type 0
+IsPlaced l ops (ToOther clash) = clash.met ≡ None → IsBesideOf l ops clash.why
+IsPlaced l ops (ToSlots words) = ⊤
+IsPlaced l ops (ToSet set) = ⊤
+IsPlaced l ops (ToClock clock) = ⊤
+
 -- what the pass of this seat tells of such a conflict
 abbrev pub blame_at : ℕ → Option Key → List Touch
 blame_at q (Some k) = touch q k ∷ []
@@ -164,6 +185,7 @@ pub record HasConflicted (ops : List Op) (tries : ℕ) (v w : View) : Type 0 whe
   pub losts : List Lost
   pub count : length losts ≡ tries
   pub each : AllByRecursion (IsClash ops) losts
+  pub placed : AllByRecursion (IsPlaced v.layout ops) losts
   pub tried : HasTriedFor ops losts v w
 
 -- The last try was lost so, and those before it, which were fewer than the line has, were refused with Conflict.
@@ -171,6 +193,7 @@ pub record IsLostAt (ops : List Op) (last : Lost) (tries : ℕ) (v w : View) : T
   pub losts : List Lost
   pub fewer : length losts < tries
   pub each : AllByRecursion (IsClash ops) losts
+  pub placed : AllByRecursion (IsPlaced v.layout ops) losts
   pub tried : HasTriedFor ops (losts ++ last ∷ []) v w
 
 -- ---- ends of a line that isn't tried again

@@ -5,6 +5,7 @@ use Rattle.array_pages.specs.Spans.{keys_above, HasArray, IsArrayAt}
 use Rattle.array_pages.proofs.DeclLaws.{array_there, few_at, key_at, size_at, within_at}
 use Rattle.array_pages.proofs.FindLaws.{finds_within}
 use Rattle.array_pages.proofs.SpanLaws.{over_large}
+use Rattle.array_pages.proofs.SpanLaws.{over_in, root_on}
 use Rattle.array_pages.proofs.SpanLaws.{over_medium, over_small}
 use Rattle.array_pages.proofs.SpanLaws.{root_large, root_middle, root_pointer, root_small, root_word}
 use Rattle.array_pages.proofs.finding.find_from_root.Goals as goal
@@ -121,3 +122,48 @@ returns-then-size-le-MIDDLE-clause-finds c =
     finds_within 9 12 (length c.args.holds.now + 2) (length c.args.holds.now + 3) c.args.key c.args.pointers.now
     c.find_in_middle.new.holds c.find_in_middle.result (view c.args.pass.now)
     (view c.find_in_middle.new.pass) (omega arith) (omega arith) c.find_in_middle.ensures.finds
+
+pub find_in_leaf-requires-clause-on : goal.find_in_leaf-requires-clause-on
+find_in_leaf-requires-clause-on c =
+    let v = view c.args.pass.now in
+    let root = c.array_of-root.result.0 in
+    let size = c.array_of-root.result.1 in
+    let there : IsArrayAt v.layout.decls c.args.key.storage root size =
+    subst (λ (l : Layout). IsArrayAt l.decls c.args.key.storage root size)
+    (sym c.requires.of.layout) c.array_of-root.ensures in
+    root_on v.layout c.args.key root (keys_above c.args.key 0 0)
+    (within_at v.layout.decls c.args.key.storage root size there)
+    (root_small v.layout.decls c.args.key root size there c.if-size-le-LEAF.true)
+    (over_in c.args.key 0 0 (over_small c.args.key size
+    (key_at v.layout.decls c.args.key root size c.requires.can.declared c.requires.fits there)
+    c.if-size-le-LEAF.true))
+
+pub find_in_middle-requires-clause-on : goal.find_in_middle-requires-clause-on
+find_in_middle-requires-clause-on c =
+    let v = view c.args.pass.now in
+    let root = c.array_of-root.result.0 in
+    let size = c.array_of-root.result.1 in
+    let there : IsArrayAt v.layout.decls c.args.key.storage root size =
+    subst (λ (l : Layout). IsArrayAt l.decls c.args.key.storage root size)
+    (sym c.requires.of.layout) c.array_of-root.ensures in
+    root_on v.layout c.args.key root (keys_above c.args.key 1 0)
+    (within_at v.layout.decls c.args.key.storage root size there)
+    (root_middle v.layout.decls c.args.key root size there c.if-size-le-LEAF.false c.if-size-le-MIDDLE.true)
+    (over_in c.args.key 1 0 (over_medium c.args.key size
+    (key_at v.layout.decls c.args.key root size c.requires.can.declared c.requires.fits there)
+    c.if-size-le-MIDDLE.true))
+
+pub find_in_top-requires-clause-on : goal.find_in_top-requires-clause-on
+find_in_top-requires-clause-on c =
+    let v = view c.args.pass.now in
+    let root = c.array_of-root.result.0 in
+    let size = c.array_of-root.result.1 in
+    let there : IsArrayAt v.layout.decls c.args.key.storage root size =
+    subst (λ (l : Layout). IsArrayAt l.decls c.args.key.storage root size)
+    (sym c.requires.of.layout) c.array_of-root.ensures in
+    root_on v.layout c.args.key root (keys_above c.args.key 2 0)
+    (within_at v.layout.decls c.args.key.storage root size there)
+    (root_large v.layout.decls c.args.key root size there c.if-size-le-MIDDLE.false)
+    (over_in c.args.key 2 0 (over_large c.args.key size
+    (key_at v.layout.decls c.args.key root size c.requires.can.declared c.requires.fits there)
+    (size_at v.layout.decls c.args.key.storage root size c.requires.can.declared there)))

@@ -3,18 +3,20 @@ use Rattle.std.proofs.lemmas.Result.{err_from_is_err_and}
 use Rattle.homes.specs.declared.places.Span.{Span}
 use Rattle.engine_pages.specs.Pages.{is_array}
 use Rattle.engine_pages.specs.Passes.{view}
-use Rattle.engine_pages.specs.Pointers.{IsPointerAt}
+use Rattle.engine_pages.specs.Pointers.{IsArrayPointerAt}
 use Rattle.array_pages.specs.declared.walk.Reached.TheVariants as ends
 use Rattle.array_pages.specs.Spans.{keys_above}
+use Rattle.array_pages.proofs.SpanLaws.{over_in}
 use Rattle.array_pages.proofs.FindLaws.{finds_below, finds_none, finds_read, fits_walked, looks_below}
 use Rattle.array_pages.proofs.FindLaws.{over_span, reached_end}
 use Rattle.array_pages.proofs.PageLaws.{found_deep}
 use Rattle.array_pages.proofs.WalkLaws.{over_keys, ways_to}
+use Rattle.array_pages.proofs.WalkLaws.{led_over}
 use Rattle.array_pages.proofs.finding.find_in_leaf.Goals as goal
 
 pub reach-requires-clause-place : goal.reach-requires-clause-place
 reach-requires-clause-place c =
-    subst (λ (s : Span). IsPointerAt (view c.args.pass.now) c.args.place s c.args.at) (sym c.span_from-span.ensures)
+    subst (λ (s : Span). IsArrayPointerAt (view c.args.pass.now) c.args.place s c.args.at) (sym c.span_from-span.ensures)
     c.requires.place
 
 pub reach-requires-clause-array : goal.reach-requires-clause-array
@@ -61,7 +63,8 @@ returns-in-Slot-clause-finds c =
     h.grows h.walked h.can h.others h.keeps h.reached.2 h.reached.3
     (ways_to c.args.key (keys_above c.args.key 0 c.args.low) v u
     (over_span c.args.key c.args.low (c.args.low + 31) c.requires.over.from
-    (let to = c.requires.over.to in omega (arith, to))) h.only) h.led
+    (let to = c.requires.over.to in omega (arith, to))) h.only)
+    (led_over c.args.key (keys_above c.args.key 0 c.args.low) v u (over_in c.args.key 0 c.args.low c.requires.over) h.led)
     c.read_record.ensures.reads
 
 pub in_leaf-number-requires-clause-can : goal.in_leaf-number-requires-clause-can
@@ -98,8 +101,7 @@ returns-in-Page-clause-finds c =
     (view c.in_leaf-number.new.pass)
     (let one = h.most in let two = c.in_leaf-number.ensures.most in omega (arith, one, two))
     (omega arith) c.requires.place c.requires.word h c.in_leaf-number.ensures.glances
-    (over_span c.args.key c.args.low (c.args.low + 31) c.requires.over.from
-    (let to = c.requires.over.to in omega (arith, to)))
+    (record { over = over_in c.args.key 0 c.args.low c.requires.over; on = c.requires.on })
     (found_deep u.pages c.args.key.key c.in-Page.page c.args.low (c.args.low + 31) _
     (c.in_leaf-number.ensures.finds 31))
     c.found_below.ensures
@@ -112,7 +114,10 @@ returns-in_err-reached-clause-finds c =
     c.reach.new.holds c.args.place c.span_from-span.result c.args.at
     c.in_err-reached.field-0.0 (view c.args.pass.now) (view c.reach.new.pass)
     (let one = c.in_err-reached.ensures.reaches.most in omega (arith, one)) (omega arith)
-    (over_keys c.args.key c.args.low (c.args.low + 31) c.span_from-span.result c.span_from-span.ensures
-    c.requires.over.from
-    (let to = c.requires.over.to in omega (arith, to)))
+    (record {
+      over = over_keys c.args.key c.args.low (c.args.low + 31) c.span_from-span.result c.span_from-span.ensures
+          c.requires.over.from
+          (let to = c.requires.over.to in omega (arith, to));
+      on = c.requires.on;
+    })
     c.in_err-reached.ensures.reaches)

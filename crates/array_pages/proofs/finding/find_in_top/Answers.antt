@@ -5,7 +5,7 @@ use Rattle.engine_pages.specs.declared.layout.Layout.{Layout}
 use Rattle.engine_pages.specs.Layout.{page_at, words_of}
 use Rattle.engine_pages.specs.Pages.{is_array}
 use Rattle.engine_pages.specs.Passes.{view}
-use Rattle.engine_pages.specs.Pointers.{IsPointerAt}
+use Rattle.engine_pages.specs.Pointers.{IsArrayPointerAt}
 use Rattle.array_pages.specs.declared.walk.Reached.TheVariants as ends
 use Rattle.array_pages.specs.Spans.{keys_above}
 use Rattle.array_pages.proofs.FindLaws.{finds_back, finds_below, finds_none, fits_walked, looks_below}
@@ -13,14 +13,17 @@ use Rattle.array_pages.proofs.FindLaws.{over_span, reached_end, stands_here}
 use Rattle.array_pages.proofs.RecordLaws.{even_middle}
 use Rattle.array_pages.proofs.PageLaws.{found_deep}
 use Rattle.array_pages.proofs.SpanLaws.{child_pointer, child_top, low_middle}
+use Rattle.array_pages.proofs.SpanLaws.{middle_on, whole_middle}
+use Rattle.array_pages.proofs.SpanLaws.{over_in}
 use Rattle.array_pages.proofs.SpanLaws.{over_middle, page_word, part_middle}
 use Rattle.array_pages.proofs.SpanLaws.{top_is}
 use Rattle.array_pages.proofs.WalkLaws.{over_keys, ways_to}
+use Rattle.array_pages.proofs.WalkLaws.{led_over}
 use Rattle.array_pages.proofs.finding.find_in_top.Goals as goal
 
 pub reach-requires-clause-place : goal.reach-requires-clause-place
 reach-requires-clause-place c =
-    subst (λ (s : Span). IsPointerAt (view c.args.pass.now) c.args.place s c.args.at) (sym c.span_from-span.ensures)
+    subst (λ (s : Span). IsArrayPointerAt (view c.args.pass.now) c.args.place s c.args.at) (sym c.span_from-span.ensures)
     c.requires.place
 
 pub reach-requires-clause-array : goal.reach-requires-clause-array
@@ -99,7 +102,7 @@ returns-in-Slot-clause-finds c =
     (let grows = h.grows in omega (arith, grows)) h.walked h.others h.keeps h.reached.2 h.reached.3
     (ways_to c.args.key (keys_above c.args.key 2 0) v u
     (over_span c.args.key 0 131071 c.requires.over.from (let to = c.requires.over.to in omega (arith, to))) h.only)
-    h.led
+    (led_over c.args.key (keys_above c.args.key 2 0) v u (over_in c.args.key 2 0 c.requires.over) h.led)
     c.find_in_middle.ensures.finds
 
 pub in_top-number-requires-clause-can : goal.in_top-number-requires-clause-can
@@ -147,7 +150,7 @@ returns-in-Page-clause-finds c =
     (view c.in_top-number.new.pass)
     (let one = h.most in let two = c.in_top-number.ensures.most in omega (arith, one, two))
     (omega arith) c.requires.place c.requires.word h c.in_top-number.ensures.glances
-    (over_span c.args.key 0 131071 c.requires.over.from (let to = c.requires.over.to in omega (arith, to)))
+    (record { over = over_in c.args.key 2 0 c.requires.over; on = c.requires.on })
     (found_deep u.pages c.args.key.key c.in-Page.page 0 131071 _ (c.in_top-number.ensures.finds 29))
     c.found_below.ensures
 
@@ -159,9 +162,27 @@ returns-in_err-reached-clause-finds c =
     c.reach.new.holds c.args.place c.span_from-span.result c.args.at
     c.in_err-reached.field-0.0 (view c.args.pass.now) (view c.reach.new.pass)
     (let one = c.in_err-reached.ensures.reaches.most in omega (arith, one)) (omega arith)
-    (over_keys c.args.key 0 131071 c.span_from-span.result c.span_from-span.ensures c.requires.over.from
-    (let to = c.requires.over.to in omega (arith, to)))
+    (record {
+      over = over_keys c.args.key 0 131071 c.span_from-span.result c.span_from-span.ensures c.requires.over.from
+          (let to = c.requires.over.to in omega (arith, to));
+      on = c.requires.on;
+    })
     c.in_err-reached.ensures.reaches)
 
 pub find_in_middle-requires-clause-even : goal.find_in_middle-requires-clause-even
 find_in_middle-requires-clause-even c = even_middle c.args.key
+
+pub find_in_middle-requires-clause-on : goal.find_in_middle-requires-clause-on
+find_in_middle-requires-clause-on c =
+    let v = view c.args.pass.now in
+    let u = view c.reach.new.pass in
+    let h = reached_end (length c.args.holds.now + 1) c.args.pointers.now c.reach.new.holds c.args.place
+    c.span_from-span.result
+    (keys_above c.args.key 2 0) c.args.at c.in_ok-reached.reached (ends.Slot c.in-Slot.slot) v u
+    c.span_from-span.ensures c.in-Slot.is c.in_ok-reached.ensures.reaches in
+    let part = c.args.key.key / 2048 in
+    middle_on u.layout c.args.key c.in-Slot.slot c.word_at-next.result h.reached.1
+    (c.word_at-next.ensures ∙ ap (λ (l : Layout). page_at l.slots c.in-Slot.slot part) (sym c.reach.ensures.of.layout))
+
+pub find_in_middle-requires-clause-whole : goal.find_in_middle-requires-clause-whole
+find_in_middle-requires-clause-whole c = whole_middle c.args.key

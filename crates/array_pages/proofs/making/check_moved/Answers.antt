@@ -2,7 +2,12 @@ use Rattle.std.proofs.lemmas.Result.{err_from_is_err_and}
 use Rattle.engine_pages.specs.Passes.{view}
 use Rattle.array_pages.proofs.MakeLaws.{check_other, check_same}
 use Rattle.array_pages.proofs.WalkLaws.{is_followed}
+use Rattle.engine_pages.specs.Pointers.{any_pointer}
 use Rattle.array_pages.proofs.making.check_moved.Goals as goal
+
+pub follow-seen-requires-clause-place : goal.follow-seen-requires-clause-place
+follow-seen-requires-clause-place c =
+    any_pointer (view c.args.pass.now) c.args.place c.args.span c.args.at c.requires.place
 
 pub returns-in_err-is_met-clause-checks : goal.returns-in_err-is_met-clause-checks
 returns-in_err-is_met-clause-checks c =

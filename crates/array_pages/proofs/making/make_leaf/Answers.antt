@@ -6,13 +6,15 @@ use Rattle.engine_pages.specs.declared.layout.Layout.{Layout}
 use Rattle.engine_pages.specs.Layout.{page_at, words_of}
 use Rattle.engine_pages.specs.Pages.{is_array}
 use Rattle.engine_pages.specs.Passes.{view}
-use Rattle.engine_pages.specs.Pointers.{IsPointerAt}
+use Rattle.engine_pages.specs.Pointers.{IsArrayPointerAt}
 use Rattle.array_pages.specs.Making.{HasRecordAt}
 use Rattle.array_pages.specs.Spans.{keys_above}
 use Rattle.array_pages.specs.Steps.{CanCopy}
 use Rattle.array_pages.proofs.MakeLaws.{makes_leaf, makes_moved, makes_none}
+use Rattle.array_pages.proofs.RecordLaws.{index_of}
 use Rattle.array_pages.proofs.SpanLaws.{record_at}
 use Rattle.array_pages.proofs.WalkLaws.{layout_stays, place_stays}
+use Rattle.array_pages.proofs.WalkLaws.{led_over}
 use Rattle.array_pages.proofs.WalkLaws.{over_keys, ways_to}
 use Rattle.array_pages.proofs.making.make_leaf.Goals as goal
 
@@ -22,8 +24,8 @@ settle-requires-clause-place c =
     let span = c.span_from-span.result in
     let keys : Span = keys_above c.args.key 0 c.args.low in
     let same : span ≡ keys = c.span_from-span.ensures in
-    let here : IsPointerAt v c.args.place span c.args.at =
-    subst (λ (s : Span). IsPointerAt v c.args.place s c.args.at) (sym same) c.requires.place in
+    let here : IsArrayPointerAt v c.args.place span c.args.at =
+    subst (λ (s : Span). IsArrayPointerAt v c.args.place s c.args.at) (sym same) c.requires.place in
     here
 
 pub settle-requires-clause-array : goal.settle-requires-clause-array
@@ -32,8 +34,8 @@ settle-requires-clause-array c =
     let span = c.span_from-span.result in
     let keys : Span = keys_above c.args.key 0 c.args.low in
     let same : span ≡ keys = c.span_from-span.ensures in
-    let here : IsPointerAt v c.args.place span c.args.at =
-    subst (λ (s : Span). IsPointerAt v c.args.place s c.args.at) (sym same) c.requires.place in
+    let here : IsArrayPointerAt v c.args.place span c.args.at =
+    subst (λ (s : Span). IsArrayPointerAt v c.args.place s c.args.at) (sym same) c.requires.place in
     subst (λ (s : Span). is_array v.layout.decls s.storage ≡ true) (sym same) c.requires.fits.array
 
 pub settle-requires-clause-kind : goal.settle-requires-clause-kind
@@ -42,8 +44,8 @@ settle-requires-clause-kind c =
     let span = c.span_from-span.result in
     let keys : Span = keys_above c.args.key 0 c.args.low in
     let same : span ≡ keys = c.span_from-span.ensures in
-    let here : IsPointerAt v c.args.place span c.args.at =
-    subst (λ (s : Span). IsPointerAt v c.args.place s c.args.at) (sym same) c.requires.place in
+    let here : IsArrayPointerAt v c.args.place span c.args.at =
+    subst (λ (s : Span). IsArrayPointerAt v c.args.place s c.args.at) (sym same) c.requires.place in
     subst (CanCopy true) (sym same) (refl)
 
 pub returns-in_err-settled-clause-makes : goal.returns-in_err-settled-clause-makes
@@ -53,16 +55,19 @@ returns-in_err-settled-clause-makes c =
     let span = c.span_from-span.result in
     let keys : Span = keys_above c.args.key 0 c.args.low in
     let same : span ≡ keys = c.span_from-span.ensures in
-    let here : IsPointerAt v c.args.place span c.args.at =
-    subst (λ (s : Span). IsPointerAt v c.args.place s c.args.at) (sym same) c.requires.place in
+    let here : IsArrayPointerAt v c.args.place span c.args.at =
+    subst (λ (s : Span). IsArrayPointerAt v c.args.place s c.args.at) (sym same) c.requires.place in
     rw (p.1, p.2)
     (makes_none (v.layout.slots + 135) (length c.args.holds.now + 1)
     (length c.args.holds.now + 1) c.args.key c.args.pointers.now c.settle.new.holds span c.args.at
     c.in_err-settled.field-0.0 v
     (view c.settle.new.pass)
     (let one = c.in_err-settled.ensures.settles.most in omega (arith, one)) (omega arith)
-    (over_keys c.args.key c.args.low (c.args.low + 31) span same c.requires.over.from
-    (let to = c.requires.over.to in omega (arith, to)))
+    (record {
+      over = over_keys c.args.key c.args.low (c.args.low + 31) span same c.requires.over.from
+          (let to = c.requires.over.to in omega (arith, to));
+      on = c.requires.on;
+    })
     c.in_err-settled.ensures.settles)
 
 pub check_moved-requires-clause-active : goal.check_moved-requires-clause-active
@@ -71,8 +76,8 @@ check_moved-requires-clause-active c =
     let span = c.span_from-span.result in
     let keys : Span = keys_above c.args.key 0 c.args.low in
     let same : span ≡ keys = c.span_from-span.ensures in
-    let here : IsPointerAt v c.args.place span c.args.at =
-    subst (λ (s : Span). IsPointerAt v c.args.place s c.args.at) (sym same) c.requires.place in
+    let here : IsArrayPointerAt v c.args.place span c.args.at =
+    subst (λ (s : Span). IsArrayPointerAt v c.args.place s c.args.at) (sym same) c.requires.place in
     let u = view c.settle.new.pass in
     let h = c.in_ok-settled.ensures.settles in
     h.can.walks.active
@@ -83,8 +88,8 @@ check_moved-requires-clause-place c =
     let span = c.span_from-span.result in
     let keys : Span = keys_above c.args.key 0 c.args.low in
     let same : span ≡ keys = c.span_from-span.ensures in
-    let here : IsPointerAt v c.args.place span c.args.at =
-    subst (λ (s : Span). IsPointerAt v c.args.place s c.args.at) (sym same) c.requires.place in
+    let here : IsArrayPointerAt v c.args.place span c.args.at =
+    subst (λ (s : Span). IsArrayPointerAt v c.args.place s c.args.at) (sym same) c.requires.place in
     let u = view c.settle.new.pass in
     let h = c.in_ok-settled.ensures.settles in
     place_stays v u c.args.place span c.args.at h.walked here
@@ -95,8 +100,8 @@ check_moved-requires-clause-word c =
     let span = c.span_from-span.result in
     let keys : Span = keys_above c.args.key 0 c.args.low in
     let same : span ≡ keys = c.span_from-span.ensures in
-    let here : IsPointerAt v c.args.place span c.args.at =
-    subst (λ (s : Span). IsPointerAt v c.args.place s c.args.at) (sym same) c.requires.place in
+    let here : IsArrayPointerAt v c.args.place span c.args.at =
+    subst (λ (s : Span). IsArrayPointerAt v c.args.place s c.args.at) (sym same) c.requires.place in
     let u = view c.settle.new.pass in
     let h = c.in_ok-settled.ensures.settles in
     subst (λ (y : Layout). c.args.at < words_of y) (sym (layout_stays v u h.walked)) c.requires.word
@@ -109,8 +114,8 @@ returns-in_err-check_moved-clause-makes c =
     let span = c.span_from-span.result in
     let keys : Span = keys_above c.args.key 0 c.args.low in
     let same : span ≡ keys = c.span_from-span.ensures in
-    let here : IsPointerAt v c.args.place span c.args.at =
-    subst (λ (s : Span). IsPointerAt v c.args.place s c.args.at) (sym same) c.requires.place in
+    let here : IsArrayPointerAt v c.args.place span c.args.at =
+    subst (λ (s : Span). IsArrayPointerAt v c.args.place s c.args.at) (sym same) c.requires.place in
     let u = view c.settle.new.pass in
     let h = c.in_ok-settled.ensures.settles in
     rw (p.1, p.2)
@@ -118,12 +123,17 @@ returns-in_err-check_moved-clause-makes c =
     span c.args.at c.in_ok-settled.settled.moved
     c.in_err-check_moved.field-0.0 v u (view c.check_moved.new.pass)
     (let one = h.most in let two = c.in_err-check_moved.ensures.checks.most in omega (arith, one, two)) h.grows
-    (over_keys c.args.key c.args.low (c.args.low + 31) span same c.requires.over.from
-    (let to = c.requires.over.to in omega (arith, to)))
+    (record {
+      over = over_keys c.args.key c.args.low (c.args.low + 31) span same c.requires.over.from
+          (let to = c.requires.over.to in omega (arith, to));
+      on = c.requires.on;
+    })
     h.walked h.kept h.words (ways_to c.args.key span v u
     (over_keys c.args.key c.args.low (c.args.low + 31) span same c.requires.over.from
     (let to = c.requires.over.to in omega (arith, to)))
-    h.only) h.led h.can
+    h.only)
+    (led_over c.args.key span v u (over_keys c.args.key c.args.low (c.args.low + 31) span same c.requires.over.from
+    (let to = c.requires.over.to in omega (arith, to))) h.led) h.can
     c.in_err-check_moved.ensures.checks)
 
 pub word_at-requires-clause-slot : goal.word_at-requires-clause-slot
@@ -132,8 +142,8 @@ word_at-requires-clause-slot c =
     let span = c.span_from-span.result in
     let keys : Span = keys_above c.args.key 0 c.args.low in
     let same : span ≡ keys = c.span_from-span.ensures in
-    let here : IsPointerAt v c.args.place span c.args.at =
-    subst (λ (s : Span). IsPointerAt v c.args.place s c.args.at) (sym same) c.requires.place in
+    let here : IsArrayPointerAt v c.args.place span c.args.at =
+    subst (λ (s : Span). IsArrayPointerAt v c.args.place s c.args.at) (sym same) c.requires.place in
     let u = view c.settle.new.pass in
     let h = c.in_ok-settled.ensures.settles in
     subst (λ (l : Layout). c.in_ok-settled.settled.slot < l.slots) c.settle.ensures.of.layout h.settled.there
@@ -144,8 +154,8 @@ returns-clause-makes c =
     let span = c.span_from-span.result in
     let keys : Span = keys_above c.args.key 0 c.args.low in
     let same : span ≡ keys = c.span_from-span.ensures in
-    let here : IsPointerAt v c.args.place span c.args.at =
-    subst (λ (s : Span). IsPointerAt v c.args.place s c.args.at) (sym same) c.requires.place in
+    let here : IsArrayPointerAt v c.args.place span c.args.at =
+    subst (λ (s : Span). IsArrayPointerAt v c.args.place s c.args.at) (sym same) c.requires.place in
     let u = view c.settle.new.pass in
     let h = c.in_ok-settled.ensures.settles in
     let w = view c.check_moved.new.pass in
@@ -166,6 +176,7 @@ returns-clause-makes c =
           (subst (λ (y : Layout). is_array y.decls c.args.key.storage ≡ true)
           (sym (layout ∙ first)) c.requires.fits.array)
           c.requires.over record_word;
+      index = index_of c.args.key c.args.low c.requires.even c.requires.over;
     } in
     makes_leaf (v.layout.slots + 135) (length c.args.holds.now + 1) c.args.key c.args.pointers.now c.settle.new.holds
     c.args.place span c.args.at c.word_at.result

@@ -6,15 +6,18 @@ use Rattle.engine_pages.specs.declared.layout.Layout.{Layout}
 use Rattle.engine_pages.specs.Layout.{page_at, words_of}
 use Rattle.engine_pages.specs.Pages.{is_array}
 use Rattle.engine_pages.specs.Passes.{view}
-use Rattle.engine_pages.specs.Pointers.{IsPointerAt}
+use Rattle.engine_pages.specs.Pointers.{IsArrayPointerAt}
 use Rattle.array_pages.specs.Spans.{keys_above}
 use Rattle.array_pages.specs.Steps.{CanCopy}
 use Rattle.array_pages.specs.Walks.{HasWalked}
 use Rattle.array_pages.proofs.FindLaws.{fits_walked}
 use Rattle.array_pages.proofs.MakeLaws.{makes_inner, makes_less, makes_moved, makes_none}
+use Rattle.array_pages.proofs.RecordLaws.{even_leaf, even_whole}
 use Rattle.array_pages.proofs.SpanLaws.{child_middle, child_pointer, low_leaf, middle_is}
+use Rattle.array_pages.proofs.SpanLaws.{leaf_on}
 use Rattle.array_pages.proofs.SpanLaws.{over_leaf, page_word, part_leaf}
 use Rattle.array_pages.proofs.WalkLaws.{layout_stays, place_stays}
+use Rattle.array_pages.proofs.WalkLaws.{led_over}
 use Rattle.array_pages.proofs.WalkLaws.{walked_then}
 use Rattle.array_pages.proofs.WalkLaws.{led_then, over_keys, ways_to, ways_to_then}
 use Rattle.array_pages.proofs.making.make_middle.Goals as goal
@@ -25,8 +28,8 @@ settle-requires-clause-place c =
     let span = c.span_from-span.result in
     let keys : Span = keys_above c.args.key 1 c.args.low in
     let same : span ≡ keys = c.span_from-span.ensures in
-    let here : IsPointerAt v c.args.place span c.args.at =
-    subst (λ (s : Span). IsPointerAt v c.args.place s c.args.at) (sym same) c.requires.place in
+    let here : IsArrayPointerAt v c.args.place span c.args.at =
+    subst (λ (s : Span). IsArrayPointerAt v c.args.place s c.args.at) (sym same) c.requires.place in
     here
 
 pub settle-requires-clause-array : goal.settle-requires-clause-array
@@ -35,8 +38,8 @@ settle-requires-clause-array c =
     let span = c.span_from-span.result in
     let keys : Span = keys_above c.args.key 1 c.args.low in
     let same : span ≡ keys = c.span_from-span.ensures in
-    let here : IsPointerAt v c.args.place span c.args.at =
-    subst (λ (s : Span). IsPointerAt v c.args.place s c.args.at) (sym same) c.requires.place in
+    let here : IsArrayPointerAt v c.args.place span c.args.at =
+    subst (λ (s : Span). IsArrayPointerAt v c.args.place s c.args.at) (sym same) c.requires.place in
     subst (λ (s : Span). is_array v.layout.decls s.storage ≡ true) (sym same) c.requires.fits.array
 
 pub settle-requires-clause-kind : goal.settle-requires-clause-kind
@@ -45,8 +48,8 @@ settle-requires-clause-kind c =
     let span = c.span_from-span.result in
     let keys : Span = keys_above c.args.key 1 c.args.low in
     let same : span ≡ keys = c.span_from-span.ensures in
-    let here : IsPointerAt v c.args.place span c.args.at =
-    subst (λ (s : Span). IsPointerAt v c.args.place s c.args.at) (sym same) c.requires.place in
+    let here : IsArrayPointerAt v c.args.place span c.args.at =
+    subst (λ (s : Span). IsArrayPointerAt v c.args.place s c.args.at) (sym same) c.requires.place in
     subst (CanCopy false) (sym same) (inl refl)
 
 pub returns-in_err-settled-clause-makes : goal.returns-in_err-settled-clause-makes
@@ -56,16 +59,19 @@ returns-in_err-settled-clause-makes c =
     let span = c.span_from-span.result in
     let keys : Span = keys_above c.args.key 1 c.args.low in
     let same : span ≡ keys = c.span_from-span.ensures in
-    let here : IsPointerAt v c.args.place span c.args.at =
-    subst (λ (s : Span). IsPointerAt v c.args.place s c.args.at) (sym same) c.requires.place in
+    let here : IsArrayPointerAt v c.args.place span c.args.at =
+    subst (λ (s : Span). IsArrayPointerAt v c.args.place s c.args.at) (sym same) c.requires.place in
     rw (p.1, p.2)
     (makes_none (2 * (v.layout.slots + 135)) (length c.args.holds.now + 1)
     (length c.args.holds.now + 2) c.args.key c.args.pointers.now c.settle.new.holds span c.args.at
     c.in_err-settled.field-0.0 v
     (view c.settle.new.pass)
     (let one = c.in_err-settled.ensures.settles.most in omega (arith, one)) (omega arith)
-    (over_keys c.args.key c.args.low (c.args.low + 2047) span same c.requires.over.from
-    (let to = c.requires.over.to in omega (arith, to)))
+    (record {
+      over = over_keys c.args.key c.args.low (c.args.low + 2047) span same c.requires.over.from
+          (let to = c.requires.over.to in omega (arith, to));
+      on = c.requires.on;
+    })
     c.in_err-settled.ensures.settles)
 
 pub word_at-next-requires-clause-slot : goal.word_at-next-requires-clause-slot
@@ -74,8 +80,8 @@ word_at-next-requires-clause-slot c =
     let span = c.span_from-span.result in
     let keys : Span = keys_above c.args.key 1 c.args.low in
     let same : span ≡ keys = c.span_from-span.ensures in
-    let here : IsPointerAt v c.args.place span c.args.at =
-    subst (λ (s : Span). IsPointerAt v c.args.place s c.args.at) (sym same) c.requires.place in
+    let here : IsArrayPointerAt v c.args.place span c.args.at =
+    subst (λ (s : Span). IsArrayPointerAt v c.args.place s c.args.at) (sym same) c.requires.place in
     let u = view c.settle.new.pass in
     let h = c.in_ok-settled.ensures.settles in
     subst (λ (l : Layout). c.in_ok-settled.settled.slot < l.slots) c.settle.ensures.of.layout h.settled.there
@@ -90,8 +96,8 @@ make_leaf-requires-clause-can c =
     let span = c.span_from-span.result in
     let keys : Span = keys_above c.args.key 1 c.args.low in
     let same : span ≡ keys = c.span_from-span.ensures in
-    let here : IsPointerAt v c.args.place span c.args.at =
-    subst (λ (s : Span). IsPointerAt v c.args.place s c.args.at) (sym same) c.requires.place in
+    let here : IsArrayPointerAt v c.args.place span c.args.at =
+    subst (λ (s : Span). IsArrayPointerAt v c.args.place s c.args.at) (sym same) c.requires.place in
     let u = view c.settle.new.pass in
     let h = c.in_ok-settled.ensures.settles in
     h.can
@@ -102,8 +108,8 @@ make_leaf-requires-clause-fits c =
     let span = c.span_from-span.result in
     let keys : Span = keys_above c.args.key 1 c.args.low in
     let same : span ≡ keys = c.span_from-span.ensures in
-    let here : IsPointerAt v c.args.place span c.args.at =
-    subst (λ (s : Span). IsPointerAt v c.args.place s c.args.at) (sym same) c.requires.place in
+    let here : IsArrayPointerAt v c.args.place span c.args.at =
+    subst (λ (s : Span). IsArrayPointerAt v c.args.place s c.args.at) (sym same) c.requires.place in
     let u = view c.settle.new.pass in
     let h = c.in_ok-settled.ensures.settles in
     fits_walked c.args.key v u h.walked c.requires.fits
@@ -114,8 +120,8 @@ make_leaf-requires-clause-place c =
     let span = c.span_from-span.result in
     let keys : Span = keys_above c.args.key 1 c.args.low in
     let same : span ≡ keys = c.span_from-span.ensures in
-    let here : IsPointerAt v c.args.place span c.args.at =
-    subst (λ (s : Span). IsPointerAt v c.args.place s c.args.at) (sym same) c.requires.place in
+    let here : IsArrayPointerAt v c.args.place span c.args.at =
+    subst (λ (s : Span). IsArrayPointerAt v c.args.place s c.args.at) (sym same) c.requires.place in
     let u = view c.settle.new.pass in
     let h = c.in_ok-settled.ensures.settles in
     let part = (c.args.key.key - c.args.low) / 32 in
@@ -133,8 +139,8 @@ make_leaf-requires-clause-word c =
     let span = c.span_from-span.result in
     let keys : Span = keys_above c.args.key 1 c.args.low in
     let same : span ≡ keys = c.span_from-span.ensures in
-    let here : IsPointerAt v c.args.place span c.args.at =
-    subst (λ (s : Span). IsPointerAt v c.args.place s c.args.at) (sym same) c.requires.place in
+    let here : IsArrayPointerAt v c.args.place span c.args.at =
+    subst (λ (s : Span). IsArrayPointerAt v c.args.place s c.args.at) (sym same) c.requires.place in
     let u = view c.settle.new.pass in
     let h = c.in_ok-settled.ensures.settles in
     let part = (c.args.key.key - c.args.low) / 32 in
@@ -159,8 +165,8 @@ returns-in_err-record-clause-makes c =
     let span = c.span_from-span.result in
     let keys : Span = keys_above c.args.key 1 c.args.low in
     let same : span ≡ keys = c.span_from-span.ensures in
-    let here : IsPointerAt v c.args.place span c.args.at =
-    subst (λ (s : Span). IsPointerAt v c.args.place s c.args.at) (sym same) c.requires.place in
+    let here : IsArrayPointerAt v c.args.place span c.args.at =
+    subst (λ (s : Span). IsArrayPointerAt v c.args.place s c.args.at) (sym same) c.requires.place in
     let u = view c.settle.new.pass in
     let h = c.in_ok-settled.ensures.settles in
     rw (p.1, p.2)
@@ -181,8 +187,8 @@ check_moved-requires-clause-active c =
     let span = c.span_from-span.result in
     let keys : Span = keys_above c.args.key 1 c.args.low in
     let same : span ≡ keys = c.span_from-span.ensures in
-    let here : IsPointerAt v c.args.place span c.args.at =
-    subst (λ (s : Span). IsPointerAt v c.args.place s c.args.at) (sym same) c.requires.place in
+    let here : IsArrayPointerAt v c.args.place span c.args.at =
+    subst (λ (s : Span). IsArrayPointerAt v c.args.place s c.args.at) (sym same) c.requires.place in
     let u = view c.settle.new.pass in
     let h = c.in_ok-settled.ensures.settles in
     let t = view c.make_leaf.new.pass in
@@ -196,8 +202,8 @@ check_moved-requires-clause-place c =
     let span = c.span_from-span.result in
     let keys : Span = keys_above c.args.key 1 c.args.low in
     let same : span ≡ keys = c.span_from-span.ensures in
-    let here : IsPointerAt v c.args.place span c.args.at =
-    subst (λ (s : Span). IsPointerAt v c.args.place s c.args.at) (sym same) c.requires.place in
+    let here : IsArrayPointerAt v c.args.place span c.args.at =
+    subst (λ (s : Span). IsArrayPointerAt v c.args.place s c.args.at) (sym same) c.requires.place in
     let u = view c.settle.new.pass in
     let h = c.in_ok-settled.ensures.settles in
     let t = view c.make_leaf.new.pass in
@@ -211,8 +217,8 @@ check_moved-requires-clause-word c =
     let span = c.span_from-span.result in
     let keys : Span = keys_above c.args.key 1 c.args.low in
     let same : span ≡ keys = c.span_from-span.ensures in
-    let here : IsPointerAt v c.args.place span c.args.at =
-    subst (λ (s : Span). IsPointerAt v c.args.place s c.args.at) (sym same) c.requires.place in
+    let here : IsArrayPointerAt v c.args.place span c.args.at =
+    subst (λ (s : Span). IsArrayPointerAt v c.args.place s c.args.at) (sym same) c.requires.place in
     let u = view c.settle.new.pass in
     let h = c.in_ok-settled.ensures.settles in
     let t = view c.make_leaf.new.pass in
@@ -228,8 +234,8 @@ returns-in_err-check_moved-clause-makes c =
     let span = c.span_from-span.result in
     let keys : Span = keys_above c.args.key 1 c.args.low in
     let same : span ≡ keys = c.span_from-span.ensures in
-    let here : IsPointerAt v c.args.place span c.args.at =
-    subst (λ (s : Span). IsPointerAt v c.args.place s c.args.at) (sym same) c.requires.place in
+    let here : IsArrayPointerAt v c.args.place span c.args.at =
+    subst (λ (s : Span). IsArrayPointerAt v c.args.place s c.args.at) (sym same) c.requires.place in
     let u = view c.settle.new.pass in
     let h = c.in_ok-settled.ensures.settles in
     let t = view c.make_leaf.new.pass in
@@ -242,14 +248,19 @@ returns-in_err-check_moved-clause-makes c =
     (let one = h.most in let two = m.most in let three = c.in_err-check_moved.ensures.checks.most in
     let slots = ap (λ (y : Layout). y.slots) (layout_stays v u h.walked) in omega (arith, one, two, three, slots))
     (let first = h.grows in let next = m.grows in omega (arith, first, next))
-    (over_keys c.args.key c.args.low (c.args.low + 2047) span same c.requires.over.from
-    (let to = c.requires.over.to in omega (arith, to)))
+    (record {
+      over = over_keys c.args.key c.args.low (c.args.low + 2047) span same c.requires.over.from
+          (let to = c.requires.over.to in omega (arith, to));
+      on = c.requires.on;
+    })
     walk (m.kept ∙ h.kept) (λ a. m.words a ∙ h.words a)
     (ways_to_then c.args.key v u t (ways_to c.args.key span v u
     (over_keys c.args.key c.args.low (c.args.low + 2047) span same c.requires.over.from
     (let to = c.requires.over.to in omega (arith, to)))
     h.only) m.only)
-    (led_then v u t m.walked h.led m.led) m.can
+    (led_then c.args.key v u t m.walked (led_over c.args.key span v u
+    (over_keys c.args.key c.args.low (c.args.low + 2047) span same c.requires.over.from
+    (let to = c.requires.over.to in omega (arith, to))) h.led) m.led) m.can
     c.in_err-check_moved.ensures.checks)
 
 pub returns-clause-makes : goal.returns-clause-makes
@@ -258,8 +269,8 @@ returns-clause-makes c =
     let span = c.span_from-span.result in
     let keys : Span = keys_above c.args.key 1 c.args.low in
     let same : span ≡ keys = c.span_from-span.ensures in
-    let here : IsPointerAt v c.args.place span c.args.at =
-    subst (λ (s : Span). IsPointerAt v c.args.place s c.args.at) (sym same) c.requires.place in
+    let here : IsArrayPointerAt v c.args.place span c.args.at =
+    subst (λ (s : Span). IsArrayPointerAt v c.args.place s c.args.at) (sym same) c.requires.place in
     let u = view c.settle.new.pass in
     let h = c.in_ok-settled.ensures.settles in
     let t = view c.make_leaf.new.pass in
@@ -276,3 +287,20 @@ returns-clause-makes c =
     (let to = c.requires.over.to in omega (arith, to)))
     here h m
     c.in_ok-check_moved.ensures.checks
+
+pub make_leaf-requires-clause-on : goal.make_leaf-requires-clause-on
+make_leaf-requires-clause-on c =
+    let v = view c.args.pass.now in
+    let span = c.span_from-span.result in
+    let keys : Span = keys_above c.args.key 1 c.args.low in
+    let same : span ≡ keys = c.span_from-span.ensures in
+    let u = view c.settle.new.pass in
+    let h = c.in_ok-settled.ensures.settles in
+    let part = (c.args.key.key - c.args.low) / 32 in
+    let t = c.in_ok-settled.settled.slot in
+    let next : c.word_at-next.result ≡ page_at u.layout.slots t part =
+    c.word_at-next.ensures ∙ ap (λ (l : Layout). page_at l.slots t part) (sym c.settle.ensures.of.layout) in
+    leaf_on u.layout c.args.key t c.args.low c.word_at-next.result h.settled.there c.requires.over c.requires.whole next
+
+pub make_leaf-requires-clause-even : goal.make_leaf-requires-clause-even
+make_leaf-requires-clause-even c = even_leaf c.args.key c.args.low (even_whole c.args.low c.requires.whole)

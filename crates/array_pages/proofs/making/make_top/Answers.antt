@@ -6,16 +6,18 @@ use Rattle.engine_pages.specs.declared.layout.Layout.{Layout}
 use Rattle.engine_pages.specs.Layout.{page_at, words_of}
 use Rattle.engine_pages.specs.Pages.{is_array}
 use Rattle.engine_pages.specs.Passes.{view}
-use Rattle.engine_pages.specs.Pointers.{IsPointerAt}
+use Rattle.engine_pages.specs.Pointers.{IsArrayPointerAt}
 use Rattle.array_pages.specs.Spans.{keys_above}
 use Rattle.array_pages.specs.Steps.{CanCopy}
 use Rattle.array_pages.specs.Walks.{HasWalked}
 use Rattle.array_pages.proofs.FindLaws.{fits_walked}
 use Rattle.array_pages.proofs.MakeLaws.{makes_inner, makes_less, makes_moved, makes_none}
 use Rattle.array_pages.proofs.SpanLaws.{child_pointer, child_top, low_middle}
+use Rattle.array_pages.proofs.SpanLaws.{middle_on, whole_middle}
 use Rattle.array_pages.proofs.SpanLaws.{over_middle, page_word, part_middle}
 use Rattle.array_pages.proofs.SpanLaws.{top_is}
 use Rattle.array_pages.proofs.WalkLaws.{layout_stays, place_stays}
+use Rattle.array_pages.proofs.WalkLaws.{led_over}
 use Rattle.array_pages.proofs.WalkLaws.{walked_then}
 use Rattle.array_pages.proofs.WalkLaws.{led_then, over_keys, ways_to, ways_to_then}
 use Rattle.array_pages.proofs.making.make_top.Goals as goal
@@ -26,8 +28,8 @@ settle-requires-clause-place c =
     let span = c.span_from-span.result in
     let keys : Span = keys_above c.args.key 2 0 in
     let same : span ≡ keys = c.span_from-span.ensures in
-    let here : IsPointerAt v c.args.place span c.args.at =
-    subst (λ (s : Span). IsPointerAt v c.args.place s c.args.at) (sym same) c.requires.place in
+    let here : IsArrayPointerAt v c.args.place span c.args.at =
+    subst (λ (s : Span). IsArrayPointerAt v c.args.place s c.args.at) (sym same) c.requires.place in
     here
 
 pub settle-requires-clause-array : goal.settle-requires-clause-array
@@ -36,8 +38,8 @@ settle-requires-clause-array c =
     let span = c.span_from-span.result in
     let keys : Span = keys_above c.args.key 2 0 in
     let same : span ≡ keys = c.span_from-span.ensures in
-    let here : IsPointerAt v c.args.place span c.args.at =
-    subst (λ (s : Span). IsPointerAt v c.args.place s c.args.at) (sym same) c.requires.place in
+    let here : IsArrayPointerAt v c.args.place span c.args.at =
+    subst (λ (s : Span). IsArrayPointerAt v c.args.place s c.args.at) (sym same) c.requires.place in
     subst (λ (s : Span). is_array v.layout.decls s.storage ≡ true) (sym same) c.requires.fits.array
 
 pub settle-requires-clause-kind : goal.settle-requires-clause-kind
@@ -46,8 +48,8 @@ settle-requires-clause-kind c =
     let span = c.span_from-span.result in
     let keys : Span = keys_above c.args.key 2 0 in
     let same : span ≡ keys = c.span_from-span.ensures in
-    let here : IsPointerAt v c.args.place span c.args.at =
-    subst (λ (s : Span). IsPointerAt v c.args.place s c.args.at) (sym same) c.requires.place in
+    let here : IsArrayPointerAt v c.args.place span c.args.at =
+    subst (λ (s : Span). IsArrayPointerAt v c.args.place s c.args.at) (sym same) c.requires.place in
     subst (CanCopy false) (sym same) (inr refl)
 
 pub returns-in_err-settled-clause-makes : goal.returns-in_err-settled-clause-makes
@@ -57,16 +59,19 @@ returns-in_err-settled-clause-makes c =
     let span = c.span_from-span.result in
     let keys : Span = keys_above c.args.key 2 0 in
     let same : span ≡ keys = c.span_from-span.ensures in
-    let here : IsPointerAt v c.args.place span c.args.at =
-    subst (λ (s : Span). IsPointerAt v c.args.place s c.args.at) (sym same) c.requires.place in
+    let here : IsArrayPointerAt v c.args.place span c.args.at =
+    subst (λ (s : Span). IsArrayPointerAt v c.args.place s c.args.at) (sym same) c.requires.place in
     rw (p.1, p.2)
     (makes_none (3 * (v.layout.slots + 135)) (length c.args.holds.now + 1)
     (length c.args.holds.now + 3) c.args.key c.args.pointers.now c.settle.new.holds span c.args.at
     c.in_err-settled.field-0.0 v
     (view c.settle.new.pass)
     (let one = c.in_err-settled.ensures.settles.most in omega (arith, one)) (omega arith)
-    (over_keys c.args.key 0 131071 span same c.requires.over.from
-    (let to = c.requires.over.to in omega (arith, to)))
+    (record {
+      over = over_keys c.args.key 0 131071 span same c.requires.over.from
+          (let to = c.requires.over.to in omega (arith, to));
+      on = c.requires.on;
+    })
     c.in_err-settled.ensures.settles)
 
 pub word_at-next-requires-clause-slot : goal.word_at-next-requires-clause-slot
@@ -75,8 +80,8 @@ word_at-next-requires-clause-slot c =
     let span = c.span_from-span.result in
     let keys : Span = keys_above c.args.key 2 0 in
     let same : span ≡ keys = c.span_from-span.ensures in
-    let here : IsPointerAt v c.args.place span c.args.at =
-    subst (λ (s : Span). IsPointerAt v c.args.place s c.args.at) (sym same) c.requires.place in
+    let here : IsArrayPointerAt v c.args.place span c.args.at =
+    subst (λ (s : Span). IsArrayPointerAt v c.args.place s c.args.at) (sym same) c.requires.place in
     let u = view c.settle.new.pass in
     let h = c.in_ok-settled.ensures.settles in
     subst (λ (l : Layout). c.in_ok-settled.settled.slot < l.slots) c.settle.ensures.of.layout h.settled.there
@@ -91,8 +96,8 @@ make_middle-requires-clause-can c =
     let span = c.span_from-span.result in
     let keys : Span = keys_above c.args.key 2 0 in
     let same : span ≡ keys = c.span_from-span.ensures in
-    let here : IsPointerAt v c.args.place span c.args.at =
-    subst (λ (s : Span). IsPointerAt v c.args.place s c.args.at) (sym same) c.requires.place in
+    let here : IsArrayPointerAt v c.args.place span c.args.at =
+    subst (λ (s : Span). IsArrayPointerAt v c.args.place s c.args.at) (sym same) c.requires.place in
     let u = view c.settle.new.pass in
     let h = c.in_ok-settled.ensures.settles in
     h.can
@@ -103,8 +108,8 @@ make_middle-requires-clause-fits c =
     let span = c.span_from-span.result in
     let keys : Span = keys_above c.args.key 2 0 in
     let same : span ≡ keys = c.span_from-span.ensures in
-    let here : IsPointerAt v c.args.place span c.args.at =
-    subst (λ (s : Span). IsPointerAt v c.args.place s c.args.at) (sym same) c.requires.place in
+    let here : IsArrayPointerAt v c.args.place span c.args.at =
+    subst (λ (s : Span). IsArrayPointerAt v c.args.place s c.args.at) (sym same) c.requires.place in
     let u = view c.settle.new.pass in
     let h = c.in_ok-settled.ensures.settles in
     fits_walked c.args.key v u h.walked c.requires.fits
@@ -115,8 +120,8 @@ make_middle-requires-clause-place c =
     let span = c.span_from-span.result in
     let keys : Span = keys_above c.args.key 2 0 in
     let same : span ≡ keys = c.span_from-span.ensures in
-    let here : IsPointerAt v c.args.place span c.args.at =
-    subst (λ (s : Span). IsPointerAt v c.args.place s c.args.at) (sym same) c.requires.place in
+    let here : IsArrayPointerAt v c.args.place span c.args.at =
+    subst (λ (s : Span). IsArrayPointerAt v c.args.place s c.args.at) (sym same) c.requires.place in
     let u = view c.settle.new.pass in
     let h = c.in_ok-settled.ensures.settles in
     let part = c.args.key.key / 2048 in
@@ -134,8 +139,8 @@ make_middle-requires-clause-word c =
     let span = c.span_from-span.result in
     let keys : Span = keys_above c.args.key 2 0 in
     let same : span ≡ keys = c.span_from-span.ensures in
-    let here : IsPointerAt v c.args.place span c.args.at =
-    subst (λ (s : Span). IsPointerAt v c.args.place s c.args.at) (sym same) c.requires.place in
+    let here : IsArrayPointerAt v c.args.place span c.args.at =
+    subst (λ (s : Span). IsArrayPointerAt v c.args.place s c.args.at) (sym same) c.requires.place in
     let u = view c.settle.new.pass in
     let h = c.in_ok-settled.ensures.settles in
     let part = c.args.key.key / 2048 in
@@ -160,8 +165,8 @@ returns-in_err-record-clause-makes c =
     let span = c.span_from-span.result in
     let keys : Span = keys_above c.args.key 2 0 in
     let same : span ≡ keys = c.span_from-span.ensures in
-    let here : IsPointerAt v c.args.place span c.args.at =
-    subst (λ (s : Span). IsPointerAt v c.args.place s c.args.at) (sym same) c.requires.place in
+    let here : IsArrayPointerAt v c.args.place span c.args.at =
+    subst (λ (s : Span). IsArrayPointerAt v c.args.place s c.args.at) (sym same) c.requires.place in
     let u = view c.settle.new.pass in
     let h = c.in_ok-settled.ensures.settles in
     rw (p.1, p.2)
@@ -182,8 +187,8 @@ check_moved-requires-clause-active c =
     let span = c.span_from-span.result in
     let keys : Span = keys_above c.args.key 2 0 in
     let same : span ≡ keys = c.span_from-span.ensures in
-    let here : IsPointerAt v c.args.place span c.args.at =
-    subst (λ (s : Span). IsPointerAt v c.args.place s c.args.at) (sym same) c.requires.place in
+    let here : IsArrayPointerAt v c.args.place span c.args.at =
+    subst (λ (s : Span). IsArrayPointerAt v c.args.place s c.args.at) (sym same) c.requires.place in
     let u = view c.settle.new.pass in
     let h = c.in_ok-settled.ensures.settles in
     let t = view c.make_middle.new.pass in
@@ -197,8 +202,8 @@ check_moved-requires-clause-place c =
     let span = c.span_from-span.result in
     let keys : Span = keys_above c.args.key 2 0 in
     let same : span ≡ keys = c.span_from-span.ensures in
-    let here : IsPointerAt v c.args.place span c.args.at =
-    subst (λ (s : Span). IsPointerAt v c.args.place s c.args.at) (sym same) c.requires.place in
+    let here : IsArrayPointerAt v c.args.place span c.args.at =
+    subst (λ (s : Span). IsArrayPointerAt v c.args.place s c.args.at) (sym same) c.requires.place in
     let u = view c.settle.new.pass in
     let h = c.in_ok-settled.ensures.settles in
     let t = view c.make_middle.new.pass in
@@ -212,8 +217,8 @@ check_moved-requires-clause-word c =
     let span = c.span_from-span.result in
     let keys : Span = keys_above c.args.key 2 0 in
     let same : span ≡ keys = c.span_from-span.ensures in
-    let here : IsPointerAt v c.args.place span c.args.at =
-    subst (λ (s : Span). IsPointerAt v c.args.place s c.args.at) (sym same) c.requires.place in
+    let here : IsArrayPointerAt v c.args.place span c.args.at =
+    subst (λ (s : Span). IsArrayPointerAt v c.args.place s c.args.at) (sym same) c.requires.place in
     let u = view c.settle.new.pass in
     let h = c.in_ok-settled.ensures.settles in
     let t = view c.make_middle.new.pass in
@@ -229,8 +234,8 @@ returns-in_err-check_moved-clause-makes c =
     let span = c.span_from-span.result in
     let keys : Span = keys_above c.args.key 2 0 in
     let same : span ≡ keys = c.span_from-span.ensures in
-    let here : IsPointerAt v c.args.place span c.args.at =
-    subst (λ (s : Span). IsPointerAt v c.args.place s c.args.at) (sym same) c.requires.place in
+    let here : IsArrayPointerAt v c.args.place span c.args.at =
+    subst (λ (s : Span). IsArrayPointerAt v c.args.place s c.args.at) (sym same) c.requires.place in
     let u = view c.settle.new.pass in
     let h = c.in_ok-settled.ensures.settles in
     let t = view c.make_middle.new.pass in
@@ -243,14 +248,19 @@ returns-in_err-check_moved-clause-makes c =
     (let one = h.most in let two = m.most in let three = c.in_err-check_moved.ensures.checks.most in
     let slots = ap (λ (y : Layout). y.slots) (layout_stays v u h.walked) in omega (arith, one, two, three, slots))
     (let first = h.grows in let next = m.grows in omega (arith, first, next))
-    (over_keys c.args.key 0 131071 span same c.requires.over.from
-    (let to = c.requires.over.to in omega (arith, to)))
+    (record {
+      over = over_keys c.args.key 0 131071 span same c.requires.over.from
+          (let to = c.requires.over.to in omega (arith, to));
+      on = c.requires.on;
+    })
     walk (m.kept ∙ h.kept) (λ a. m.words a ∙ h.words a)
     (ways_to_then c.args.key v u t (ways_to c.args.key span v u
     (over_keys c.args.key 0 131071 span same c.requires.over.from
     (let to = c.requires.over.to in omega (arith, to)))
     h.only) m.only)
-    (led_then v u t m.walked h.led m.led) m.can
+    (led_then c.args.key v u t m.walked (led_over c.args.key span v u
+    (over_keys c.args.key 0 131071 span same c.requires.over.from
+    (let to = c.requires.over.to in omega (arith, to))) h.led) m.led) m.can
     c.in_err-check_moved.ensures.checks)
 
 pub returns-clause-makes : goal.returns-clause-makes
@@ -259,8 +269,8 @@ returns-clause-makes c =
     let span = c.span_from-span.result in
     let keys : Span = keys_above c.args.key 2 0 in
     let same : span ≡ keys = c.span_from-span.ensures in
-    let here : IsPointerAt v c.args.place span c.args.at =
-    subst (λ (s : Span). IsPointerAt v c.args.place s c.args.at) (sym same) c.requires.place in
+    let here : IsArrayPointerAt v c.args.place span c.args.at =
+    subst (λ (s : Span). IsArrayPointerAt v c.args.place s c.args.at) (sym same) c.requires.place in
     let u = view c.settle.new.pass in
     let h = c.in_ok-settled.ensures.settles in
     let t = view c.make_middle.new.pass in
@@ -277,3 +287,20 @@ returns-clause-makes c =
     (let to = c.requires.over.to in omega (arith, to)))
     here h m
     c.in_ok-check_moved.ensures.checks
+
+pub make_middle-requires-clause-on : goal.make_middle-requires-clause-on
+make_middle-requires-clause-on c =
+    let v = view c.args.pass.now in
+    let span = c.span_from-span.result in
+    let keys : Span = keys_above c.args.key 2 0 in
+    let same : span ≡ keys = c.span_from-span.ensures in
+    let u = view c.settle.new.pass in
+    let h = c.in_ok-settled.ensures.settles in
+    let part = c.args.key.key / 2048 in
+    let t = c.in_ok-settled.settled.slot in
+    let next : c.word_at-next.result ≡ page_at u.layout.slots t part =
+    c.word_at-next.ensures ∙ ap (λ (l : Layout). page_at l.slots t part) (sym c.settle.ensures.of.layout) in
+    middle_on u.layout c.args.key t c.word_at-next.result h.settled.there next
+
+pub make_middle-requires-clause-whole : goal.make_middle-requires-clause-whole
+make_middle-requires-clause-whole c = whole_middle c.args.key

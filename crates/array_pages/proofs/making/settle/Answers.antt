@@ -11,6 +11,7 @@ use Rattle.array_pages.proofs.RecordLaws.{active_stays}
 use Rattle.array_pages.proofs.MakeLaws.{bare_at, can_first, settle_bare, settle_held, settle_other}
 use Rattle.array_pages.proofs.MakeLaws.{settle_put, settle_shut, settle_unheld}
 use Rattle.array_pages.proofs.WalkLaws.{IsFollowed, is_followed, layout_stays, led_to, place_stays}
+use Rattle.engine_pages.specs.Pointers.{any_pointer}
 use Rattle.array_pages.proofs.making.settle.Goals as goal
 
 pub follow-word-requires-clause-pass : goal.follow-word-requires-clause-pass
@@ -26,6 +27,10 @@ follow-again-requires-clause-pass c =
     is_followed c.args.span c.args.at v n u c.follow-word.ensures.follows in
     active_stays v u f.loaded.walked c.requires.can.walks.active
 
+pub follow-word-requires-clause-place : goal.follow-word-requires-clause-place
+follow-word-requires-clause-place c =
+    any_pointer (view c.args.pass.now) c.args.place c.args.span c.args.at c.requires.place
+
 pub follow-again-requires-clause-place : goal.follow-again-requires-clause-place
 follow-again-requires-clause-place c =
     let v = view c.args.pass.now in
@@ -33,7 +38,8 @@ follow-again-requires-clause-place c =
     let n = c.follow-word.result in
     let f : IsFollowed c.args.span c.args.at v n u =
     is_followed c.args.span c.args.at v n u c.follow-word.ensures.follows in
-    place_stays v u c.args.place c.args.span c.args.at f.loaded.walked c.requires.place
+    any_pointer u c.args.place c.args.span c.args.at
+    (place_stays v u c.args.place c.args.span c.args.at f.loaded.walked c.requires.place)
 
 pub follow-again-requires-clause-word : goal.follow-again-requires-clause-word
 follow-again-requires-clause-word c =

@@ -9,6 +9,7 @@ use Rattle.engine_pages.specs.Views.{IsActive}
 use Rattle.array_pages.specs.Steps.{HoldsSo}
 use Rattle.array_pages.proofs.WalkLaws.{below_full, hold_changed, hold_held, hold_same, hold_wide, is_followed}
 use Rattle.array_pages.proofs.WalkLaws.{place_entered}
+use Rattle.engine_pages.specs.Pointers.{any_pointer}
 use Rattle.array_pages.proofs.walk.hold.Goals as goal
 
 pub returns-then-contains-clause-holds : goal.returns-then-contains-clause-holds
@@ -45,9 +46,10 @@ follow-again-requires-clause-pass c =
 
 pub follow-again-requires-clause-place : goal.follow-again-requires-clause-place
 follow-again-requires-clause-place c =
-    place_entered (c.args.word / 2 ^ 32 - 1) (view c.args.pass.now)
+    any_pointer (view c.enter.new.pass) c.args.place c.args.span c.args.at
+    (place_entered (c.args.word / 2 ^ 32 - 1) (view c.args.pass.now)
     (view c.enter.new.pass) c.args.place c.args.span c.args.at
-    c.enter.ensures.enters c.requires.place
+    c.enter.ensures.enters c.requires.place)
 
 pub follow-again-requires-clause-word : goal.follow-again-requires-clause-word
 follow-again-requires-clause-word c =

@@ -11,10 +11,15 @@ use Rattle.array_pages.proofs.ReachLaws.{leaves_memory, loaded_saw, reach_other,
 use Rattle.array_pages.proofs.ReachLaws.{reach_slot, reach_unheld, reach_wide, saw_followed, saw_kept}
 use Rattle.array_pages.proofs.RecordLaws.{active_stays}
 use Rattle.array_pages.proofs.WalkLaws.{IsLoaded, below_full, can_after, is_followed, layout_stays, led_to, place_stays}
+use Rattle.engine_pages.specs.Pointers.{any_pointer}
 use Rattle.array_pages.proofs.walk.reach.Goals as goal
 
 pub see_pointer-word-requires-clause-pass : goal.see_pointer-word-requires-clause-pass
 see_pointer-word-requires-clause-pass c = (c.requires.can.active, c.requires.can.rest)
+
+pub see_pointer-word-requires-clause-place : goal.see_pointer-word-requires-clause-place
+see_pointer-word-requires-clause-place c =
+    any_pointer (view c.args.pass.now) c.args.place c.args.span c.args.at c.requires.place
 
 pub follow-later-requires-clause-pass : goal.follow-later-requires-clause-pass
 follow-later-requires-clause-pass c =
@@ -30,7 +35,9 @@ follow-later-requires-clause-place c =
     let u = view c.see_pointer-word.new.pass in
     let l : IsLoaded c.args.span c.args.at v c.see_pointer-word.result u =
     loaded_saw c.args.place c.args.span c.args.at v c.see_pointer-word.result u c.requires.can.agree
-    c.see_pointer-word.ensures.sees in place_stays v u c.args.place c.args.span c.args.at l.walked c.requires.place
+    c.see_pointer-word.ensures.sees in
+    any_pointer u c.args.place c.args.span c.args.at
+    (place_stays v u c.args.place c.args.span c.args.at l.walked c.requires.place)
 
 pub follow-later-requires-clause-word : goal.follow-later-requires-clause-word
 follow-later-requires-clause-word c =

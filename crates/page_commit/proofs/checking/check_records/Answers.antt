@@ -4,7 +4,7 @@ use Rattle.page_commit.proofs.StepLaws.{counts_same, more_checked, stops_checked
 use Rattle.page_commit.proofs.CheckLaws.{starts_checking, check_active, place_now, can_check_one, own_now, word_small}
 use Rattle.page_commit.proofs.CheckLaws.{checked_one, failed_one, check_conflict, check_apart, entry_in, records_checked}
 use Rattle.page_commit.proofs.CheckLaws.{at_own, at_checked, at_held, at_part}
-use Rattle.page_commit.proofs.PlaceLaws.{spot_is}
+use Rattle.page_commit.proofs.PlaceLaws.{spot_any}
 use Rattle.page_commit.proofs.checking.check_records.Goals as goal
 
 pub loop-done-init : goal.loop-done-init
@@ -22,7 +22,7 @@ check-seen-requires-clause-pass c =
 
 pub check-seen-requires-clause-place : goal.check-seen-requires-clause-place
 check-seen-requires-clause-place c =
-    spot_is c.args.engine.now c.loop-done.pass _ _ c.spot_of-spot.result c.loop-done.invariant.of c.spot_of-spot.ensures
+    spot_any c.args.engine.now c.loop-done.pass _ _ c.spot_of-spot.result c.loop-done.invariant.of c.spot_of-spot.ensures
     (place_now c.args.sets.now c.loop-done.done 0 _ (view c.args.pass.now) (view c.loop-done.pass) c.requires.tried
     c.loop-done.invariant.so (entry_in c.args.reads.now c.args.sets.now c.loop-done.done _ c.requires.reads
     c.loop-done-test.true))

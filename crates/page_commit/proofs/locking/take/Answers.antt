@@ -15,9 +15,14 @@ confirm-word-requires-clause-place c =
 
 pub lock-seen-requires-clause-place : goal.lock-seen-requires-clause-place
 lock-seen-requires-clause-place c =
-    subst (λ (y : View). IsRecordAt y c.args.key c.spot_of-spot.result c.args.at) (sym c.confirm-word.ensures.confirms.is)
+    inl (subst (λ (y : View). IsRecordAt y c.args.key c.spot_of-spot.result c.args.at)
+    (sym c.confirm-word.ensures.confirms.is)
     (spot_is c.args.engine.now c.args.pass.now c.args.key c.args.at c.spot_of-spot.result c.requires.of c.spot_of-spot.ensures
-    c.requires.place)
+    c.requires.place))
+
+pub lock-seen-requires-clause-expected : goal.lock-seen-requires-clause-expected
+lock-seen-requires-clause-expected c =
+    inl (let low = c.if-word-ge-LOCK.false in let same = c.if-word-expected.false in omega (arith, low, same))
 
 pub returns-then-word-ge-LOCK-clause-conflict : goal.returns-then-word-ge-LOCK-clause-conflict
 returns-then-word-ge-LOCK-clause-conflict c =

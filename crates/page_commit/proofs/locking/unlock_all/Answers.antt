@@ -1,7 +1,7 @@
 use Rattle.std.proofs.Common.{refl, length, arith}
 use Rattle.engine_pages.specs.Passes.{view}
 use Rattle.page_commit.proofs.Lists.{apart}
-use Rattle.page_commit.proofs.PlaceLaws.{spot_is}
+use Rattle.page_commit.proofs.PlaceLaws.{spot_any}
 use Rattle.page_commit.proofs.StepLaws.{more_opened, ends_so}
 use Rattle.page_commit.proofs.OpenLaws.{at_spot, starts_unlocking, still_active, still_there, can_open_again, unlocked_one}
 use Rattle.page_commit.proofs.OpenLaws.{unlocked_all}
@@ -22,7 +22,7 @@ open_again-requires-clause-pass c =
 
 pub open_again-requires-clause-place : goal.open_again-requires-clause-place
 open_again-requires-clause-place c =
-    spot_is c.args.engine.now c.loop-done.pass _ _ c.spot_of-spot.result c.loop-done.invariant.of c.spot_of-spot.ensures
+    spot_any c.args.engine.now c.loop-done.pass _ _ c.spot_of-spot.result c.loop-done.invariant.of c.spot_of-spot.ensures
     (still_there c.args.writes.now c.args.found.now (view c.args.pass.now) (view c.loop-done.pass) c.loop-done.done _
     c.requires.places c.loop-done.invariant.so c.loop-done-test.true)
 

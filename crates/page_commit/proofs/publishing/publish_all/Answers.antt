@@ -1,7 +1,7 @@
 use Rattle.std.proofs.Common.{length, arith}
 use Rattle.engine_pages.specs.Passes.{view}
 use Rattle.page_commit.proofs.Lists.{apart}
-use Rattle.page_commit.proofs.PlaceLaws.{spot_is}
+use Rattle.page_commit.proofs.PlaceLaws.{spot_any}
 use Rattle.page_commit.proofs.PutLaws.{open_spot, put_spot, starts, put_active, put_there, open_active, open_there}
 use Rattle.page_commit.proofs.PutLaws.{can_put_one, can_open_one, published_one, published_all}
 use Rattle.page_commit.proofs.StepLaws.{more_put, ends_at}
@@ -24,7 +24,7 @@ put-requires-clause-pass c =
 pub put-requires-clause-place : goal.put-requires-clause-place
 put-requires-clause-place c =
     let h = c.requires.decided in
-    spot_is c.args.engine.now c.loop-done.pass _ _ c.spot_of-spot.result c.loop-done.invariant.of c.spot_of-spot.ensures
+    spot_any c.args.engine.now c.loop-done.pass _ _ c.spot_of-spot.result c.loop-done.invariant.of c.spot_of-spot.ensures
     (put_there c.args.writes.now h.0 (view c.args.pass.now) (view c.loop-done.pass) c.loop-done.done _ c.requires.places
     (c.loop-done.invariant.so h.0 h.1) c.loop-done-test.true)
 
@@ -48,7 +48,7 @@ open_anew-requires-clause-pass c =
 pub open_anew-requires-clause-place : goal.open_anew-requires-clause-place
 open_anew-requires-clause-place c =
     let h = c.requires.decided in
-    spot_is c.args.engine.now c.put.new.pass _ _ c.spot_of-spot.result c.put.ensures.of c.spot_of-spot.ensures
+    spot_any c.args.engine.now c.put.new.pass _ _ c.spot_of-spot.result c.put.ensures.of c.spot_of-spot.ensures
     (open_there c.args.writes.now h.0 (view c.args.pass.now) (view c.loop-done.pass) (view c.put.new.pass)
     c.loop-done.done _
     _ _ c.requires.places (c.loop-done.invariant.so h.0 h.1) c.loop-done-test.true c.put.ensures.puts)
@@ -59,7 +59,8 @@ open_anew-requires-clause-word c =
     open_spot c.args.engine.now c.args.pass.now c.put.new.pass _ _ _ c.spot_of-spot.result c.requires.of
     c.spot_of-spot.ensures
     (can_open_one c.args.writes.now h.0 c.args.number c.loop-done.done _ (view c.args.pass.now) (view c.loop-done.pass)
-    (view c.put.new.pass) _ _ h.1 (c.loop-done.invariant.so h.0 h.1) c.loop-done-test.true c.put.ensures.puts)
+    (view c.put.new.pass) _ _ h.1 (c.loop-done.invariant.so h.0 h.1) c.loop-done-test.true
+    (apart c.args.writes.now c.requires.ascending) c.requires.places c.put.ensures.puts)
 
 pub loop-done-preserved : goal.loop-done-preserved
 loop-done-preserved c = record {

@@ -32,7 +32,8 @@ returns-else-is_wide-clause-value c =
     value_found c.in-Ok.found c.keep.result c.args.sets.now (record c.args.sets.now { holds = c.find.new.holds })
     c.keep.new.sets (view c.args.pass.now)
     (view c.find.new.pass) c.args.key refl refl refl c.requires.live c.find.ensures.walked c.find.ensures.can c.requires.fits
-    c.find.ensures.only c.in-Ok.ensures.keeps c.in-Ok.ensures.found c.requires.unread c.keep.ensures.keeps
+    c.find.ensures.only c.in-Ok.ensures.led c.in-Ok.ensures.keeps c.in-Ok.ensures.found c.requires.unread
+    c.keep.ensures.keeps
 
 -- ---- there was no room for its entry
 

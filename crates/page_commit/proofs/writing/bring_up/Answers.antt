@@ -56,7 +56,7 @@ pub returns-in-Ok-clause-brings : goal.returns-in-Ok-clause-brings
 returns-in-Ok-clause-brings c =
     brought c.args.sets.now _ (view c.args.pass.now) (view c.make_volatile.new.pass) c.args.key c.in-Ok.at
     c.requires.live c.make_volatile.ensures.walked c.make_volatile.ensures.can c.make_volatile.ensures.kept
-    c.make_volatile.ensures.words c.make_volatile.ensures.only c.in-Ok.ensures.made refl refl refl
+    c.make_volatile.ensures.words c.make_volatile.ensures.only c.in-Ok.ensures.led c.in-Ok.ensures.made refl refl refl
 
 -- ---- it was not
 

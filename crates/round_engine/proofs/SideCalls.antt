@@ -84,7 +84,7 @@ module _ (v w : View) (keeper : v.role ≡ Keeper) where
       claimed = claimed_on a.loaded w (ap (λ (x : View). x.layout) a.is) (ap (λ (x : View). x.pages) a.is)
           (ap (λ (x : View). x.fills) a.is);
       free = free_on a.loaded w (ap (λ (x : View). x.grip) a.is) (ap (λ (x : View). x.ways) a.is)
-          (ap (λ (x : View). x.took) a.is) (ap (λ (x : View). x.shuts) a.is);
+          (ap (λ (x : View). x.took) a.is) (ap (λ (x : View). x.shuts) a.is) (ap (λ (x : View). x.heads) a.is);
     }
 
     pub advance_went : Went v w
@@ -128,7 +128,8 @@ module _ (v w : View) (keeper : v.role ≡ Keeper) where
       claimed = claimed_on v w (ap (λ (x : View). x.layout) is.timed.is) (ap (λ (x : View). x.pages) is.timed.is)
           (ap (λ (x : View). x.fills) is.timed.is);
       free = free_on v w (ap (λ (x : View). x.grip) is.timed.is) (ap (λ (x : View). x.ways) is.timed.is)
-          (ap (λ (x : View). x.took) is.timed.is) (ap (λ (x : View). x.shuts) is.timed.is);
+          (ap (λ (x : View). x.took) is.timed.is) (ap (λ (x : View). x.shuts) is.timed.is)
+          (ap (λ (x : View). x.heads) is.timed.is);
     }
 
     pub limit_saw : HasSeenMarks [] v w

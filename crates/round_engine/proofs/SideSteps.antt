@@ -60,14 +60,15 @@ claimed_on v w layout pages fills c = record {
 }
 
 -- the pass holds nothing still, where nothing of it changes
-pub free_on : (v w : View) → w.grip ≡ v.grip → w.ways ≡ v.ways → w.took ≡ v.took → w.shuts ≡ v.shuts → HoldsNothing v
-    → HoldsNothing w
-free_on v w grip ways took shuts f = record {
+pub free_on : (v w : View) → w.grip ≡ v.grip → w.ways ≡ v.ways → w.took ≡ v.took → w.shuts ≡ v.shuts → w.heads ≡ v.heads
+    → HoldsNothing v → HoldsNothing w
+free_on v w grip ways took shuts heads f = record {
   holds = ap (λ (g : Grip). g.holds) grip ∙ f.holds;
   made = ap (λ (g : Grip). g.made) grip ∙ f.made;
   taken = ap (λ (g : Grip). g.taken) grip ∙ f.taken;
   ways = ways ∙ f.ways;
   took = took ∙ f.took;
+  heads = heads ∙ f.heads;
   shuts = shuts ∙ f.shuts;
 }
 
@@ -90,7 +91,7 @@ went_epoch v w epoch keeper t = record {
   epoch = omega (arith, t.now, t.rises);
   met = subst (IsFront v.met) (sym t.met) (front_refl v.met);
   claimed = claimed_on v w t.layout t.pages t.fills;
-  free = free_on v w t.grip t.ways t.took t.shuts;
+  free = free_on v w t.grip t.ways t.took t.shuts t.heads;
 }
 
 -- marks were met
@@ -118,6 +119,7 @@ went_met v w marks m = subst (Went v) (sym m.is) (record {
     taken = f.taken;
     ways = f.ways;
     took = f.took;
+    heads = f.heads;
     shuts = f.shuts;
   };
 })
@@ -145,7 +147,7 @@ went_pages v w pages is claimed = record {
   met = subst (IsFront v.met) (sym (ap (λ (x : View). x.met) is)) (front_refl v.met);
   claimed = λ before. claimed;
   free = free_on v w (ap (λ (x : View). x.grip) is) (ap (λ (x : View). x.ways) is) (ap (λ (x : View). x.took) is)
-      (ap (λ (x : View). x.shuts) is);
+      (ap (λ (x : View). x.shuts) is) (ap (λ (x : View). x.heads) is);
 }
 
 -- what is lent, where the engine has this epoch, so many slots, these pages, room for so many of them, and these counts

@@ -93,5 +93,5 @@ first_kept l v can arrays none is claims = subst IsKept (sym is) record {
         (subst (λ (w : View). n ≤ w.layout.resident) (sym is) most);
     long = claims.long;
   };
-  free = record { holds = refl; made = refl; taken = refl; ways = refl; took = refl; shuts = refl };
+  free = record { holds = refl; made = refl; taken = refl; ways = refl; took = refl; heads = refl; shuts = refl };
 }

@@ -62,7 +62,7 @@ begins_on was mid seated kept some sets past owns is =
       rests = subst (λ (s : Seat). IsResting s) (sym sets.seat) kept.rests;
       declared = subst (λ (l : Layout). AreDecls l.decls) (sym sets.layout) kept.decls;
       drops = sets.drops;
-      free = free_still mid (with_made (seats_from 8 0) mid) refl refl refl refl (sets.free kept.free);
+      free = free_still mid (with_made (seats_from 8 0) mid) refl refl refl refl refl (sets.free kept.free);
     })
   where
     seated_claims : (v : View) → AreClaimed v → AreClaimed (with_made (seats_from 8 0) v)

@@ -22,13 +22,14 @@ grown a b front = elim (cases_lt (length a) (length b)) [
 
 -- what has nothing of the pages in memory has nothing still
 pub free_still : (v w : View) → w.grip ≡ v.grip → w.ways ≡ v.ways → w.took ≡ v.took → w.shuts ≡ v.shuts
-    → HoldsNothing v → HoldsNothing w
-free_still v w grip ways took shuts nothing = record {
+    → w.heads ≡ v.heads → HoldsNothing v → HoldsNothing w
+free_still v w grip ways took shuts heads nothing = record {
   holds = ap (λ (g : Grip). g.holds) grip ∙ nothing.holds;
   made = ap (λ (g : Grip). g.made) grip ∙ nothing.made;
   taken = ap (λ (g : Grip). g.taken) grip ∙ nothing.taken;
   ways = ways ∙ nothing.ways;
   took = took ∙ nothing.took;
+  heads = heads ∙ nothing.heads;
   shuts = shuts ∙ nothing.shuts;
 }
 

@@ -227,6 +227,7 @@ module _ (pages : List (List ℕ)) (few : length pages ≤ 65536) (v : View) (kn
       locks = rests.locks;
       took = free.took;
       parts = rests.kept;
+      heads = free.heads;
       shuts = free.shuts;
     };
     ways = free.ways;
@@ -332,7 +333,8 @@ module _ (words : List (List ℕ)) (tally : Dropped) (v u mid w : View) (count :
         (ap (λ (z : View). z.grip) looked.is ∙ ap (λ (z : View). z.grip) d.is ∙ ap (λ (z : View). z.grip) named)
         (ap (λ (z : View). z.ways) looked.is ∙ ap (λ (z : View). z.ways) d.is ∙ ap (λ (z : View). z.ways) named)
         (ap (λ (z : View). z.took) looked.is ∙ ap (λ (z : View). z.took) d.is ∙ ap (λ (z : View). z.took) named)
-        (ap (λ (z : View). z.shuts) looked.is ∙ ap (λ (z : View). z.shuts) d.is ∙ ap (λ (z : View). z.shuts) named);
+        (ap (λ (z : View). z.shuts) looked.is ∙ ap (λ (z : View). z.shuts) d.is ∙ ap (λ (z : View). z.shuts) named)
+        (ap (λ (z : View). z.heads) looked.is ∙ ap (λ (z : View). z.heads) d.is ∙ ap (λ (z : View). z.heads) named);
   }
 
   pub dropped_so : HasDropped words tally v w

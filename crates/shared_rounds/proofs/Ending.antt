@@ -256,7 +256,8 @@ module _ {D : Type 0} (tells : D → Option (List ℕ)) (clock : D → ℕ) (ima
             (subst (λ n. LeavesLog tells clock image_at faults was.epoch n p old new before bank) here_epoch
             leaves.log);
         free = λ nothing. free_still mid now (ap (λ (v : View). v.grip) timed.is) (ap (λ (v : View). v.ways) timed.is)
-            (ap (λ (v : View). v.took) timed.is) (ap (λ (v : View). v.shuts) timed.is) (so.free nothing);
+            (ap (λ (v : View). v.took) timed.is) (ap (λ (v : View). v.shuts) timed.is)
+            (ap (λ (v : View). v.heads) timed.is) (so.free nothing);
         told = then;
         many_outcomes = many;
         calls = calls;

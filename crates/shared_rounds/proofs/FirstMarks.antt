@@ -297,7 +297,7 @@ module _ {D : Type 0} {tells : D → Option (List ℕ)} {clock : D → ℕ} {ima
           parked = λ other less. subst (λ (l : List Seat). IsResting (get_or l other bare_seat)) (sym parked)
               (set_rests v.parked worker u.seat other set.over.seat (can.parked other less));
           free = free_still v w (ap (λ (x : View). x.grip) t.is) (ap (λ (x : View). x.ways) t.is)
-              (ap (λ (x : View). x.took) t.is) (ap (λ (x : View). x.shuts) t.is);
+              (ap (λ (x : View). x.took) t.is) (ap (λ (x : View). x.shuts) t.is) (ap (λ (x : View). x.heads) t.is);
         };
         past = ap (λ (x : View). x.past) t.is
             ∙ ap (λ (r : Role). past_at r (without (worker_of u.role) (v.made ++ worker ∷ [])) v.past (n / 2 ^ 40))
@@ -435,7 +435,7 @@ module _ {D : Type 0} {tells : D → Option (List ℕ)} {clock : D → ℕ} {ima
           drops = so.sets.drops;
           parked_are = so.sets.parked_are;
           parked = so.sets.parked;
-          free = λ nothing. free_still u (glanced published_at seen u) refl refl refl refl (so.sets.free nothing);
+          free = λ nothing. free_still u (glanced published_at seen u) refl refl refl refl refl (so.sets.free nothing);
         };
         past = so.past;
         logs_many = so.logs_many;

@@ -28,6 +28,7 @@ kept_next v w is k = subst IsKept (sym is) record {
     taken = k.free.taken;
     ways = k.free.ways;
     took = k.free.took;
+    heads = k.free.heads;
     shuts = k.free.shuts;
   };
 }

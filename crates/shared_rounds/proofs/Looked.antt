@@ -43,7 +43,7 @@ module _ {D : Type 0} (tells : D → Option (List ℕ)) (clock : D → ℕ) (ima
         drops = so.drops;
         dropped = so.dropped;
         touched = so.touched;
-        free = λ nothing. free_still mid (glanced published_at count mid) refl refl refl refl (so.free nothing);
+        free = λ nothing. free_still mid (glanced published_at count mid) refl refl refl refl refl (so.free nothing);
         blamed = so.blamed;
         parked_are = so.parked_are;
         parked = so.parked;

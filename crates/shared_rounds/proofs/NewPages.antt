@@ -140,6 +140,7 @@ kept_published pages v w is claims k = subst IsKept (sym is) record {
     taken = k.free.taken;
     ways = k.free.ways;
     took = k.free.took;
+    heads = k.free.heads;
     shuts = k.free.shuts;
   };
 }

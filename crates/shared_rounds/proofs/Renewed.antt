@@ -105,7 +105,8 @@ module _ (tries : ℕ) (was now : View) (parts : List Part) (r : IsRound tries w
             (ap (λ (v : View). v.grip) r.audited.2.is ∙ ap (λ (v : View). v.grip) r.audited.1.is)
             (ap (λ (v : View). v.ways) r.audited.2.is ∙ ap (λ (v : View). v.ways) r.audited.1.is)
             (ap (λ (v : View). v.took) r.audited.2.is ∙ ap (λ (v : View). v.took) r.audited.1.is)
-            (ap (λ (v : View). v.shuts) r.audited.2.is ∙ ap (λ (v : View). v.shuts) r.audited.1.is) nothing;
+            (ap (λ (v : View). v.shuts) r.audited.2.is ∙ ap (λ (v : View). v.shuts) r.audited.1.is)
+            (ap (λ (v : View). v.heads) r.audited.2.is ∙ ap (λ (v : View). v.heads) r.audited.1.is) nothing;
       }
     where
       parked_now : (P : List Seat → Type 0) → P r.ended.parked → P now.parked

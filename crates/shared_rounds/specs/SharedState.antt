@@ -116,13 +116,15 @@ pub record IsCounted (v : View) : Type 0 where
   pub all : (h : Number → ℕ) → total (λ (a : Attempt). h a.number) v.mine ≡ total h v.decided
   pub drawn : (n : Number) → is_decided v.decided n ≡ true → (a : Attempt) × Contains v.history a × (a.number ≡ n)
 
--- The pass holds no slot and owns none, has led nothing away from one, has no lock of a record, and has shut no pointer.
+-- The pass holds no slot and owns none, has led nothing away from one, has no lock of a record or a header, and has shut
+-- no pointer.
 pub record HoldsNothing (v : View) : Type 0 where
   pub holds : v.grip.holds ≡ []
   pub made : v.grip.made ≡ []
   pub taken : v.grip.taken ≡ []
   pub ways : v.ways ≡ []
   pub took : v.took ≡ []
+  pub heads : v.heads ≡ []
   pub shuts : v.shuts ≡ []
 
 -- What the keeper's pass knows between two rounds: nobody is seated, and no seat, its own or a worker's, has a

@@ -43,6 +43,7 @@ keeps_on e keeper later tally can of h = record {
     locks = ap (λ (v : View). v.seat.locks) h.is ∙ can.bare.locks;
     took = ap (λ (v : View). v.took) h.is ∙ can.bare.took;
     parts = ap (λ (v : View). v.seat.kept) h.is ∙ can.bare.parts;
+    heads = ap (λ (v : View). v.heads) h.is ∙ can.bare.heads;
     shuts = ap (λ (v : View). v.shuts) h.is ∙ can.bare.shuts;
   };
   ways = ap (λ (v : View). v.ways) h.is ∙ can.ways;

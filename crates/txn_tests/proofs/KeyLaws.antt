@@ -35,7 +35,7 @@ use Rattle.engine_pages.specs.Views.{IsActive, IsResting}
 use Rattle.serial_model.specs.Decls.{AreDecls}
 use Rattle.page_records.specs.Attempts.{attempt_of, CanDecide, CanDraw, HasDrawn, HasChosen}
 use Rattle.page_records.specs.Ends.{forgot_for, worker_of}
-use Rattle.page_records.specs.Locks.{locked, not_at, opened, put_at, took_at, CanPut, CanOpenAnew}
+use Rattle.page_records.specs.Locks.{array_absence, locked, not_at, opened, put_at, took_at, CanPut, CanOpenAnew}
 use Rattle.array_pages.specs.Making.{CanMake}
 use Rattle.array_pages.specs.Walks.{HasWalked}
 use Rattle.page_commit.specs.Committing.{HasBegun}
@@ -43,6 +43,7 @@ use Rattle.page_commit.specs.Live.{AreParts, HasHolds, IsLive, IsOver}
 use Rattle.page_commit.specs.Places.{ground, spot_at, Ground, IsKeyAt, IsKeyIn}
 use Rattle.page_commit.specs.Steps.{HasLeft}
 use Rattle.page_commit.proofs.LeaveLaws.{holds_stay, left_agree, left_holds, SamePages}
+use Rattle.page_commit.proofs.PlaceLaws.{key_array}
 use Rattle.txn_tests.specs.Standing.{first_key, HasLock, HasPut, IsFree, IsHolding, IsPublished, IsWithin}
 
 -- ---- what a step leaves of pages
@@ -116,6 +117,9 @@ can_make_first sets v w slots begun none =
       drafts = live.holds.drafts;
       copies = live.holds.copies;
       blanks = live.holds.blanks;
+      leaves = live.holds.leaves;
+      inners = live.holds.inners;
+      heads = live.holds.heads;
     }
 
 pub free_then : (sets : Sets) (v w x : View) (slots : List ℕ) → HasBegun sets v w → HasWalked w x → CanMake slots x
@@ -134,6 +138,9 @@ free_then sets v w x slots begun walked can kept =
           drafts = can.drafts;
           copies = can.copies;
           blanks = can.blanks;
+          leaves = can.leaves;
+          inners = can.inners;
+          heads = can.heads;
         };
       };
       due = ap (λ (y : View). y.due) walked.is ∙ live.due;
@@ -163,7 +170,17 @@ pub locks_first : (slots : List ℕ) (at n : ℕ) (x : Spot) (v w : View) → Is
     → x ≡ spot_at v.layout.slots at → w ≡ locked first_key x at n v → IsHolding slots at w
 locks_first slots at n x v w free place spot is =
     let same : Same v w = subst (Same v) (sym is) record {
-      pages = record { layout = refl; grip = refl; ways = refl; drafts = refl; copies = refl; blanks = refl };
+      pages = record {
+        layout = refl;
+        grip = refl;
+        ways = refl;
+        drafts = refl;
+        copies = refl;
+        blanks = refl;
+        leaves = refl;
+        inners = refl;
+        heads = refl;
+      };
       role = refl;
     } in record {
       within = within_stays slots v w same free.within;
@@ -183,7 +200,17 @@ locks_first slots at n x v w free place spot is =
 pub locks_none : (slots : List ℕ) (at n : ℕ) (v w : View) → IsFree slots v → w ≡ read_at at n v → IsFree slots w
 locks_none slots at n v w free is =
     let same : Same v w = subst (Same v) (sym is) record {
-      pages = record { layout = refl; grip = refl; ways = refl; drafts = refl; copies = refl; blanks = refl };
+      pages = record {
+        layout = refl;
+        grip = refl;
+        ways = refl;
+        drafts = refl;
+        copies = refl;
+        blanks = refl;
+        leaves = refl;
+        inners = refl;
+        heads = refl;
+      };
       role = refl;
     } in record {
       within = within_stays slots v w same free.within;
@@ -229,7 +256,17 @@ pub forgotten : (slots : List ℕ) (v w : View) (met : List Touch)
     → IsFree slots v → w ≡ forgot_for None met v → IsPublished slots w
 forgotten slots v w met free is =
     let same : Same v w = subst (Same v) (sym is) record {
-      pages = record { layout = refl; grip = refl; ways = refl; drafts = refl; copies = refl; blanks = refl };
+      pages = record {
+        layout = refl;
+        grip = refl;
+        ways = refl;
+        drafts = refl;
+        copies = refl;
+        blanks = refl;
+        leaves = refl;
+        inners = refl;
+        heads = refl;
+      };
       role = refl;
     } in record {
       within = within_stays slots v w same free.within;
@@ -313,11 +350,31 @@ is_putting slots at value n m v w x h d c =
     let locks : w.seat.locks ≡ v.seat.locks = ap (λ (y : View). y.seat.locks) d.is in
     let settles : settled s ≡ s = settled_open s first_key (locks ∙ h.has.locks) in
     let drawn : Same v w = subst (Same v) (sym d.is) record {
-      pages = record { layout = refl; grip = refl; ways = refl; drafts = refl; copies = refl; blanks = refl };
+      pages = record {
+        layout = refl;
+        grip = refl;
+        ways = refl;
+        drafts = refl;
+        copies = refl;
+        blanks = refl;
+        leaves = refl;
+        inners = refl;
+        heads = refl;
+      };
       role = refl;
     } in
     let chosen : Same w x = subst (Same w) (sym c.is) record {
-      pages = record { layout = refl; grip = refl; ways = refl; drafts = refl; copies = refl; blanks = refl };
+      pages = record {
+        layout = refl;
+        grip = refl;
+        ways = refl;
+        drafts = refl;
+        copies = refl;
+        blanks = refl;
+        leaves = refl;
+        inners = refl;
+        heads = refl;
+      };
       role = refl;
     } in
     let held : HasLock at w = lock_stays at v w drawn locks (ap (λ (y : View). y.took) d.is) h.has in record {
@@ -354,14 +411,26 @@ can_put slots at n value x v p spot = record {
   stage = p.stage;
   at = p.at_index;
   locked = rw p.has.locks refl;
+  value = Some value;
   writes = rw p.writes refl;
+  is = refl;
 }
 
 pub has_put : (slots : List ℕ) (at n value word : ℕ) (v w : View) → IsPutting slots at n value v
     → w ≡ put_at first_key word value v → HasPut slots at n w
 has_put slots at n value word v w p is =
     let same : Same v w = subst (Same v) (sym is) record {
-      pages = record { layout = refl; grip = refl; ways = refl; drafts = refl; copies = refl; blanks = refl };
+      pages = record {
+        layout = refl;
+        grip = refl;
+        ways = refl;
+        drafts = refl;
+        copies = refl;
+        blanks = refl;
+        leaves = refl;
+        inners = refl;
+        heads = refl;
+      };
       role = refl;
     } in
     let locks : w.seat.locks ≡ v.seat.locks = ap (λ (y : View). y.seat.locks) is in
@@ -380,7 +449,12 @@ has_put slots at n value word v w p is =
         locked = rw has.locks refl;
         put = ap (λ (y : View). has_key y.seat.put first_key) is
             ∙ any_push_new (λ (q : Key). same_key q first_key) v.seat.put first_key refl;
-        number = p.number;
+        value = Some value;
+        writes = rw p.writes refl;
+        number =
+            let number = p.number in
+            let none = array_absence w.layout.decls first_key (Some value) (key_array (ground w) first_key at has.place) in
+            omega (arith, number, none);
       };
     }
 
@@ -403,7 +477,17 @@ pub opens : (slots : List ℕ) (at n word : ℕ) (v w : View) → HasPut slots a
     → IsPublished slots w
 opens slots at n word v w p is =
     let same : Same v w = subst (Same v) (sym is) record {
-      pages = record { layout = refl; grip = refl; ways = refl; drafts = refl; copies = refl; blanks = refl };
+      pages = record {
+        layout = refl;
+        grip = refl;
+        ways = refl;
+        drafts = refl;
+        copies = refl;
+        blanks = refl;
+        leaves = refl;
+        inners = refl;
+        heads = refl;
+      };
       role = refl;
     } in
     let s : Seat = record v.seat {

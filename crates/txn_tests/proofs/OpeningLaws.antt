@@ -74,6 +74,7 @@ bare_opening l = record {
   locks = refl;
   took = refl;
   parts = refl;
+  heads = refl;
   shuts = refl;
 }
 

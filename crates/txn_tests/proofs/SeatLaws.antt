@@ -25,6 +25,7 @@ bare_seated number v bare = record {
   locks = bare.locks;
   took = bare.took;
   parts = bare.parts;
+  heads = bare.heads;
   shuts = bare.shuts;
 }
 

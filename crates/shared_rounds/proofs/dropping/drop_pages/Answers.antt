@@ -23,7 +23,8 @@ pub drop_named-dropped-requires-clause-free : goal.drop_named-dropped-requires-c
 drop_named-dropped-requires-clause-free c =
     let only = c.name_newest.ensures.only in
     free_still (view c.args.keeper.now) (view c.name_newest.new.keeper) (ap (λ (z : View). z.grip) only)
-    (ap (λ (z : View). z.ways) only) (ap (λ (z : View). z.took) only) (ap (λ (z : View). z.shuts) only) c.requires.free
+    (ap (λ (z : View). z.ways) only) (ap (λ (z : View). z.took) only) (ap (λ (z : View). z.shuts) only)
+    (ap (λ (z : View). z.heads) only) c.requires.free
 
 pub drop_named-dropped-requires-clause-declared : goal.drop_named-dropped-requires-clause-declared
 drop_named-dropped-requires-clause-declared c =

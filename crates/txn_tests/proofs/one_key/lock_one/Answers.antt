@@ -1,5 +1,5 @@
 use Rattle.engine_pages.specs.Passes.{view}
-use Rattle.page_commit.proofs.PlaceLaws.{spot_here, spot_is}
+use Rattle.page_commit.proofs.PlaceLaws.{spot_any, spot_here}
 use Rattle.txn_tests.specs.Standing.{first_key}
 use Rattle.txn_tests.proofs.KeyLaws.{free_begins, locked_layout, locked_so, within_active}
 use Rattle.txn_tests.proofs.one_key.lock_one.Goals as goal
@@ -13,7 +13,7 @@ lock-seen-requires-clause-idle c = free_begins c.args.holds.now (view c.args.pas
 
 pub lock-seen-requires-clause-place : goal.lock-seen-requires-clause-place
 lock-seen-requires-clause-place c =
-    spot_is c.args.engine.now c.args.pass.now first_key c.args.at c.spot_of-spot.result c.requires.of
+    spot_any c.args.engine.now c.args.pass.now first_key c.args.at c.spot_of-spot.result c.requires.of
     c.spot_of-spot.ensures c.requires.place
 
 pub returns-clause-layout : goal.returns-clause-layout

@@ -1,7 +1,7 @@
 use Rattle.std.proofs.Common.{ap}
 use Rattle.engine_pages.specs.declared.view.View.{View}
 use Rattle.engine_pages.specs.Passes.{view}
-use Rattle.page_commit.proofs.PlaceLaws.{spot_here, spot_is}
+use Rattle.page_commit.proofs.PlaceLaws.{spot_any, spot_here}
 use Rattle.txn_tests.specs.Standing.{first_key}
 use Rattle.txn_tests.proofs.KeyLaws.{can_open, opens, within_active}
 use Rattle.txn_tests.proofs.one_key.open_one.Goals as goal
@@ -12,7 +12,7 @@ open_anew-requires-clause-pass c =
 
 pub open_anew-requires-clause-place : goal.open_anew-requires-clause-place
 open_anew-requires-clause-place c =
-    spot_is c.args.engine.now c.args.pass.now first_key c.args.at c.spot_of.result c.requires.of c.spot_of.ensures
+    spot_any c.args.engine.now c.args.pass.now first_key c.args.at c.spot_of.result c.requires.of c.spot_of.ensures
     c.requires.put.has.place
 
 pub open_anew-requires-clause-word : goal.open_anew-requires-clause-word

@@ -3,7 +3,7 @@ use Rattle.serial_model.specs.declared.number.Change.{Change}
 use Rattle.engine_pages.specs.declared.view.View.{View}
 use Rattle.engine_pages.specs.Passes.{view}
 use Rattle.page_records.specs.Attempts.{HasDrawn}
-use Rattle.page_commit.proofs.PlaceLaws.{spot_here, spot_is}
+use Rattle.page_commit.proofs.PlaceLaws.{spot_any, spot_here}
 use Rattle.txn_tests.specs.Standing.{first_key}
 use Rattle.txn_tests.proofs.KeyLaws.{can_decide, can_draw, can_put, has_put, is_putting, within_active, IsPutting}
 use Rattle.txn_tests.proofs.one_key.put_first.Goals as goal
@@ -39,7 +39,7 @@ put-requires-clause-pass c =
 pub put-requires-clause-place : goal.put-requires-clause-place
 put-requires-clause-place c =
     let at = (goal.at.put-requires-clause-place c).After-decide in
-    spot_is c.args.engine.now c.decide.new.pass first_key c.args.at c.spot_of.result c.decide.ensures.of
+    spot_any c.args.engine.now c.decide.new.pass first_key c.args.at c.spot_of.result c.decide.ensures.of
     c.spot_of.ensures (putting at).has.place
 
 pub put-requires-clause-writes : goal.put-requires-clause-writes

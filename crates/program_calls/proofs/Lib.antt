@@ -13,6 +13,7 @@ pub mod StandsStill
 pub mod VaultsLater
 pub mod Begins
 pub mod DeclsTold
+pub mod AskedPages
 pub mod NotBegun
 pub mod Reading
 pub mod Sentences

@@ -59,7 +59,7 @@ use Rattle.program_calls.specs.Causes.{ReadsAlone, RestsAgain}
 use Rattle.program_calls.specs.declared.ending.Ending.{Ending}
 use Rattle.program_calls.specs.declared.ending.Ending.TheVariants.{Finished, NoScript, Shape, Usage, ReadFault, NoDevice, Damaged, AtLimit, NoMemory, NoSnapshot}
 use Rattle.program_calls.specs.Ending.{RunComes, status_of}
-use Rattle.program_calls.specs.OnTheWay.{BeginsRun, AreOther, EndsBefore, IsForgotten, IsOtherShape, KeptSnapshots, ending_of_refusal, ending_of_settling}
+use Rattle.program_calls.specs.OnTheWay.{AsksForSnapshot, BeginsRun, AreOther, EndsBefore, IsForgotten, IsOtherShape, KeptSnapshots, ending_of_refusal, ending_of_settling}
 use Rattle.program_calls.specs.Vaults.{vaults_of}
 use Rattle.program_calls.proofs.Begins.{may_begin, stands_at_pages, stands_at_sequence, stands_too_deep, would_store}
 use Rattle.program_calls.proofs.Courses.{nowhere}
@@ -448,28 +448,31 @@ declared_same r decls settled fresh kept has = of r.saved fresh kept has
     of None fresh kept has = permuted_decls decls settled fresh
     of (Some s) fresh kept has = subst (λ ds. SameDecls decls ds) (sym kept) has
 
-module _ {D : Type 0} {tells : D → Option Bytes} {clock : D → ℕ} {image_at : D → ℕ → Bytes → Type 0} {faults : D → ℕ} {snap slots : ℕ} {decls : List Decl} {was between : Vault D} {r : Recovered}
-    (read : IsRead tells clock image_at faults decls was between r) where
+module _ {D : Type 0} {tells : D → Option Bytes} {clock : D → ℕ} {image_at : D → ℕ → Bytes → Type 0} {faults : D → ℕ} {snap slots : ℕ} {script : Script} {was between : Vault D} {r : Recovered}
+    (read : IsRead tells clock image_at faults script.decls was between r) (room : ℕ)
+    (room_is : AsksForSnapshot script → room ≡ snap) where
   -- what was settled is what a run begins on
   pub begins_run : (is : Vault D) (settled : Settled) (runtime : RuntimeState) → SettlingLeaves tells clock image_at between r is
-      → SettlesInto tells clock image_at r decls between is settled → KeptSnapshots r settled → AreQuiet faults between is
+      → SettlesInto tells clock image_at r script.decls between is settled → KeptSnapshots r settled → AreQuiet faults between is
       → SettleRecords r true between is → IfSome r.saved (IsWithin r snap) → (IsStoreDue r → sequence_of r.save.newest ≡ last_sequence → ⊥)
-      → runtime ≡ begun settled.decls settled.state runtime.stands settled.save settled.store snap (clock_after settled.saved.epoch)
+      → runtime ≡ begun settled.decls settled.state runtime.stands settled.save settled.store room (clock_after settled.saved.epoch)
       → (SharesWords runtime.stands → runtime.stands.slots ≡ slots)
       → AllByRecursion IsWholePage settled.store.pages → AllByRecursion (AllByRecursion (λ w. w < 2 ^ 64)) (words_of settled.store.pages)
       → StandsOn tells clock image_at runtime is
       → (((number : ℕ) (bank : D) → disk_in is (Bank number) ≡ Some bank → tells bank ≡ Some []) → AreLogs tells clock image_at (λ worker. []) (λ worker. []) runtime is
       × AreClosedFiles tells clock image_at (λ worker. []) (λ worker. []) runtime is)
       → CountsOf Even (λ worker. []) (λ worker. []) (λ worker. []) (λ worker. []) runtime.save.newest
-      → BeginsRun tells clock image_at faults snap slots decls was is runtime
+      → BeginsRun tells clock image_at faults snap slots script was is runtime
   begins_run is settled runtime leaves settles keeps quiet records fits left begins slots_are pages words stands logs counts = record {
+    room = room;
+    room_is = room_is;
     recovered = r;
     settled = settled;
     between = between;
     recovers = read.recovers;
     told = read.told;
     up = read.up;
-    same = declared_same r decls settled.decls settles.declared settles.kept read.has;
+    same = declared_same r script.decls settled.decls settles.declared settles.kept read.has;
     has = read.has;
     fits = fits;
     sequence = left;
@@ -501,18 +504,18 @@ module _ {D : Type 0} {tells : D → Option Bytes} {clock : D → ℕ} {image_at
   }
 
   -- the same over a vault that a call left as it was
-  pub begins_over : (is now : Vault D) (settled : Settled) (runtime : RuntimeState) → SettlingLeaves tells clock image_at between r is → now ≡ is → SettlesInto tells clock image_at r decls between is settled → KeptSnapshots r settled → AreQuiet faults between is
+  pub begins_over : (is now : Vault D) (settled : Settled) (runtime : RuntimeState) → SettlingLeaves tells clock image_at between r is → now ≡ is → SettlesInto tells clock image_at r script.decls between is settled → KeptSnapshots r settled → AreQuiet faults between is
       → SettleRecords r true between is → IfSome r.saved (IsWithin r snap) → (IsStoreDue r → sequence_of r.save.newest ≡ last_sequence → ⊥)
-      → runtime ≡ begun settled.decls settled.state runtime.stands settled.save settled.store snap (clock_after settled.saved.epoch)
+      → runtime ≡ begun settled.decls settled.state runtime.stands settled.save settled.store room (clock_after settled.saved.epoch)
       → (SharesWords runtime.stands → runtime.stands.slots ≡ slots)
       → AllByRecursion IsWholePage settled.store.pages → AllByRecursion (AllByRecursion (λ w. w < 2 ^ 64)) (words_of settled.store.pages)
       → StandsOn tells clock image_at runtime now
       → (((number : ℕ) (bank : D) → disk_in is (Bank number) ≡ Some bank → tells bank ≡ Some []) → AreLogs tells clock image_at (λ worker. []) (λ worker. []) runtime now
       × AreClosedFiles tells clock image_at (λ worker. []) (λ worker. []) runtime now)
       → CountsOf Even (λ worker. []) (λ worker. []) (λ worker. []) (λ worker. []) runtime.save.newest
-      → BeginsRun tells clock image_at faults snap slots decls was now runtime
+      → BeginsRun tells clock image_at faults snap slots script was now runtime
   begins_over is now settled runtime leaves same settles keeps quiet records fits left begins slots_are pages words stands logs counts =
-      subst (λ vault. BeginsRun tells clock image_at faults snap slots decls was vault runtime) (sym same)
+      subst (λ vault. BeginsRun tells clock image_at faults snap slots script was vault runtime) (sym same)
       (begins_run is settled runtime leaves settles keeps quiet records fits left begins slots_are pages words (subst (λ vault. StandsOn tells clock image_at runtime vault) same stands)
       (λ empty. subst (λ vault. AreLogs tells clock image_at (λ worker. []) (λ worker. []) runtime vault
       × AreClosedFiles tells clock image_at (λ worker. []) (λ worker. []) runtime vault) same (logs empty)) counts)

@@ -18,6 +18,8 @@ use Rattle.serial_model.specs.declared.decl.Decl.{Decl}
 use Rattle.serial_model.specs.declared.number.Commit.{Commit}
 use Rattle.serial_model.specs.declared.number.Number.{Number}
 use Rattle.script_grammar.specs.Script.{Bytes, Round, Script}
+use Rattle.script_grammar.specs.declared.lines.KeeperLine.{KeeperLine}
+use Rattle.script_grammar.specs.declared.lines.KeeperLine.TheVariants.{Glean}
 use Rattle.wire_form.specs.declared.page.Page.{Page}
 use Rattle.log_writer.specs.Points.{sequence_of}
 use Rattle.snapshot_store.specs.Content.{words_of}
@@ -52,7 +54,7 @@ use Rattle.program_calls.specs.Beginning.{MayBegin, Opening, SameDecls}
 use Rattle.program_calls.specs.Ending.{RunGoesOn}
 use Rattle.program_calls.specs.RoundCauses.{AreRoundsCaused, AreFull, IsDurable}
 use Rattle.program_calls.specs.Main.{ComeFromWords}
-use Rattle.program_calls.specs.OnTheWay.{BeginsRun}
+use Rattle.program_calls.specs.OnTheWay.{AsksForSnapshot, BeginsRun}
 use Rattle.program_calls.specs.RanOver.{BeginsOver, BeginsWith, FilesAt, IsUnbroken, KeepsPages, RunsOverFiles, files_after}
 use Rattle.program_calls.specs.RanOver.{files_before}
 use Rattle.program_calls.specs.Vaults.{NoneFailed, Vaults, vaults_of}
@@ -171,7 +173,7 @@ module _ {D : Type 0} (tells : D → Option Bytes) (clock : D → ℕ) (image_at
     pub sequence : sequence_of r.save.newest ≡ sequence_after opening.sequence rans
     pub unended : r.stands.ended ≡ false
     pub most : r.stands.clock.epoch ≤ last_epoch
-    pub room : r.room ≡ snap
+    pub room : AsksForSnapshot script → r.room ≡ snap
     pub stands : StandsOn tells clock image_at r now
     pub whole : IsWhole was
     pub quiet : AreQuiet faults was now
@@ -221,19 +223,24 @@ module _ {D : Type 0} (tells : D → Option Bytes) (clock : D → ℕ) (image_at
 
   -- the log files and pages of a round more
   over_one : (r s : RuntimeState) (count : ℕ) (before now : Vault D) (round : Round) (report : Report)
-      (so : RanSoFar r count before) (one : RanRound tries round r s report)
+      (so : RanSoFar r count before) → slice_get script.rounds count ≡ Some round → (one : RanRound tries round r s report)
       → (leaves : LeavesVault tells clock image_at faults one.ran one.logged r s before now)
       → r.stands.state ≡ state_after_all r.stands.decls so.opening.state so.run.ordered
       → Rises (so.run.ordered ++ (one.lines.run (length so.rans)).ordered)
       → EpochsNeverFall (so.run.ordered ++ (one.lines.run (length so.rans)).ordered)
       → OverOneMore so.opening so.rans one.ran r s before so.run.ordered so.kept one.logged
-  over_one r s count before now round report so one leaves state_is rises falls =
+  over_one r s count before now round report so at one leaves state_is rises falls =
       let over = so.over in
       let m = made_pages leaves in
       let begins : BeginsOver snap over.last one.ran = record {
         files = one.begins.files ∙ sym over.files;
         pages = one.begins.pages ∙ sym (ap length over.pages ∙ length-map r.store.pages (λ (p : Page). p.words));
-        room_is = one.begins.room ∙ so.room;
+        room_is = λ asks. one.begins.room ∙ so.room (record {
+          index = count;
+          round = round;
+          there = at;
+          asks = subst (λ (l : List KeeperLine). Contains l Glean) (one.lines.run (length so.rans)).lines.0.asked asks;
+        });
       } in
       let first : FilesAt = files_before so.opening.saved over.words in
       record {
@@ -262,7 +269,7 @@ module _ {D : Type 0} (tells : D → Option Bytes) (clock : D → ℕ) (image_at
 
   -- and what is kept behind it, where the run goes on
   over_next : (r s : RuntimeState) (count : ℕ) (before now : Vault D) (round : Round) (report : Report)
-      (so : RanSoFar r count before) (one : RanRound tries round r s report)
+      (so : RanSoFar r count before) → slice_get script.rounds count ≡ Some round → (one : RanRound tries round r s report)
       → (leaves : LeavesVault tells clock image_at faults one.ran one.logged r s before now)
       → CarriesCrashes tells clock image_at one.logged (leaves.stored ++ option_to_list leaves.failed) one.ran r s
       before now → r.stands.state ≡ state_after_all r.stands.decls so.opening.state so.run.ordered
@@ -273,8 +280,8 @@ module _ {D : Type 0} (tells : D → Option Bytes) (clock : D → ℕ) (image_at
       → (comes_to_swap one.ran ≡ true → swaps one.ran ≡ true) → s.save.down ≡ None
       → KeptNext r.stands.decls so.opening (so.rans ++ one.ran ∷ [])
       (so.run.ordered ++ (one.lines.run (length so.rans)).ordered) s now
-  over_next r s count before now round report so one leaves carries state_is rises falls sound first past done up =
-      let more = over_one r s count before now round report so one leaves state_is rises falls in
+  over_next r s count before now round report so at one leaves carries state_is rises falls sound first past done up =
+      let more = over_one r s count before now round report so at one leaves state_is rises falls in
       let next = λ (found : Images) (told : AreTold tells (parts_of was) found).
       kept_more (so.kept found told) so.stands refl state_is so.unended one leaves sound (length so.rans) rises falls in
       let ran : Ran = one.ran in (
@@ -351,7 +358,7 @@ module _ {D : Type 0} (tells : D → Option Bytes) (clock : D → ℕ) (image_at
       subst (λ l. KeptSoFar tells clock image_at found s.stands.decls so.opening.state so.opening.saved (so.rans ++ one.ran ∷ []) l s now) (sym all)
       (subst (λ ds. KeptSoFar tells clock image_at found ds so.opening.state so.opening.saved (so.rans ++ one.ran ∷ []) (so.run.ordered ++ own.ordered) s now) (sym one.lines.decls)
       (kept_more (so.kept found told) so.stands refl state_is so.unended one leaves sound (length so.rans) rises falls).0) in
-      let more = over_one r s count before now round report so one leaves state_is rises falls in
+      let more = over_one r s count before now round report so at one leaves state_is rises falls in
       let crashes : CrashesBehind s.stands.decls so.opening (so.rans ++ one.ran ∷ []) pushed.0.ordered now = λ found from reading is told rest here.
       subst (λ l. CrashesKept clock image_at from reading s.stands.decls so.opening.sequence so.opening.saved so.opening.state
       (so.rans ++ one.ran ∷ []) l now) (sym all)
@@ -418,7 +425,7 @@ module _ {D : Type 0} (tells : D → Option Bytes) (clock : D → ℕ) (image_at
         kept_over = λ sound first past done up.
             subst (λ l. KeptNext s.stands.decls so.opening (so.rans ++ one.ran ∷ []) l s now) (sym all)
             (subst (λ ds. KeptNext ds so.opening (so.rans ++ one.ran ∷ []) (so.run.ordered ++ own.ordered) s now) (sym one.lines.decls)
-            (over_next r s count before now round report so one leaves carries state_is rises falls sound first past done up));
+            (over_next r s count before now round report so at one leaves carries state_is rises falls sound first past done up));
         crashes = crashes;
         words = (files_after more.last one.ran more.made s.counted).words;
         words_are = more.pages;
@@ -473,7 +480,7 @@ module _ {D : Type 0} (tells : D → Option Bytes) (clock : D → ℕ) (image_at
 
   -- a run that begins stands before the first round
   pub none_so_far : (reads_told : (disk : D) (file : Bytes) → tells disk ≡ Some file → image_at disk (clock disk) file)
-      (r : RuntimeState) (now : Vault D) → BeginsRun tells clock image_at faults snap slots script.decls was now r
+      (r : RuntimeState) (now : Vault D) → BeginsRun tells clock image_at faults snap slots script was now r
       → (so : RanSoFar r 0 now) × (so.rans ≡ [])
   none_so_far reads_told r now b =
       let settled : Settled = b.settled in
@@ -482,10 +489,10 @@ module _ {D : Type 0} (tells : D → Option Bytes) (clock : D → ℕ) (image_at
       let begins : BeginsAt opening = λ found told.
       may_begin snap script.decls found b.recovered opening stored.0 (b.recovers found told) b.up.saved b.has b.fits b.sequence
       b.settles.state b.settles.epoch stored.1 stored.2 in
-      let start : RuntimeState = begun settled.decls settled.state r.stands settled.save settled.store snap (clock_after settled.saved.epoch) in
+      let start : RuntimeState = begun settled.decls settled.state r.stands settled.save settled.store b.room (clock_after settled.saved.epoch) in
       let kept = λ (found : Images) (told : AreTold tells (parts_of was) found).
       let logs = b.logs_told found told in
-      kept_begins found snap start b.settles (b.told found told) (b.recovers found told) b.snapshots refl b.pages_whole b.pages_fit
+      kept_begins found b.room start b.settles (b.told found told) (b.recovers found told) b.snapshots refl b.pages_whole b.pages_fit
       (subst (λ (x : RuntimeState). AreLogs tells clock image_at (λ worker. []) (λ worker. []) x now) b.begins logs.0)
       (subst (λ (x : RuntimeState). AreClosedFiles tells clock image_at (λ worker. []) (λ worker. []) x now) b.begins logs.1)
       (subst (λ (x : RuntimeState). CountsOf Even (λ worker. []) (λ worker. []) (λ worker. []) (λ worker. []) x.save.newest) b.begins b.counts) in
@@ -503,7 +510,7 @@ module _ {D : Type 0} (tells : D → Option Bytes) (clock : D → ℕ) (image_at
           sequence = refl;
           unended = refl;
           most = (let epoch = b.settles.ranges.epoch in omega (arith, epoch));
-          room = refl;
+          room = b.room_is;
           stands = subst (λ (x : RuntimeState). StandsOn tells clock image_at x now) b.begins b.stands;
           whole = b.whole;
           quiet = b.quiet;
@@ -548,7 +555,7 @@ module _ {D : Type 0} (tells : D → Option Bytes) (clock : D → ℕ) (image_at
               (subst (λ (t : State). KeptBefore tells clock image_at from recovered.reading settled.decls opening.sequence
               b.recovered.epoch t [] [] (λ w. []) (λ w. []) start now) (sym b.settles.state)
               (crashes_begin reads_told b.recovered settled found b.up b.settles between recovered goes.0 left b.pages_whole
-              (begun_records b.recovered settled b.settles.follows b.records b.empty.ties) snap
+              (begun_records b.recovered settled b.settles.follows b.records b.empty.ties) b.room
               (clock_after settled.saved.epoch) start refl b.settles.epoch refl refl goes.1
               (subst (λ (x : RuntimeState). AreLogs tells clock image_at (λ worker. []) (λ worker. []) x now) b.begins logs.0)
               (subst (λ (x : RuntimeState). AreClosedFiles tells clock image_at (λ worker. []) (λ worker. []) x now) b.begins logs.1))))));
@@ -594,7 +601,7 @@ module _ {D : Type 0} (tells : D → Option Bytes) (clock : D → ℕ) (image_at
           sequence = m.sequence;
           unended = one.ended ∙ ap is_some none;
           most = omega (arith, joined_on.below, ap (λ (n : Number). n.epoch) clock_joined);
-          room = leaves.room ∙ so.room;
+          room = λ asks. leaves.room ∙ so.room asks;
           stands = m.stands;
           whole = so.whole;
           quiet = quiet_failed one.ran.beside.devices (goes_on_quiet one.ran goes) m.failed;

@@ -36,7 +36,7 @@ module _ {D : Type 0} (tells : D → Option Bytes) (clock : D → ℕ) (image_at
   -- nothing, as a run begins
   pub none_yet : (brief : Bool) (tally : Tally) (out : Output) (r : RuntimeState) (now : Vault D)
       → ((disk : D) (file : Bytes) → tells disk ≡ Some file → image_at disk (clock disk) file) → tally ≡ tally_of []
-      → BeginsRun tells clock image_at faults snap slots script.decls was now r → ToldSoFar brief tally out out r 0 now
+      → BeginsRun tells clock image_at faults snap slots script was now r → ToldSoFar brief tally out out r 0 now
   none_yet brief tally out r now reads fresh begins =
       let so = none_so_far tells clock image_at faults snap slots tries script was reads r now begins in
       record {

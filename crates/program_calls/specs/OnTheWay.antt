@@ -1,9 +1,9 @@
 -- On the way to the main theorem: what the functions below `top`, and the program round it, tell of an ending, of text,
 -- and of the begin of a run.
 use Rattle.std.specs.Prelude.{◌≡◌, ◌⊎◌, ◌<◌, ◌≤◌, ◌++◌, ◌^◌, ℕ, true, List, [], Option, Result, Ok, Err, ⊤}
-use Rattle.std.specs.Prelude.{IfSome, IsSome, MatchResult}
+use Rattle.std.specs.Prelude.{IfSome, IsSome, MatchResult, Some, slice_get}
 use Rattle.std.specs.Io.KnownBytes.{Appends, IsAtEnd}
-use Rattle.std.specs.List.{AllByRecursion}
+use Rattle.std.specs.List.{AllByRecursion, Contains}
 use Rattle.std.specs.List.Sorted.{IsNonDecreasingBy, IsPermutation}
 use Rattle.lists.specs.declared.memory.OrMemory.{OrMemory}
 use Rattle.lists.specs.declared.memory.OrMemory.TheVariants as errors
@@ -19,7 +19,8 @@ use Rattle.serial_model.specs.Keys.{id_of}
 use Rattle.serial_model.specs.State.{State}
 use Rattle.serial_model.specs.declared.decl.Decl.{Decl}
 use Rattle.script_grammar.specs.Faults.{IsFirstFault}
-use Rattle.script_grammar.specs.Script.{IsTextOf, Script}
+use Rattle.script_grammar.specs.Script.{IsTextOf, Round, Script, keeper_lines}
+use Rattle.script_grammar.specs.declared.lines.KeeperLine.TheVariants.{Glean}
 use Rattle.log_writer.specs.Points.{sequence_of}
 use Rattle.snapshot_store.specs.Content.{words_of}
 use Rattle.snapshot_store.specs.Store.{IsWhole as IsWholePage}
@@ -227,22 +228,32 @@ abbrev pub KeptSnapshots : Recovered → Settled → Type 0
 KeptSnapshots r s = (found now : Images) (is : Recovers found r) (says : SaysSettled now s)
     → KeepsSnapshots is.reading says.reading r.epoch r.state
 
+-- a line of the script asks the maintenance thread for a snapshot
+pub record AsksForSnapshot (script : Script) : Type 0 where
+  pub index : ℕ
+  pub round : Round
+  pub there : slice_get script.rounds index ≡ Some round
+  pub asks : Contains (keeper_lines round) Glean
+
 -- A run begins: the vault was recovered, as it reads, has the storages, and was settled; and the runtime stands on it.
+-- Where a line asks for a snapshot, as many pages are let in as the command says.
 pub record BeginsRun {D : Type 0} (tells : D → Option Bytes) (clock : D → ℕ) (image_at : D → ℕ → Bytes → Type 0)
-    (faults : D → ℕ) (snap slots : ℕ) (decls : List Decl) (was is : Vault D) (r : RuntimeState) : Type 0 where
+    (faults : D → ℕ) (snap slots : ℕ) (script : Script) (was is : Vault D) (r : RuntimeState) : Type 0 where
+  pub room : ℕ
+  pub room_is : AsksForSnapshot script → room ≡ snap
   pub recovered : Recovered
   pub settled : Settled
   pub between : Vault D
   pub recovers : (found : Images) → AreTold tells (parts_of was) found → Recovers found recovered
   pub told : (found : Images) → AreTold tells (parts_of was) found → AreTold tells (parts_of between) found
   pub up : IsUp recovered
-  pub same : SameDecls decls settled.decls
-  pub has : IfSome recovered.saved (λ _. SameDecls decls recovered.decls)
+  pub same : SameDecls script.decls settled.decls
+  pub has : IfSome recovered.saved (λ _. SameDecls script.decls recovered.decls)
   pub fits : IfSome recovered.saved (IsWithin recovered snap)
   pub sequence : IsStoreDue recovered → sequence_of recovered.save.newest ≡ last_sequence → ⊥
-  pub settles : SettlesInto tells clock image_at recovered decls between is settled
+  pub settles : SettlesInto tells clock image_at recovered script.decls between is settled
   pub snapshots : KeptSnapshots recovered settled
-  pub begins : r ≡ begun settled.decls settled.state r.stands settled.save settled.store snap
+  pub begins : r ≡ begun settled.decls settled.state r.stands settled.save settled.store room
       (clock_after settled.saved.epoch)
   pub slots_are : SharesWords r.stands → r.stands.slots ≡ slots
   pub pages_whole : AllByRecursion IsWholePage settled.store.pages

@@ -21,6 +21,7 @@ use Rattle.log_writer.specs.Points.{saved_of}
 use Rattle.snapshot_store.specs.Content.{CatalogueAt}
 use Rattle.root_composer.specs.Composition.{IsComposed, IsTooDeep, WouldCompose}
 use Rattle.gleaner.specs.Glean.{bank_of}
+use Rattle.script_grammar.specs.declared.lines.KeeperLine.TheVariants.{Glean}
 use Rattle.joint_crashes.specs.Images.{Images}
 use Rattle.joint_crashes.specs.JointCrash.{parts_of}
 use Rattle.recovery_core.specs.Recoverable.{IsReading, Reading}
@@ -65,11 +66,11 @@ files_after f ran made counted = record {
   words = f.words ++ made;
 }
 
--- A round begins on these log files and pages, with so many pages let in.
+-- A round begins on these log files and pages; where a line of it asks for a snapshot, so many pages are let in.
 pub record BeginsOver (room : ℕ) (f : FilesAt) (ran : Ran) : Type 0 where
   pub files : ran.beside.files ≡ f.files
   pub pages : ran.beside.pages ≡ length f.words
-  pub room_is : ran.beside.room ≡ room
+  pub room_is : Contains ran.printed.asked Glean → ran.beside.room ≡ room
 
 -- ---- what the workers logged
 

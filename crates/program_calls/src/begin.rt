@@ -11,6 +11,7 @@ ghost use Rattle.tx_script.specs.Run.{clock_after};
 
 use crate::ending::Ending;
 use crate::kept::ending_of_refusal;
+use crate::room::room_for;
 use crate::shape::check_shape;
 use checkpoints::{SettleFault, settle};
 use command_line::RunOptions;
@@ -36,7 +37,7 @@ pub(crate) fn begin<D: Disk>(
     requires whole { IsWhole vault.old }
     requires one { IfTold (D.tells vault.old.save) (Only D.clock D.image_at vault.old.save) }
     ensures begins { IfOk result (BeginsRun D.tells D.clock D.image_at D.faults options.snap options.slots
-        script.now.decls vault.old vault.new) }
+        script.now vault.old vault.new) }
     ensures ends { IfErr result (EndsBefore D.tells D.clock D.image_at D.faults options.snap script.now
         vault.old vault.new) }
 {
@@ -51,7 +52,8 @@ pub(crate) fn begin<D: Disk>(
         Err(refusal) => return Err(ending_of_settling(refusal)),
     };
     pages_fit(&settled.store);
-    let config = config_of(options, settled.saved.epoch);
+    let room = room_for(script, options.snap, settled.store.count());
+    let config = config_of(options, room, settled.saved.epoch);
     match Runtime::new(alloc, vault, settled, config) {
         Ok(runtime) => Ok(runtime),
         Err(_) => Err(Ending::NoMemory),
@@ -59,17 +61,19 @@ pub(crate) fn begin<D: Disk>(
 }
 
 // The first round has the epoch after the saved one.
-fn config_of(options: RunOptions, saved: u32) -> Config
+fn config_of(options: RunOptions, room: u32, saved: u32) -> Config
     requires ranges { AreInRange options }
+    requires some { 1 ≤ room }
+    requires most { room ≤ 65536 }
     requires saved { saved + 1 ≤ last_epoch }
     ensures config { IsConfig result }
     ensures slots { result.slots ≡ options.slots }
-    ensures snap { result.snap ≡ options.snap }
+    ensures snap { result.snap ≡ room }
     ensures first { result.first ≡ clock_after saved }
 {
     Config {
         slots: options.slots,
-        snap: options.snap,
+        snap: room,
         first: Number {
             epoch: saved + 1,
             draw: 1,

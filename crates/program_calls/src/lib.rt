@@ -24,6 +24,7 @@ mod ending;
 mod input;
 mod kept;
 mod program;
+mod room;
 mod run;
 mod shape;
 mod teller;

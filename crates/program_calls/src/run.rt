@@ -259,10 +259,10 @@ fn run_from<R: Threads + Wait + Sync, K: Sink, D: Disk + Send + Drop, G: Watcher
     requires ranges { AreInRange options }
     requires fresh { teller.old.tally ≡ tally_of [] }
     requires begun { (was : Vault D) × BeginsRun D.tells D.clock D.image_at D.faults options.snap options.slots
-        script.now.decls was vault.old runtime.old }
+        script.now was vault.old runtime.old }
     ensures { (was : Vault D)
         → BeginsRun D.tells D.clock D.image_at D.faults options.snap options.slots
-        script.now.decls was vault.old runtime.old
+        script.now was vault.old runtime.old
         → RunsToEnd (vaults_of D.tells D.clock D.image_at D.faults was vault.new) options.snap
         options.slots options.tries script.now (status_told result)
         (TellsRun teller.old.brief teller.new.tally printer.old printer.new result) }

@@ -49,6 +49,7 @@ pub returns-in-Ok-new-clause-begins : goal.returns-in-Ok-new-clause-begins
 returns-in-Ok-new-clause-begins g c =
     begins_over (is_read c.requires.whole c.in-Ok.ensures.devices.reads (c.in-Ok.ensures.devices.spared (λ device is. let no = is in cc)) c.forget_records.ensures c.in-Ok.ensures.recovers c.in-Ok.ensures.up
     (rw c.decls.ensures at c.in_ok-check_shape.ensures.same))
+    c.room_for-room.result c.room_for-room.ensures.asked
     _ _ c.in-Ok-settle.settled c.in-Ok-new.runtime c.in-Ok-settle.ensures.leaves.crashes c.new.ensures.vault (rw c.decls-2.ensures at c.in-Ok-settle.ensures.settles) c.in-Ok-settle.ensures.snapshots c.in-Ok-settle.ensures.answers.0 c.in-Ok-settle.ensures.leaves.records c.in-Ok-settle.ensures.answers.1.fits
     c.in-Ok-settle.ensures.answers.1.left
     (rw (c.config_of-config.ensures.snap, c.config_of-config.ensures.first) at c.in-Ok-new.ensures.begins)

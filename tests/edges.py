@@ -202,7 +202,7 @@ def each_file_with_bytes_wants_a_save():
 def a_stop_within_the_making_leaves_a_new_database():
     os.mkdir("vault")
     with open("vault/save.new", "wb") as file:
-        file.write(b"\xa5" * 3)
+        file.write(b"\xa5" * 1500)
     with open("vault/bank0", "wb"):
         pass
     keep_one()

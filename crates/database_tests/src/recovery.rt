@@ -90,20 +90,64 @@ fn catalogue(epoch: u64, previous: u64, root: u64) -> [u64; 64] {
 }
 
 // A leaf of that array with a value at index 2.
-fn leaf(epoch: u64, value: u64) -> [u64; 64] {
+fn leaf(epoch: u64, draw: u64, value: u64) -> [u64; 64] {
     let mut words = [0; 64];
-    words[4] = (epoch << 40) | 1;
+    words[4] = (epoch << 40) | draw;
     words[5] = value;
     words
 }
 
+// A page: a leaf with the epoch, draw and value of its record, or a catalogue with its epoch, the one before and the root.
+#[derive(Clone, Copy)]
+enum Page {
+    Leaf(u64, u64, u64),
+    Catalogue(u64, u64, u64),
+    /// The first catalogue of an array of four values and a tree.
+    FirstOfTwo,
+}
+
+fn words_of(page: Page) -> [u64; 64] {
+    match page {
+        Page::Leaf(epoch, draw, value) => leaf(epoch, draw, value),
+        Page::Catalogue(epoch, previous, root) => catalogue(epoch, previous, root),
+        Page::FirstOfTwo => first_of_two(),
+    }
+}
+
+fn first_of_two() -> [u64; 64] {
+    let mut words = catalogue(0, 0, 0);
+    words[0] = 0x4341_5400_0000_0002;
+    words[19] = 3 + 512;
+    words
+}
+
 // The bytes of pages.
-fn pages(alloc: Global, pages: &[[u64; 64]]) -> Result<Vec<u8>, AllocError> {
+fn pages(alloc: Global, pages: &[Page]) -> Result<Vec<u8>, AllocError> {
     let mut bytes = Vec::new(alloc);
     for page in pages {
-        bytes.extend_from_slice(&bytes_of(alloc, page)?)?;
+        bytes.extend_from_slice(&bytes_of(alloc, &words_of(*page))?)?;
     }
     Ok(bytes)
+}
+
+const FIRST: Page = Page::Catalogue(0, 0, 0);
+
+// Three snapshots.
+const THREE: [Page; 5] = [
+    FIRST,
+    Page::Leaf(1, 1, 5),
+    Page::Catalogue(1, 1, 2),
+    Page::Leaf(2, 1, 6),
+    Page::Catalogue(2, 3, 4),
+];
+
+// The same with another page at this index, if it is one of theirs.
+fn with_other(index: usize, page: Page) -> [Page; 5] {
+    let mut all = THREE;
+    if index < 5 {
+        all[index] = page;
+    }
+    all
 }
 
 // A log line that puts a value at key 2 of storage 1.
@@ -111,14 +155,45 @@ fn line(epoch: u64, draw: u64, value: u64) -> [u64; 5] {
     [(epoch << 40) | draw, 1, 1 + 256, 2, value]
 }
 
-// Both lines.
-fn two_lines(first: [u64; 5], second: [u64; 5]) -> [u64; 10] {
-    let mut words = [0; 10];
-    for i in 0..5 {
-        words[i] = first[i];
-        words[5 + i] = second[i];
+// One line of epoch 1, the same with another value, one behind it, and the first with a line of epoch 2.
+const LINE: &[u64] = &[(1 << 40) | 1, 1, 1 + 256, 2, 7];
+
+const OTHER: &[u64] = &[(1 << 40) | 1, 1, 1 + 256, 2, 8];
+
+const NEXT: &[u64] = &[(1 << 40) | 2, 1, 1 + 256, 2, 8];
+
+const TWO: &[u64] = &[
+    (1 << 40) | 1,
+    1,
+    1 + 256,
+    2,
+    7,
+    (2 << 40) | 3,
+    1,
+    1 + 256,
+    2,
+    9,
+];
+
+// A log file with these words.
+fn bank(alloc: Global, words: &[u64], fails: &[u64]) -> Result<MemDisk, AllocError> {
+    let bytes = bytes_of(alloc, words)?;
+    disk(alloc, &bytes, fails)
+}
+
+// The log files of one side, of which the one of this worker has words.
+fn side(
+    alloc: Global,
+    worker: u8,
+    words: &[u64],
+    fails: &[u64],
+) -> Result<Vec<MemDisk>, AllocError> {
+    let mut disks = Vec::new(alloc);
+    for number in 0..8u8 {
+        let some = if number == worker { words } else { &[] };
+        disks.push(bank(alloc, some, fails)?)?;
     }
-    words
+    Ok(disks)
 }
 
 // A database with these bytes, of which the log files 0 and 3 have some. The calls of these numbers fail on
@@ -133,16 +208,12 @@ fn vault(
     ensures { IfOk result (λ vault. IfTold (⟦<MemDisk as Disk>⟧.tells vault.save)
         (Only ⟦<MemDisk as Disk>⟧.clock ⟦<MemDisk as Disk>⟧.image_at vault.save)) }
 {
-    let (mut even, mut odd) = (Vec::new(alloc), Vec::new(alloc));
-    for worker in 0..8 {
-        let first = if worker == 0 { banks[0] } else { &[] };
-        let second = if worker == 1 { banks[1] } else { &[] };
-        even.push(disk(alloc, &bytes_of(alloc, first)?, fails)?)?;
-        odd.push(disk(alloc, &bytes_of(alloc, second)?, fails)?)?;
-    }
+    let even = side(alloc, 0, banks[0], fails)?;
+    let odd = side(alloc, 1, banks[1], fails)?;
+    let snaps = disk(alloc, snaps, fails)?;
     Ok(Vault {
         save: disk(alloc, save, fails)?,
-        snaps: disk(alloc, snaps, fails)?,
+        snaps,
         even,
         odd,
         ties: Records::new(alloc),
@@ -167,113 +238,171 @@ fn damaged(device: Device, at: u64) -> Told {
     Told::Damaged { device, at }
 }
 
+// What is told of a database of the first catalogue: saved epoch, lengths of the log files 0 to 3, words of 0 and 3.
+fn told_of_logs(
+    alloc: Global,
+    epoch: u64,
+    lengths: &[u64],
+    banks: [&[u64]; 2],
+) -> Result<Told, AllocError> {
+    let save = save(alloc, epoch, 1, lengths)?;
+    let first = pages(alloc, &[FIRST])?;
+    let vault = vault(alloc, &save, &first, banks, &[])?;
+    Ok(told_of(alloc, vault))
+}
+
+// And of one of these pages, without log files: saved epoch, and how many pages count.
+fn told_of_pages(alloc: Global, epoch: u64, count: u64, all: &[Page]) -> Result<Told, AllocError> {
+    let save = save(alloc, epoch, count, &[])?;
+    let snaps = pages(alloc, all)?;
+    let vault = vault(alloc, &save, &snaps, [&[], &[]], &[])?;
+    Ok(told_of(alloc, vault))
+}
+
+const SEVEN_AT_1: Told = Told::State {
+    epoch: 1,
+    value: Some(7),
+};
+
+const SIX_AT_2: Told = Told::State {
+    epoch: 2,
+    value: Some(6),
+};
+
+const SEVEN_AT_2: Told = Told::State {
+    epoch: 2,
+    value: Some(7),
+};
+
+const EIGHT_AT_2: Told = Told::State {
+    epoch: 2,
+    value: Some(8),
+};
+
+const NINE_AT_2: Told = Told::State {
+    epoch: 2,
+    value: Some(9),
+};
+
+// Of equal numbers the lower log file's wins, of others the greater number. In the last row the log file is shorter than
+// what counts.
+const LOGS: [(u64, [u64; 4], [&[u64]; 2], Told); 6] = [
+    (1, [40, 0, 0, 0], [TWO, &[]], SEVEN_AT_1),
+    (1, [80, 0, 0, 0], [TWO, &[]], SEVEN_AT_1),
+    (2, [80, 0, 0, 0], [TWO, &[]], NINE_AT_2),
+    (2, [40, 0, 0, 40], [LINE, OTHER], SEVEN_AT_2),
+    (2, [40, 0, 0, 40], [LINE, NEXT], EIGHT_AT_2),
+    (2, [80, 0, 0, 0], [LINE, &[]], SHORT_LOG),
+];
+
+const SHORT_LOG: Told = Told::Damaged {
+    device: Device::Bank(0),
+    at: 40,
+};
+
 #[test]
 fn what_counts_is_recovered(rt: HostRuntime) -> Result<(), Fail> {
     let alloc = rt.alloc();
-    let first = pages(alloc, &[catalogue(0, 0, 0)])?;
-    let fresh = vault(alloc, &[0; 1024], &[1, 2, 3], [&[7], &[]], &[])?;
-    let value = None;
-    is_so(
-        "fresh",
-        told_of(alloc, fresh) == Told::State { epoch: 0, value },
-    )?;
-    let two = two_lines(line(1, 1, 7), line(2, 3, 9));
-    // Saved epoch, lengths of the log files 0 and 3, their words, and what is told.
-    let cases: [(u64, [u64; 4], [&[u64]; 2], Told); 6] = [
-        (1, [40, 0, 0, 0], [&two, &[]], state(1, 7)),
-        (1, [80, 0, 0, 0], [&two, &[]], state(1, 7)),
-        (2, [80, 0, 0, 0], [&two, &[]], state(2, 9)),
-        // Of equal numbers the lower log file's wins, of others the greater number.
-        (
-            2,
-            [40, 0, 0, 40],
-            [&line(1, 1, 7), &line(1, 1, 8)],
-            state(2, 7),
-        ),
-        (
-            2,
-            [40, 0, 0, 40],
-            [&line(1, 1, 7), &line(1, 2, 8)],
-            state(2, 8),
-        ),
-        // The log file is shorter than what counts.
-        (
-            2,
-            [80, 0, 0, 0],
-            [&line(1, 1, 7), &[]],
-            damaged(Device::Bank(0), 40),
-        ),
-    ];
-    for (epoch, lengths, banks, want) in cases {
-        let save = save(alloc, epoch, 1, &lengths)?;
-        let found = told_of(alloc, vault(alloc, &save, &first, banks, &[])?);
-        is_so("what counts", found == want)?;
+    for (epoch, lengths, banks, want) in &LOGS {
+        let found = told_of_logs(alloc, *epoch, lengths, *banks)?;
+        is_so("what counts", found == *want)?;
     }
-    let short = vault(alloc, &[0; 3], &[], [&[], &[]], &[])?;
+    Ok(())
+}
+
+#[test]
+fn nothing_is_kept_in_a_closed_save(rt: HostRuntime) -> Result<(), Fail> {
+    let fresh = vault(rt.alloc(), &[0; 1024], &[1, 2, 3], [&[7], &[]], &[])?;
+    is_so("fresh", told_of(rt.alloc(), fresh) == NOTHING)
+}
+
+#[test]
+fn a_short_save_is_damaged(rt: HostRuntime) -> Result<(), Fail> {
+    let short = vault(rt.alloc(), &[0; 3], &[], [&[], &[]], &[])?;
     is_so(
         "a short save",
-        told_of(alloc, short) == damaged(Device::Save, 0),
+        told_of(rt.alloc(), short) == damaged(Device::Save, 0),
     )
 }
+
+const NOTHING: Told = Told::State {
+    epoch: 0,
+    value: None,
+};
 
 fn mark(epoch: u32, page: u32) -> SnapshotMark {
     SnapshotMark { epoch, page }
 }
 
+// Recovery names the three snapshots, the storage and the pages, and no entry counts.
+fn names_three(recovered: &Recovered) -> bool {
+    let marks = [mark(0, 1), mark(1, 3), mark(2, 5)];
+    (recovered.catalogues.as_slice() == marks.as_slice())
+        & (recovered.decls.len() == 1)
+        & (recovered.store.count() == 5)
+        & recovered.entries.is_empty()
+}
+
+fn recovers_three(alloc: Global, vault: &mut Vault<MemDisk>) -> bool {
+    if !vault.is_whole() {
+        return false;
+    }
+    match recover(alloc, vault) {
+        Ok(recovered) => names_three(&recovered),
+        Err(_) => false,
+    }
+}
+
+#[test]
+fn three_snapshots_are_named(rt: HostRuntime) -> Result<(), Fail> {
+    let alloc = rt.alloc();
+    let save = save(alloc, 2, 5, &[])?;
+    let snaps = pages(alloc, &THREE)?;
+    let mut vault = vault(alloc, &save, &snaps, [&[], &[]], &[])?;
+    is_so("three snapshots", recovers_three(alloc, &mut vault))
+}
+
+// That a page of the snapshots' file is damaged, at this byte.
+const FIRST_PAGE: Told = Told::Damaged {
+    device: Device::Snaps,
+    at: 0,
+};
+
+const THIRD_PAGE: Told = Told::Damaged {
+    device: Device::Snaps,
+    at: 1024,
+};
+
+const FOURTH_PAGE: Told = Told::Damaged {
+    device: Device::Snaps,
+    at: 1536,
+};
+
+const FIFTH_PAGE: Told = Told::Damaged {
+    device: Device::Snaps,
+    at: 2048,
+};
+
+// Saved epoch, index of the page that is another one, what it is, and what is told.
+const OTHERS: [(u64, usize, Page, Told); 6] = [
+    (2, 3, Page::Leaf(2, 1, 8), EIGHT_AT_2),
+    (2, 3, Page::Leaf(3, 1, 8), FOURTH_PAGE),
+    (1, 3, Page::Leaf(2, 1, 8), FIFTH_PAGE),
+    (2, 4, Page::Catalogue(1, 3, 4), THIRD_PAGE),
+    (2, 0, Page::Catalogue(0, 0, 1), FIRST_PAGE),
+    (2, 1, FIRST, SIX_AT_2),
+];
+
 #[test]
 fn snapshots_are_read_from_the_newest_back(rt: HostRuntime) -> Result<(), Fail> {
     let alloc = rt.alloc();
-    let three = [
-        catalogue(0, 0, 0),
-        leaf(1, 5),
-        catalogue(1, 1, 2),
-        leaf(2, 6),
-        catalogue(2, 3, 4),
-    ];
-    let mut named = vault(
-        alloc,
-        &save(alloc, 2, 5, &[])?,
-        &pages(alloc, &three)?,
-        [&[], &[]],
-        &[],
-    )?;
-    if named.is_whole() {
-        let recovered = recover(alloc, &mut named).expect(&rt, "three snapshots");
-        let marks = [mark(0, 1), mark(1, 3), mark(2, 5)];
-        is_so(
-            "catalogues",
-            recovered.catalogues.as_slice() == marks.as_slice(),
-        )?;
-        is_so("storages", recovered.decls.len() == 1)?;
-        is_so("pages", recovered.store.count() == 5)?;
-        is_so("entries", recovered.entries.is_empty())?;
+    for (epoch, index, page, want) in &OTHERS {
+        let found = told_of_pages(alloc, *epoch, 5, &with_other(*index, *page))?;
+        is_so("another page", found == *want)?;
     }
-    // Saved epoch, index of the page that is another one, what it is, and what is told.
-    let cases = [
-        (2, 3, leaf(2, 8), state(2, 8)),
-        (2, 3, leaf(3, 8), damaged(Device::Snaps, 1536)),
-        (1, 3, leaf(2, 8), damaged(Device::Snaps, 2048)),
-        (2, 4, catalogue(1, 3, 4), damaged(Device::Snaps, 1024)),
-        (2, 0, catalogue(0, 0, 1), damaged(Device::Snaps, 0)),
-        (2, 1, catalogue(0, 0, 0), state(2, 6)),
-    ];
-    for (epoch, index, page, want) in cases {
-        let mut all = three;
-        if index < 5 {
-            all[index] = page;
-        }
-        let save = save(alloc, epoch, 5, &[])?;
-        let found = told_of(
-            alloc,
-            vault(alloc, &save, &pages(alloc, &all)?, [&[], &[]], &[])?,
-        );
-        is_so("another page", found == want)?;
-    }
-    let save = save(alloc, 2, 6, &[])?;
-    let short = vault(alloc, &save, &pages(alloc, &three)?, [&[], &[]], &[])?;
     is_so(
         "too few pages",
-        told_of(alloc, short) == damaged(Device::Snaps, 2560),
+        told_of_pages(alloc, 2, 6, &THREE)? == damaged(Device::Snaps, 2560),
     )
 }
 
@@ -307,16 +436,13 @@ fn told_of_place(byte: usize, newest: bool) -> Told {
 #[test]
 fn each_byte_of_the_save_is_another_one(rt: HostRuntime) -> Result<(), Fail> {
     let alloc = rt.alloc();
-    let first = pages(alloc, &[catalogue(0, 0, 0)])?;
+    let first = pages(alloc, &[FIRST])?;
     for at in 0..1024 {
         let mut save = save(alloc, 1, 1, &[40])?;
         if at < save.len() {
             save[at] ^= 0xFF;
         }
-        let found = told_of(
-            alloc,
-            vault(alloc, &save, &first, [&line(1, 1, 7), &[]], &[])?,
-        );
+        let found = told_of(alloc, vault(alloc, &save, &first, [LINE, &[]], &[])?);
         is_so(
             "a byte of the save",
             found == told_of_place(at % 512, at >= 512),
@@ -330,7 +456,7 @@ fn each_byte_of_the_snapshots_is_another_one(rt: HostRuntime) -> Result<(), Fail
     let alloc = rt.alloc();
     let save = save(alloc, 1, 1, &[40])?;
     for at in 0..512 {
-        let mut snaps = pages(alloc, &[catalogue(0, 0, 0)])?;
+        let mut snaps = pages(alloc, &[FIRST])?;
         if at < snaps.len() {
             snaps[at] ^= 0xFF;
         }
@@ -341,10 +467,7 @@ fn each_byte_of_the_snapshots_is_another_one(rt: HostRuntime) -> Result<(), Fail
             142 | 143 => state(1, 7),
             _ => damaged(Device::Snaps, 0),
         };
-        let found = told_of(
-            alloc,
-            vault(alloc, &save, &snaps, [&line(1, 1, 7), &[]], &[])?,
-        );
+        let found = told_of(alloc, vault(alloc, &save, &snaps, [LINE, &[]], &[])?);
         is_so("a byte of the snapshots", found == want)?;
     }
     Ok(())
@@ -353,8 +476,6 @@ fn each_byte_of_the_snapshots_is_another_one(rt: HostRuntime) -> Result<(), Fail
 #[test]
 fn each_byte_of_a_log_line_is_another_one(rt: HostRuntime) -> Result<(), Fail> {
     let alloc = rt.alloc();
-    let save = save(alloc, 1, 1, &[40])?;
-    let first = pages(alloc, &[catalogue(0, 0, 0)])?;
     for at in 0..40usize {
         let mask = 0xFF << (56 - 8 * (at as u64 % 8));
         let mut words = line(1, 1, 7);
@@ -369,7 +490,7 @@ fn each_byte_of_a_log_line_is_another_one(rt: HostRuntime) -> Result<(), Fail> {
             32..=39 => state(1, 7 ^ mask),
             _ => damaged(Device::Bank(0), 0),
         };
-        let found = told_of(alloc, vault(alloc, &save, &first, [&words, &[]], &[])?);
+        let found = told_of_logs(alloc, 1, &[40], [&words, &[]])?;
         is_so("a byte of a log line", found == want)?;
     }
     Ok(())
@@ -379,8 +500,8 @@ fn each_byte_of_a_log_line_is_another_one(rt: HostRuntime) -> Result<(), Fail> {
 fn a_failed_call_is_told_of_its_device(rt: HostRuntime) -> Result<(), Fail> {
     let alloc = rt.alloc();
     let save = save(alloc, 1, 1, &[40])?;
-    let first = pages(alloc, &[catalogue(0, 0, 0)])?;
-    let failing = vault(alloc, &save, &first, [&line(1, 1, 7), &[]], &[0])?;
+    let first = pages(alloc, &[FIRST])?;
+    let failing = vault(alloc, &save, &first, [LINE, &[]], &[0])?;
     let device = Device::Save;
     is_so(
         "a call fails",

@@ -93,7 +93,7 @@ fn a_folder_is_a_vault(rt: HostRuntime) -> Result<(), Fail> {
     let _old = fs::remove_dir_all(&rt, folder);
     // A process that was stopped while it made the savepoint's file leaves some of it under another name.
     fs::create_dir(&rt, folder)?;
-    fs::write(&rt, "foedus_vault/save.new", [165; 3].as_slice())?;
+    fs::write(&rt, "foedus_vault/save.new", [165; 1_500].as_slice())?;
     make_files(&rt, folder)?;
     check_file(&rt, "foedus_vault/save", &[0; 1024])?;
     check_file(&rt, "foedus_vault/snaps", &[])?;

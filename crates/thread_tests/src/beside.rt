@@ -1,6 +1,6 @@
 // The maintenance thread's lines beside the workers'.
 use super::*;
-use crate::threads::{check_round, text_of};
+use crate::threads::{HOW, check_round, dealt, may_tell, text_of};
 use outside::Gate;
 use serial_model::Plain;
 use std::sync::atomic::{AtomicU64, Ordering};
@@ -270,29 +270,34 @@ fn check_mixed<R: AllocGlobal>(
         if line.starts_with("k.") {
             check_keeper(line, so_far)?;
         } else {
-            is_so(line, line.contains(" ok "))?;
             workers.push(*line)?;
         }
     }
     check_round(rt, plain, round, &workers)
 }
 
-// Runs such a script on threads, and checks each round, and what the database keeps.
-fn run_mixed<R: Threads + Wait + Sync + AllocGlobal>(rt: &R, bytes: &[u8]) -> Result<(), Fail> {
+// Runs such a script on threads in this way, and checks each round, and what the database keeps. Answers how many pages
+// were dropped.
+fn run_mixed<R: Threads + Wait + Sync + AllocGlobal>(
+    rt: &R,
+    asked: &str,
+    bytes: &[u8],
+) -> Result<u32, Fail> {
     let alloc = rt.alloc();
     let Ok(script) = read_script(alloc, bytes) else {
         return Err(Fail::from("no script"));
     };
     let mut vault = fresh_vault(alloc)?;
-    let asked = "run --tries 1000000 --slots 256";
     let (status, told) = answer_by(rt, &mut vault, asked, bytes, &OpenGate)?;
-    is_so(asked, status == 0)?;
-    let kept = check_all(rt, &script, str::from_utf8(&told)?)?;
-    check_answer(rt, &mut vault, "dump", b"", (0, kept.as_slice()))
+    let told = str::from_utf8(&told)?;
+    is_so(asked, status == 0 && may_tell(asked, told))?;
+    let (kept, dropped) = check_all(rt, &script, told)?;
+    check_answer(rt, &mut vault, "dump", b"", (0, kept.as_slice()))?;
+    Ok(dropped)
 }
 
-// Checks each round, and answers what the database is to keep.
-fn check_all<R: AllocGlobal>(rt: &R, script: &Script, told: &str) -> Result<Vec<u8>, Fail> {
+// Checks each round, and answers what the database is to keep, and how many pages were dropped.
+fn check_all<R: AllocGlobal>(rt: &R, script: &Script, told: &str) -> Result<(Vec<u8>, u32), Fail> {
     let alloc = rt.alloc();
     let mut plain = Plain::new(alloc, script.decls())?;
     let mut so_far = KeptSoFar {
@@ -313,8 +318,25 @@ fn check_all<R: AllocGlobal>(rt: &R, script: &Script, told: &str) -> Result<Vec<
         so_far.saved = so_far.epoch;
         so_far.epoch = so_far.epoch.wrapping_add(1);
     }
-    is_so("pages were dropped", so_far.dropped > 0)?;
-    text_of(alloc, &plain, so_far.saved)
+    let kept = text_of(alloc, &plain, so_far.saved)?;
+    Ok((kept, so_far.dropped))
+}
+
+// The scripts of the rows that are run to their end, and have lines of the maintenance thread's.
+#[test]
+fn lines_beside_it_may_be_any_workers(rt: HostRuntime) -> Result<(), Fail> {
+    for row in CASES.lines() {
+        let script = part(row, 1);
+        if part(row, 0) == "run" && part(row, 2) == "0" && script.contains("k ") {
+            for workers in [1, 2, 8] {
+                let bytes = dealt(rt.alloc(), script, workers)?;
+                for asked in HOW {
+                    let _dropped = run_mixed(&rt, asked, &bytes)?;
+                }
+            }
+        }
+    }
+    Ok(())
 }
 
 // Saves, epochs, snapshots and drops at random places among a hundred thousand lines of eight workers.
@@ -322,7 +344,8 @@ fn check_all<R: AllocGlobal>(rt: &R, script: &Script, told: &str) -> Result<Vec<
 fn keeper_lines_run_at_any_time(rt: HostRuntime) -> Result<(), Fail> {
     for seed in 1..6u64 {
         let script = mixed(rt.alloc(), seed, 40, 500)?;
-        run_mixed(&rt, script.as_bytes())?;
+        let dropped = run_mixed(&rt, "run --tries 1000000 --slots 256", script.as_bytes())?;
+        is_so("pages were dropped", dropped > 0)?;
     }
     Ok(())
 }

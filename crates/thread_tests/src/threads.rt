@@ -165,10 +165,10 @@ const MANY_SLOTS: &str = "run --tries 1000000 --slots 4096";
 
 const ONE_TRY: &str = "run --tries 1";
 
-const HOW: [&str; 4] = [FEW_SLOTS, SOME_SLOTS, MANY_SLOTS, ONE_TRY];
+pub(crate) const HOW: [&str; 4] = [FEW_SLOTS, SOME_SLOTS, MANY_SLOTS, ONE_TRY];
 
 // Whether what is told has no line that is full or in conflict, or how the script was run allows it.
-fn may_tell(asked: &str, told: &str) -> bool {
+pub(crate) fn may_tell(asked: &str, told: &str) -> bool {
     let is_full = told.contains(" full\n");
     let is_in_conflict = told.contains(" conflict\n");
     (!is_full || asked == FEW_SLOTS) && (!is_in_conflict || asked == ONE_TRY)
@@ -295,7 +295,7 @@ fn eight_workers_are_summed_up(rt: HostRuntime) -> Result<(), Fail> {
 }
 
 // A script with its lines dealt to so many workers, one after another.
-fn dealt(alloc: Global, script: &str, workers: u8) -> Result<Vec<u8>, AllocError> {
+pub(crate) fn dealt(alloc: Global, script: &str, workers: u8) -> Result<Vec<u8>, AllocError> {
     let mut bytes = Vec::new(alloc);
     let mut worker = 0u8;
     for line in script.split('|') {

@@ -1,24 +1,26 @@
 // The snapshots of a worked database, by their epochs.
+ghost use Rattle.recovery_core.specs.Recovered.{IsUp};
+
 use super::*;
 use recovery_core::snapshot;
+use serial_model::State;
+
+// What is told of a snapshot's state.
+fn told_of_state(state: &State, epoch: u32) -> Told {
+    let value = state.get(Key { storage: 1, key: 2 });
+    if state.len() != usize::from(value.is_some()) {
+        return Told::Other;
+    }
+    Told::State { epoch, value }
+}
 
 // What is told of the snapshot of an epoch; nothing where there is none.
-fn snapshot_told(alloc: Global, mut vault: Vault<MemDisk>, epoch: u32) -> Option<Told> {
-    if !vault.is_whole() {
-        return Some(Told::Other);
-    }
-    let Ok(recovered) = recover(alloc, &mut vault) else {
-        return Some(Told::Other);
-    };
-    match snapshot(alloc, &recovered, epoch) {
+fn told_in(alloc: Global, recovered: &Recovered, epoch: u32) -> Option<Told>
+    requires { IsUp recovered.now }
+{
+    match snapshot(alloc, recovered, epoch) {
         Ok(None) => None,
-        Ok(Some(state)) => {
-            let value = state.get(Key { storage: 1, key: 2 });
-            if state.len() != usize::from(value.is_some()) {
-                return Some(Told::Other);
-            }
-            Some(Told::State { epoch, value })
-        }
+        Ok(Some(state)) => Some(told_of_state(&state, epoch)),
         Err(OrMemory::Fault(RecoverFault::Damaged { device, at })) => {
             Some(Told::Damaged { device, at })
         }
@@ -26,43 +28,61 @@ fn snapshot_told(alloc: Global, mut vault: Vault<MemDisk>, epoch: u32) -> Option
     }
 }
 
+fn snapshot_told(alloc: Global, vault: &mut Vault<MemDisk>, epoch: u32) -> Option<Told> {
+    if !vault.is_whole() {
+        return Some(Told::Other);
+    }
+    match recover(alloc, vault) {
+        Ok(recovered) => told_in(alloc, &recovered, epoch),
+        Err(_) => Some(Told::Other),
+    }
+}
+
+// The same of three snapshots, of which one page may be another one.
+fn snapshot_among(
+    alloc: Global,
+    index: usize,
+    page: Page,
+    epoch: u32,
+) -> Result<Option<Told>, AllocError> {
+    let save = save(alloc, 2, 5, &[])?;
+    let snaps = pages(alloc, &with_other(index, page))?;
+    let mut vault = vault(alloc, &save, &snaps, [&[], &[]], &[])?;
+    Ok(snapshot_told(alloc, &mut vault, epoch))
+}
+
+const FIVE_AT_1: Told = Told::State {
+    epoch: 1,
+    value: Some(5),
+};
+
+const EIGHT_AT_1: Told = Told::State {
+    epoch: 1,
+    value: Some(8),
+};
+
+const SECOND_PAGE: Told = Told::Damaged {
+    device: Device::Snaps,
+    at: 512,
+};
+
+// Index of the page that is another one, what it is, the epoch that is asked for, and what is told. That no number is
+// above the snapshot's epoch is asked of the newest one alone. Recovery doesn't read the pages of older snapshots.
+const SNAPSHOTS: [(usize, Page, u32, Option<Told>); 7] = [
+    (5, FIRST, 0, Some(NOTHING)),
+    (5, FIRST, 1, Some(FIVE_AT_1)),
+    (5, FIRST, 2, Some(SIX_AT_2)),
+    (5, FIRST, 3, None),
+    (1, Page::Leaf(3, 1, 8), 1, Some(EIGHT_AT_1)),
+    (1, FIRST, 1, Some(SECOND_PAGE)),
+    (1, FIRST, 2, Some(SIX_AT_2)),
+];
+
 #[test]
 fn each_snapshot_is_read_by_its_epoch(rt: HostRuntime) -> Result<(), Fail> {
-    let alloc = rt.alloc();
-    let three = [
-        catalogue(0, 0, 0),
-        leaf(1, 5),
-        catalogue(1, 1, 2),
-        leaf(2, 6),
-        catalogue(2, 3, 4),
-    ];
-    let empty = Told::State {
-        epoch: 0,
-        value: None,
-    };
-    // Index of the page that is another one, what it is, the epoch that is asked for, and what is told.
-    let cases: [(usize, [u64; 64], u32, Option<Told>); 7] = [
-        (5, leaf(1, 5), 0, Some(empty)),
-        (5, leaf(1, 5), 1, Some(state(1, 5))),
-        (5, leaf(1, 5), 2, Some(state(2, 6))),
-        (5, leaf(1, 5), 3, None),
-        // That no number is above the snapshot's epoch is asked of the newest one alone.
-        (1, leaf(3, 8), 1, Some(state(1, 8))),
-        // Recovery doesn't read the pages of older snapshots.
-        (1, catalogue(0, 0, 0), 1, Some(damaged(Device::Snaps, 512))),
-        (1, catalogue(0, 0, 0), 2, Some(state(2, 6))),
-    ];
-    for (index, page, epoch, want) in cases {
-        let mut all = three;
-        if index < 5 {
-            all[index] = page;
-        }
-        let save = save(alloc, 2, 5, &[])?;
-        let asked = vault(alloc, &save, &pages(alloc, &all)?, [&[], &[]], &[])?;
-        is_so(
-            "an older snapshot",
-            snapshot_told(alloc, asked, epoch) == want,
-        )?;
+    for (index, page, epoch, want) in &SNAPSHOTS {
+        let found = snapshot_among(rt.alloc(), *index, *page, *epoch)?;
+        is_so("an older snapshot", found == *want)?;
     }
     Ok(())
 }

@@ -3,12 +3,12 @@
 makes the same log lines, writes and syncs in the same rhythm.
 
 Scripts of 65,536 lines by 1, 2, 4 and 8 workers: two additions a line to two arrays, as `foedus make` has them; the
-same with each worker on keys of its own; transfers among 1,024 keys; additions to one key; sixteen reads; and rounds
-of 64 and of 8 lines, with fewer lines in all. A line is tried up to a million times; where one was in conflict at each
-of them, the run is made again. Each run begins with a fresh database whose files were made before it. Both programs
-print each line's outcome, and in a second row what a run in brief tells, for which both read their files again. They
-have to tell as many commits, the same sum and the same epoch; by one worker each word. They run in turn, and of each the
-middle and the least of its seconds are told.
+same with each worker on keys of its own; transfers among 1,024 keys; additions to one key; sixteen reads, of 1,024
+values and of 131,072; and rounds of 64 and of 8 lines, with fewer lines in all. A line is tried up to a million times;
+where one was in conflict at each of them, the run is made again. Each run begins with a fresh database whose files
+were made before it. Both programs print each line's outcome, and in a second row what a run in brief tells, for which
+both read their files again. They have to tell as many commits, the same sum and the same epoch; by one worker each
+word. They run in turn, and of each the middle and the least of its seconds are told.
 Usage: bench/measure_rounds.py PROGRAM [FOLDER], where PROGRAM is the built program and FOLDER lies on the disk that is
 to be measured; without it, in memory.
 """
@@ -21,6 +21,7 @@ import tempfile
 from bench import COMPILE, HERE, over_fresh, row
 
 LINES = 65536
+DEEP = 131072  # values of an array below three pages, one over another
 ROUND = 64
 TIMES = 7
 TRIES = "1000000"
@@ -61,8 +62,12 @@ def reads(workers, i, draw):
     return "; ".join(f"r 1 {draw() % 1024}" for _ in range(16))
 
 
+def deep(workers, i, draw):
+    return "; ".join(f"r 1 {draw() * 4 % DEEP}" for _ in range(16))
+
+
 def script(kind, workers, lines, every):
-    draw, text = Draws(7), ["array 1 1024", "array 2 512"]
+    draw, text = Draws(7), [f"array 1 {DEEP if kind is deep else 1024}", "array 2 512"]
     if kind is transfer:
         text += [f"0 " + "; ".join(f"w 1 {key + j} 1000000" for j in range(16)) for key in range(0, 1024, 16)] + ["join"]
     for i in range(lines):
@@ -115,6 +120,7 @@ def main():
         plain, source = f"{built}/plain_rounds", f"{built}/script"
         subprocess.run(COMPILE[:-1] + ["-pthread", "-o", plain, f"{HERE}/plain_rounds.cpp"], check=True)
         kinds = [("two additions", made), ("apart", apart), ("transfers", transfer), ("one key", hot), ("16 reads", reads)]
+        kinds += [("16 reads below three pages", deep)]
         cases = [(name, kind, LINES, 0) for name, kind in kinds]
         cases += [(f"rounds of {ROUND} lines", made, 4096, ROUND), ("rounds of 8 lines", made, 512, 8)]
         for name, kind, lines, every in cases:

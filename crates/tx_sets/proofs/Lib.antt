@@ -1,3 +1,4 @@
 mod MarkLaws
 mod NoteLaws
+mod RenewLaws
 mod SetLaws

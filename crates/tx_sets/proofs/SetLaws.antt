@@ -96,7 +96,7 @@ first_at p xs i at = by_length xs i (there (position_or_len p xs) (length xs) at
       | inr miss ↦ or_from (p x) (list_any p (take j l)) miss (by_length l j (grind (arith, nat_tests)))
     ]
 
-map_set : {E K : Type 0} (f : E → K) (xs : List E) (i : ℕ) (d y : E) → i < length xs → f (get_or xs i d) ≡ f y
+pub map_set : {E K : Type 0} (f : E → K) (xs : List E) (i : ℕ) (d y : E) → i < length xs → f (get_or xs i d) ≡ f y
     → map f (set xs i y) ≡ map f xs
 map_set f [] i d y within same = absurd (omega (arith, within))
 map_set f (x ∷ xs) zero d y within same = ap (λ k. k ∷ map f xs) (sym same)
@@ -106,7 +106,7 @@ map_set f (x ∷ xs) (suc i) d y within same = ap (λ l. f x ∷ l) (map_set f x
 refill_whole : {E : Type 0} (xs ws : List E) → length ws ≡ length xs → refill (length xs) xs ws ≡ ws
 refill_whole xs ws same = take_at ws (drop (length ws) xs) (length xs) same
 
-set_whole : {E : Type 0} (xs slice : List E) (i : ℕ) (y : E) → slice ≡ xs → refill (length xs) xs (set slice i y)
+pub set_whole : {E : Type 0} (xs slice : List E) (i : ℕ) (y : E) → slice ≡ xs → refill (length xs) xs (set slice i y)
     ≡ set xs i y
 set_whole xs slice i y same =
     ap (λ l. refill (length xs) xs (set l i y)) same ∙ refill_whole xs (set xs i y) (length-set xs i y)
@@ -197,14 +197,14 @@ value_set key v old xs slice i old-is slice-is at =
       first = first_at (λ w. same_key w.key key) xs i at;
     }
 
--- where no write is of the key, none is found
-pub none_there : (p : Write → Bool) (xs : List Write) → position p xs ≡ None → list_any p xs ≡ false
-none_there p xs none = by_length xs (beyond (position_or_len p xs) (length xs) none)
+-- where none passes the test, none is found
+pub none_there : {E : Type 0} (p : E → Bool) (xs : List E) → position p xs ≡ None → list_any p xs ≡ false
+none_there {E} p xs none = by_length xs (beyond (position_or_len p xs) (length xs) none)
   where
     beyond : (n m : ℕ) → cond (nat_lt n m) (Some n) None ≡ None → m ≤ n
     beyond n m is = elim (cases_lt n m) [ inl less ↦ absurd (grind (arith, nat_tests)) | inr le ↦ le ]
 
-    by_length : (l : List Write) → length l ≤ position_or_len p l → list_any p l ≡ false
+    by_length : (l : List E) → length l ≤ position_or_len p l → list_any p l ≡ false
     by_length [] le = refl
     by_length (x ∷ l) le = elim (cases_Bool (p x)) [
       | inl hit ↦ absurd (grind (arith, nat_tests))

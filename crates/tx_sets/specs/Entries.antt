@@ -1,6 +1,7 @@
 -- What the sets of a transaction have, and what a call leaves of them.
-use Rattle.std.specs.Prelude.{◌≡◌, ◌↔◌, ℕ, ◌<◌, ◌==◌, ◌%◌, ◌*◌, ◌/◌, Bool, true, false, List, [], ◌∷◌, ◌++◌, map, length, Option}
-use Rattle.std.specs.Prelude.{Result, IsOk, OnOk, OnErr, IfErr, get_or}
+use Rattle.std.specs.Prelude.{◌≡◌, ◌↔◌, ℕ, ◌+◌, ◌<◌, ◌==◌, ◌%◌, ◌*◌, ◌/◌, ◌&&◌, Bool, true, false, List, []}
+use Rattle.std.specs.Prelude.{◌∷◌, ◌++◌, map, length, Option, Result, IsOk, OnOk, OnErr, IfErr, get_or, nat_le, nat_lt}
+use Rattle.std.specs.Prelude.{if◌then◌else◌}
 use Rattle.std.specs.List.{AllByRecursion, find, list_any}
 use Rattle.std.specs.Option.{option_map}
 use Rattle.serial_model.specs.declared.key.Key.{Key}
@@ -61,6 +62,24 @@ has_word at seen = list_any (λ s. s.at == at) seen
 abbrev pub word_at : ℕ → List Seen → Option ℕ
 word_at at seen = option_map (λ s. s.word) (find (λ s. s.at == at) seen)
 
+-- what was seen there is this now, where it is the word at this place
+abbrev pub renewed_at : ℕ → ℕ → Seen → Seen
+renewed_at at word s = if s.at == at then record s { word = word } else s
+
+-- the same words, but for the one at this place
+abbrev pub renewed : ℕ → ℕ → List Seen → List Seen
+renewed at word seen = map (renewed_at at word) seen
+
+-- ---- the words of one page
+
+-- how many words a page has
+abbrev pub page_words : ℕ
+page_words = 64
+
+-- the word at this place is one of the page that begins there
+abbrev pub is_in_page : ℕ → ℕ → Bool
+is_in_page first at = nat_le first at && nat_lt at (first + page_words)
+
 -- ---- records that were read
 
 -- the keys of the records that were read, in the order of the set
@@ -74,6 +93,10 @@ has_read key reads = list_any (λ r. same_key r.key key) reads
 -- what was read of the key's record
 abbrev pub read_of : Key → List ReadEntry → Option ReadEntry
 read_of key reads = find (λ r. same_key r.key key) reads
+
+-- the first record of those that were read whose word is one of the page
+abbrev pub read_in : ℕ → List ReadEntry → Option ReadEntry
+read_in first reads = find (λ r. is_in_page first r.at) reads
 
 -- the hash of a key, which is one of 128
 abbrev pub hash_of : Key → ℕ
@@ -105,6 +128,10 @@ writes_at at writes = list_any (λ w. w.at == at) writes
 -- what is written at a key, where it is written: a value, or its removal
 abbrev pub value_of : Key → List Write → Option (Option ℕ)
 value_of key writes = option_map (λ w. w.value) (find (λ w. same_key w.key key) writes)
+
+-- the first write of a record whose word is one of the page
+abbrev pub write_in : ℕ → List Write → Option Write
+write_in first writes = find (λ w. is_in_page first w.at) writes
 
 -- the set took one write more, in its place in the order, or is full and gave it back
 pub record IsPut (x : Write) (old new : List Write) (result : Result (Unit {0}) Write) : Type 0 where

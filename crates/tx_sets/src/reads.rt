@@ -3,8 +3,9 @@ ghost use Rattle.std.specs.Prelude.{◌≡◌, ◌==◌, ◌<◌, ◌≤◌, tru
 ghost use Rattle.std.specs.List.{find, list_any};
 ghost use Rattle.homes.specs.Homes.{same_key};
 ghost use Rattle.lists.specs.Each.{AreDistinct};
-ghost use Rattle.tx_sets.specs.Entries.{has_read, hash_of, read_keys, read_of, AreMarked, IsPushed};
+ghost use Rattle.tx_sets.specs.Entries.{has_read, hash_of, read_in, read_keys, read_of, AreMarked, IsPushed};
 
+use crate::seen::PAGE_WORDS;
 use serial_model::Key;
 use std::marker::Model;
 
@@ -101,6 +102,13 @@ impl ReadSet {
         read_of(self.as_slice(), key)
     }
 
+    /// What was first read of a record whose word is one of the page of 64 words that begins here.
+    pub fn find_in(&self, first: u32) -> Option<ReadEntry>
+        ensures { result ≡ read_in first self.now }
+    {
+        read_in(self.as_slice(), first)
+    }
+
     /// Adds a record that was not read yet. It is given back where there is no room.
     #[inline(always)]
     pub fn push(&mut self, entry: ReadEntry) -> Result<(), ReadEntry>
@@ -176,4 +184,14 @@ fn read_of(entries: &[ReadEntry], key: Key) -> Option<ReadEntry>
         at += 1;
     }
     None
+}
+
+fn read_in(entries: &[ReadEntry], first: u32) -> Option<ReadEntry>
+    ensures { result ≡ read_in first entries.now }
+{
+    let end = u64::from(first) + PAGE_WORDS;
+    entries
+        .iter()
+        .copied()
+        .find(|entry| first <= entry.at && u64::from(entry.at) < end)
 }

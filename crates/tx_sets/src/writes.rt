@@ -4,8 +4,9 @@ ghost use Rattle.std.specs.List.{position};
 ghost use Rattle.homes.specs.Homes.{same_key};
 ghost use Rattle.lists.specs.Each.{AreDistinct};
 ghost use Rattle.tx_sets.specs.Entries.{IsAscending, IsPlaceOf, IsPut, IsRewritten, value_of, has_write, writes_at};
-ghost use Rattle.tx_sets.specs.Entries.{record_places_of};
+ghost use Rattle.tx_sets.specs.Entries.{record_places_of, write_in};
 
+use crate::seen::PAGE_WORDS;
 use arrayvec::ArrayVec;
 use serial_model::Key;
 use std::marker::Model;
@@ -96,6 +97,13 @@ impl WriteSet {
             .map(|write| write.value)
     }
 
+    /// A write of a record whose word is one of the page of 64 words that begins here.
+    pub fn find_in(&self, first: u32) -> Option<Write>
+        ensures { result ≡ write_in first self.now }
+    {
+        write_in(self.writes.as_slice(), first)
+    }
+
     /// Adds a write of a key, and of a record, that are not in the set yet. It is given back where there is no room.
     #[inline(always)]
     pub fn push(&mut self, write: Write) -> Result<(), Write>
@@ -146,4 +154,14 @@ fn index_of(writes: &[Write], key: Key) -> Option<usize>
     ensures { result ≡ position (λ w. same_key w.key key) writes.now }
 {
     writes.iter().position(|write| write.key == key)
+}
+
+fn write_in(writes: &[Write], first: u32) -> Option<Write>
+    ensures { result ≡ write_in first writes.now }
+{
+    let end = u64::from(first) + PAGE_WORDS;
+    writes
+        .iter()
+        .copied()
+        .find(|write| first <= write.at && u64::from(write.at) < end)
 }

@@ -25,7 +25,7 @@ returns-in-Some c =
 
 pub returns-in_default : goal.returns-in_default
 returns-in_default c =
-    let none = none_there (λ w. same_key w.key c.args.key) c.as_slice.result.now
+    let none = none_there (λ (w : Write). same_key w.key c.args.key) c.as_slice.result.now
     (sym c.index_of.ensures ∙ c.in_default.is) in
     let same = c.as_slice.ensures.value ∙ c.self.view_is in
     absurd (true≢false (sym c.requires.present

@@ -1,21 +1,19 @@
 -- Attempts and their transactions, worked by hand: storage 1 is an array, storage 2 a tree.
-use Rattle.std.proofs.Common.{◌≡◌, ◌⊎◌, inl, inr, ℕ, Bool, true, false, cond, List, [], ◌∷◌, Option, Some, None, refl, sym, ap, ◌∙◌, subst}
+use Rattle.std.proofs.Common.{◌≡◌, inl, inr, ℕ, true, List, [], ◌∷◌, Option, Some, None, refl}
 use Rattle.serial_model.specs.declared.key.Key.{Key}
 use Rattle.serial_model.specs.declared.number.Number.{Number}
 use Rattle.serial_model.specs.declared.number.Change.{Change}
 use Rattle.serial_model.specs.declared.decl.Decl.{Decl}
 use Rattle.serial_model.specs.declared.decl.Decl.TheVariants.{Array, Tree}
 use Rattle.serial_model.specs.declared.op.Op.TheVariants.{Read, Write, Remove, Add, Take}
-use Rattle.serial_model.specs.declared.reply.Reply.TheVariants.{Value, Absent}
+use Rattle.serial_model.specs.declared.reply.Reply.TheVariants.{Value}
 use Rattle.serial_model.specs.declared.reply.Verdict.TheVariants.{Done, Short}
 use Rattle.commit_core.specs.declared.part.Part.{Part}
 use Rattle.commit_core.specs.declared.attempt.Attempt.{Attempt}
-use Rattle.commit_core.specs.Keys.{same_key, content_of, written}
+use Rattle.commit_core.specs.Keys.{content_of}
 use Rattle.lists.specs.Elements.{in_none, in_head}
 use Rattle.commit_core.specs.Parts.{covers, found, record_part}
-use Rattle.serial_bridge.specs.Transaction.{Vouched, Sees, Continues, Stops, Finished, finished, Runs, LeavesOut, IsAttemptOf}
-use Rattle.commit_core.specs.Lemmas.Keys.{same_key-true}
-use Rattle.serial_bridge.specs.Laws.{written-wrote}
+use Rattle.serial_bridge.specs.Transaction.{Vouched, Sees, Continues, Stops, Finished, finished, Runs, IsAttemptOf}
 
 abbrev storages : List Decl
 storages = Array 1 4 ∷ Tree 2 ∷ []
@@ -80,24 +78,26 @@ unread f is = unseen is.1.1.0 is.1.1.1
 abbrev nothing_read : Attempt
 nothing_read = record { seat = 0; number = at 1 2; parts = part (leaf 9) None ∷ []; writes = [] }
 
--- a key of a tree that was read as absent is removed: the attempt has the read and no write
+-- a key of a tree where nothing is there is removed: the attempt has the read and no write
 removal_of_nothing : IsAttemptOf storages
-    (record { round = 0; worker = 0; line = 0; ops = Read (leaf 9) ∷ Remove (leaf 9) ∷ []; verdict = Done; number = at 1 2; replies = Absent ∷ [] })
+    (record { round = 0; worker = 0; line = 0; ops = Remove (leaf 9) ∷ []; verdict = Done; number = at 1 2; replies = [] })
     nothing_read
-removal_of_nothing =
-    let own : List Change = change (leaf 9) None ∷ [] in
-    let remove : Runs storages (part (leaf 9) None ∷ []) (Remove (leaf 9) ∷ []) [] (finished Done [] own) = (refl, (Continues None own, refl, (finished Done [] own, refl, refl))) in record {
-      number = refl;
-      own = own;
-      runs = (refl, (Continues (Some Absent) [], (None, inr (refl, there), refl), (finished Done [] own, remove, refl)));
-      writes = λ k. by_test k (same_key (leaf 9) k) refl;
-    }
+removal_of_nothing = record {
+  number = refl;
+  own = [];
+  runs = (refl, (Continues None [], (None, inr (refl, there), refl), (finished Done [] [], refl, refl)));
+  writes = λ k. refl;
+}
   where
     there : Vouched (part (leaf 9) None ∷ []) (leaf 9) None
     there = by_part (part (leaf 9) None) (leaf 9) None refl refl
 
-    by_test : (k : Key) (b : Bool) → same_key (leaf 9) k ≡ b → (written k [] ≡ written k (change (leaf 9) None ∷ [])) ⊎ LeavesOut storages nothing_read (change (leaf 9) None ∷ []) k
-    by_test k true hit =
-        subst (λ (x : Key). (written x [] ≡ written x (change (leaf 9) None ∷ [])) ⊎ LeavesOut storages nothing_read (change (leaf 9) None ∷ []) x) (same_key-true (leaf 9) k hit)
-        (inr (record { tree = refl; removed = refl; absent = there; unwritten = refl }))
-    by_test k false miss = inl (sym (written-wrote (leaf 9) k None [] ∙ ap (λ b. cond b (Some None) None) miss))
+-- one that the transaction wrote before is removed: that is a write, which reads nothing
+removal_of_a_write : Runs storages [] (Write (leaf 9) 4 ∷ Remove (leaf 9) ∷ []) []
+    (finished Done [] (change (leaf 9) None ∷ change (leaf 9) (Some 4) ∷ []))
+removal_of_a_write =
+    let own : List Change = change (leaf 9) (Some 4) ∷ [] in
+    let end : List Change = change (leaf 9) None ∷ own in
+    let remove : Runs storages [] (Remove (leaf 9) ∷ []) own (finished Done [] end) =
+    (refl, (Continues None end, (Some 4, inl refl, refl), (finished Done [] end, refl, refl))) in
+    (refl, (Continues None own, refl, (finished Done [] end, remove, refl)))

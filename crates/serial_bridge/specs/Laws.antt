@@ -1,5 +1,5 @@
 -- The bridge itself, as laws that proofs above can cite.
-use Rattle.std.proofs.Common.{◌≡◌, ℕ, ◌+◌, ◌-◌, ◌^◌, ◌≤◌, Bool, true, false, true≢false, cond, ◌⊎◌, inl, inr, List, [], ◌∷◌, ◌++◌, refl, sym, ap, ◌∙◌, subst, arith, Option, Some, None}
+use Rattle.std.proofs.Common.{◌≡◌, ℕ, ◌+◌, ◌-◌, ◌^◌, ◌≤◌, Bool, true, false, true≢false, cond, inl, inr, List, [], ◌∷◌, ◌++◌, refl, sym, ap, ◌∙◌, subst, arith, Option, Some, None}
 use Rattle.std.specs.Prelude.{◌&&◌, nat_lt, nat_le, option_to_list, unwrap_or, Contains, find, filter, option_map}
 use Rattle.std.specs.Option.{option_or, option_map_or}
 use Rattle.std.specs.Cmp.{eq_by_cmp_equiv}
@@ -32,7 +32,7 @@ use Rattle.commit_core.specs.Lemmas.Keys.{same_key-self, same_key-true}
 use Rattle.commit_core.specs.CoreState.{is_decided}
 use Rattle.commit_core.specs.Serial.{after_writes, after_all, committed, ReadsAlong, RisesFrom}
 use Rattle.commit_core.specs.Law.{SoundIsSerial}
-use Rattle.serial_bridge.specs.Transaction.{Vouched, Sees, IsScanned, wrote, Turn, Continues, Stops, added, taken, Turns, Finished, finished, FinishesBy, Runs, LeavesOut, AreAttemptsOf}
+use Rattle.serial_bridge.specs.Transaction.{Vouched, Sees, IsScanned, wrote, Turn, Continues, Stops, added, removed, taken, Turns, Finished, finished, FinishesBy, Runs, AreAttemptsOf}
 use Rattle.serial_bridge.specs.Bridge.{Agrees, AttemptsStep, after_attempts, last_written, SerialReadsRun, up_to_epoch, EpochsRun, SoundStoryRuns}
 
 -- ---- keys
@@ -105,7 +105,7 @@ over_put first own w k v over = λ q.
     by_test q true = refl
     by_test q false = over q
 
-over_removed : (first : State) (own : List Change) (w : State) (k : Key) → IsOver first own w → IsOver first (wrote k None own) (remove w k)
+pub over_removed : (first : State) (own : List Change) (w : State) (k : Key) → IsOver first own w → IsOver first (wrote k None own) (remove w k)
 over_removed first own w k over = λ q.
     get-remove keys_total w k q ∙ ap (λ b. cond b None (get w q)) (key_test q k) ∙ by_test q (same_key k q)
     ∙ ap (λ o. unwrap_or o (get first q)) (sym (written-wrote k q None own))
@@ -113,6 +113,22 @@ over_removed first own w k over = λ q.
     by_test : (q : Key) (b : Bool) → cond b None (get w q) ≡ unwrap_or (cond b (Some None) (written q own)) (get first q)
     by_test q true = refl
     by_test q false = over q
+
+-- nothing is taken out where nothing is there
+pub over_nothing : (first : State) (own : List Change) (w : State) (k : Key) → IsOver first own w → get w k ≡ None → IsOver first own (remove w k)
+over_nothing first own w k over none = λ q.
+    get-remove keys_total w k q ∙ by_test q (eq_by_cmp key_cmp q k) refl ∙ over q
+  where
+    by_test : (q : Key) (b : Bool) → eq_by_cmp key_cmp q k ≡ b → cond b None (get w q) ≡ get w q
+    by_test q true same = sym (ap (get w) (same_by_test q k same) ∙ none)
+    by_test q false other = refl
+
+-- what is seen at a key of a tree is there
+pub tree_same : (decls : List Decl) (parts : List Part) (first : State) (own : List Change) (w : State) (k : Key) (value : Option ℕ)
+    → is_tree decls k.storage ≡ true → AreVouched decls parts first → IsOver first own w → Sees parts own k value → get w k ≡ value
+tree_same decls parts first own w k value tree vouch over sees =
+    same_in_tree (get w k) value
+    (subst (λ t. reply_of t (get w k) ≡ reply_of t value) tree (seen_same decls parts first own w k value vouch over sees))
 
 -- ---- the operations
 
@@ -150,6 +166,15 @@ sum_ends decls parts first ops own w k false n verdict f rest by over = record {
   state = subst (λ (x : Finished). IsOver first x.writes first) (sym by) (λ q. refl);
 }
 
+-- a removal, where this is there
+removal_ends : (decls : List Decl) (parts : List Part) (first : State) (ops : List Op) (own : List Change) (w : State) (k : Key) (value : Option ℕ) (f : Finished)
+    → RestEnds decls parts first ops → FinishesBy (removed k value own) (Runs decls parts ops) f → IsOver first own w → get w k ≡ value
+    → EndsAs first (after_move first (Goes None (remove w k)) (step_from decls first ops)) f
+removal_ends decls parts first ops own w k None f rest by over none =
+    goes_on decls parts first ops own (remove w k) None f rest by (over_nothing first own w k over none)
+removal_ends decls parts first ops own w k (Some v) f rest by over there =
+    goes_on decls parts first ops (wrote k None own) (remove w k) None f rest by (over_removed first own w k over)
+
 -- each operation, and then the rest
 operation_ends : (decls : List Decl) (parts : List Part) (first : State) (op : Op) (ops : List Op) (own : List Change) (w : State) (turn : Turn) (f : Finished)
     → AreVouched decls parts first → RestEnds decls parts first ops → fits decls op ≡ true → Turns decls parts own op turn → FinishesBy turn (Runs decls parts ops) f → IsOver first own w
@@ -161,7 +186,8 @@ operation_ends decls parts first (Read k) ops own w turn f vouch rest fit is by 
 operation_ends decls parts first (Write k v) ops own w turn f vouch rest fit is by over =
     goes_on decls parts first ops (wrote k (Some v) own) (insert w k v) None f rest (subst (λ t. FinishesBy t (Runs decls parts ops) f) is by) (over_put first own w k v over)
 operation_ends decls parts first (Remove k) ops own w turn f vouch rest fit is by over =
-    goes_on decls parts first ops (wrote k None own) (remove w k) None f rest (subst (λ t. FinishesBy t (Runs decls parts ops) f) is by) (over_removed first own w k over)
+    let same = tree_same decls parts first own w k is.0 fit vouch over is.1 in
+    removal_ends decls parts first ops own w k is.0 f rest (subst (λ t. FinishesBy t (Runs decls parts ops) f) is.2 by) over same
 operation_ends decls parts first (Add k v) ops own w turn f vouch rest fit is by over =
     let same = same_amount (is_tree decls k.storage) (get w k) is.0 (seen_same decls parts first own w k is.0 vouch over is.1) in
     let turn-is = is.2 ∙ ap (λ n. added k v n own) (sym same) in
@@ -221,20 +247,13 @@ attempt_steps decls s contents e a agrees reads is =
     let vouch : AreVouched decls a.parts s = λ k value there.
     agrees k ∙ ap (reply_of (is_tree decls k.storage)) (vouched_is contents a.parts k value reads there) in
     let ends = runs_end decls a.parts s e.ops vouch [] s (finished e.verdict e.replies is.own) is.runs (λ k. refl) in
-    let changes : (k : Key) → get (state_after decls s e) k ≡ unwrap_or (written k a.writes) (get s k) = λ k. ends.state k ∙ changed vouch k (is.writes k) in record {
+    let changes : (k : Key) → get (state_after decls s e) k ≡ unwrap_or (written k a.writes) (get s k) = λ k. ends.state k ∙ ap (λ o. unwrap_or o (get s k)) (sym (is.writes k)) in record {
       answers = record { verdict = sym ends.verdict; replies = sym ends.replies };
       changes = changes;
       agrees = λ k. ap (reply_of (is_tree decls k.storage)) (changes k) ∙ by_written k (written k a.writes)
           ∙ ap (reply_of (is_tree decls k.storage)) (sym (after_writes-value k a (contents k)));
     }
   where
-    changed : AreVouched decls a.parts s → (k : Key) → (written k a.writes ≡ written k is.own) ⊎ LeavesOut decls a is.own k
-        → unwrap_or (written k is.own) (get s k) ≡ unwrap_or (written k a.writes) (get s k)
-    changed vouch k (inl same) = ap (λ o. unwrap_or o (get s k)) (sym same)
-    changed vouch k (inr out) =
-        let absent : get s k ≡ None = same_in_tree (get s k) None (subst (λ t. reply_of t (get s k) ≡ reply_of t None) out.tree (vouch k None out.absent)) in
-        ap (λ o. unwrap_or o (get s k)) out.removed ∙ sym absent ∙ ap (λ o. unwrap_or o (get s k)) (sym out.unwritten)
-
     by_written : (k : Key) (o : Option (Option ℕ)) → reply_of (is_tree decls k.storage) (unwrap_or o (get s k)) ≡ reply_of (is_tree decls k.storage) (unwrap_or o (contents k).value)
     by_written k None = agrees k
     by_written k (Some v) = refl

@@ -67,14 +67,20 @@ abbrev pub taken : Key → ℕ → ℕ → List Change → Turn
 taken k v before own =
     if nat_le v before then Continues None (wrote k (Some (before - v)) own) else Stops Short
 
--- What an operation of a transaction with these parts and writes comes to. Reads, additions, subtractions and scans
--- need that what they ask for is seen; writes and removals see nothing.
+-- what a removal comes to, where this was seen: it writes nothing where nothing is there
+abbrev pub removed : Key → Option ℕ → List Change → Turn
+removed k None own = Continues None own
+removed k (Some v) own = Continues None (wrote k None own)
+
+-- What an operation of a transaction with these parts and writes comes to. Reads, removals, additions, subtractions and
+-- scans need that what they ask for is seen; writes see nothing.
 abbrev pub Turns : List Decl → List Part → List Change → Op → Turn → Type 0
 Turns decls parts own (Read k) turn =
     (value : Option ℕ) × Sees parts own k value
     × (turn ≡ Continues (Some (reply_of (is_tree decls k.storage) value)) own)
 Turns decls parts own (Write k v) turn = turn ≡ Continues None (wrote k (Some v) own)
-Turns decls parts own (Remove k) turn = turn ≡ Continues None (wrote k None own)
+Turns decls parts own (Remove k) turn =
+    (value : Option ℕ) × Sees parts own k value × (turn ≡ removed k value own)
 Turns decls parts own (Add k v) turn =
     (value : Option ℕ) × Sees parts own k value × (turn ≡ added k v (unwrap_or value 0) own)
 Turns decls parts own (Take k v) turn =
@@ -108,20 +114,13 @@ Runs decls parts (op ∷ ops) own f =
 
 -- ---- attempts
 
--- The transaction took the key of a tree out last, which a part says was absent: the attempt may leave that out.
-pub record LeavesOut (decls : List Decl) (a : Attempt) (own : List Change) (k : Key) : Type 0 where
-  pub tree : is_tree decls k.storage ≡ true
-  pub removed : written k own ≡ Some None
-  pub absent : Vouched a.parts k None
-  pub unwritten : written k a.writes ≡ None
-
 -- The attempt is that of the entry's transaction: it has its number, the operations run over the attempt's parts to the
 -- entry's verdict and replies, and the attempt writes at each key what they wrote there last.
 pub record IsAttemptOf (decls : List Decl) (e : Entry) (a : Attempt) : Type 0 where
   pub number : e.number ≡ a.number
   pub own : List Change
   pub runs : Runs decls a.parts e.ops [] (finished e.verdict e.replies own)
-  pub writes : (k : Key) → (written k a.writes ≡ written k own) ⊎ LeavesOut decls a own k
+  pub writes : (k : Key) → written k a.writes ≡ written k own
 
 -- the attempts are those of the entries, one for one
 abbrev pub AreAttemptsOf : List Decl → List Entry → List Attempt → Type 0

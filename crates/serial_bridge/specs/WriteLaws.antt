@@ -1,12 +1,12 @@
--- Attempts on arrays write their write sets, and those behind others are a run of their own: as laws.
+-- Attempts write their write sets, and those behind others are a run of their own: as laws.
 use Rattle.std.proofs.Common.{◌≡◌, ℕ, zero, suc, ◌+◌, ◌-◌, ◌^◌, ◌≤◌, ◌<◌, arith, length, get_or, set, Bool, true, false}
 use Rattle.std.proofs.Common.{true≢false, cond, ◌⊎◌, inl, inr, List, [], ◌∷◌, ◌++◌, refl, sym, ap, ◌∙◌, subst, Option}
 use Rattle.std.proofs.Common.{Some, None}
-use Rattle.std.specs.Prelude.{nat_lt, nat_le, is_some, unwrap_or, Contains, find, option_map}
+use Rattle.std.specs.Prelude.{nat_lt, nat_le, is_some, unwrap_or, Contains, find, option_map, option_to_list}
 use Rattle.std.specs.List.{AllByRecursion, swap}
 use Rattle.std.specs.List.Sorted.{IsPermutation}
 use Rattle.std.proofs.lemmas.List.Sorted.{IsPermutation-keeps, IsPermutation-refl, length_permutation}
-use Rattle.std.specs.FinMap.{get, insert}
+use Rattle.std.specs.FinMap.{get, insert, remove}
 use Rattle.std.proofs.lemmas.Bool.{cond-true, cond-false}
 use Rattle.serial_model.specs.declared.key.Key.{Key}
 use Rattle.serial_model.specs.declared.number.Number.{Number}
@@ -15,6 +15,7 @@ use Rattle.serial_model.specs.declared.decl.Decl.{Decl}
 use Rattle.serial_model.specs.declared.op.Op.{Op}
 use Rattle.serial_model.specs.declared.op.Op.TheVariants.{Read, Write, Remove, Add, Take, Scan}
 use Rattle.serial_model.specs.declared.reply.Reply.{Reply}
+use Rattle.serial_model.specs.declared.reply.Reply.TheVariants.{Rows}
 use Rattle.serial_model.specs.declared.reply.Verdict.{Verdict}
 use Rattle.serial_model.specs.declared.reply.Verdict.TheVariants.{Done, Short, Over}
 use Rattle.serial_model.specs.Keys.{is_tree, fits}
@@ -31,12 +32,13 @@ use Rattle.commit_core.specs.declared.attempt.Attempt.{Attempt}
 use Rattle.commit_core.specs.Keys.{same_key, content_at, written, writes_key}
 use Rattle.commit_core.specs.Lemmas.Keys.{same_key-self, same_key-true}
 use Rattle.commit_core.specs.Serial.{after_writes, ReadsAlong, RisesFrom}
-use Rattle.serial_bridge.specs.Transaction.{wrote, Turn, Continues, Stops, added, taken, Turns, Finished, finished}
-use Rattle.serial_bridge.specs.Transaction.{FinishesBy, Runs, LeavesOut, IsAttemptOf, AreAttemptsOf}
+use Rattle.serial_bridge.specs.Transaction.{wrote, Turn, Continues, Stops, added, removed, taken, Turns, Finished}
+use Rattle.serial_bridge.specs.Transaction.{finished, FinishesBy, Runs, IsAttemptOf, AreAttemptsOf}
 use Rattle.serial_bridge.specs.Bridge.{Agrees, after_attempts}
-use Rattle.serial_bridge.specs.Laws.{AreVouched, IsOver, same_amount, seen_same, vouched_is, written-wrote, over_put}
+use Rattle.serial_bridge.specs.Laws.{AreVouched, IsOver, same_amount, seen_same, tree_same, vouched_is, written-wrote}
+use Rattle.serial_bridge.specs.Laws.{over_nothing, over_put, over_removed}
 use Rattle.serial_bridge.specs.Laws.{attempt_steps, answers_along, in_order, epoch_low}
-use Rattle.serial_bridge.specs.WriteSets.{HasNoTree, keys_of, AttemptWrites, WriteAlong, RunsBehind, WritesBehind}
+use Rattle.serial_bridge.specs.WriteSets.{keys_of, AttemptWrites, WriteAlong, RunsBehind, WritesBehind}
 
 -- ---- keys of writes
 
@@ -148,45 +150,65 @@ sum_wrote decls parts first ops own w k true n verdict f rest by over badly done
 sum_wrote decls parts first ops own w k false n verdict f rest by over badly done =
     absurd (badly (sym (ap (λ (x : Finished). x.verdict) by) ∙ done))
 
+-- a removal, where this is there
+removal_wrote : (decls : List Decl) (parts : List Part) (first : State) (ops : List Op) (own : List Change)
+    (w : State) (k : Key) (value : Option ℕ) (f : Finished)
+    → RestWrote decls parts first ops → FinishesBy (removed k value own) (Runs decls parts ops) f
+    → IsOver first own w → get w k ≡ value → f.verdict ≡ Done
+    → Wrote own (written_then (option_to_list (option_map (λ v. k) (get w k))) (Goes None (remove w k))
+    (written_from decls ops)) f.writes
+removal_wrote decls parts first ops own w k None f rest by over none done =
+    subst (λ (o : Option ℕ). Wrote own (option_to_list (option_map (λ v. k) o) ++ written_from decls ops (remove w k))
+    f.writes) (sym none)
+    (wrote_on decls parts first ops own (remove w k) None f rest by (over_nothing first own w k over none) done)
+removal_wrote decls parts first ops own w k (Some v) f rest by over there done =
+    subst (λ (o : Option ℕ). Wrote own (option_to_list (option_map (λ v. k) o) ++ written_from decls ops (remove w k))
+    f.writes) (sym there)
+    (wrote_one own k None (written_from decls ops (remove w k)) f.writes
+    (wrote_on decls parts first ops (wrote k None own) (remove w k) None f rest by
+    (over_removed first own w k over) done))
+
 -- each operation, and then the rest
 operation_wrote : (decls : List Decl) (parts : List Part) (first : State) (op : Op) (ops : List Op)
     (own : List Change) (w : State) (turn : Turn) (f : Finished)
-    → HasNoTree decls → AreVouched decls parts first → RestWrote decls parts first ops → fits decls op ≡ true
+    → AreVouched decls parts first → RestWrote decls parts first ops → fits decls op ≡ true
     → Turns decls parts own op turn → FinishesBy turn (Runs decls parts ops) f
     → IsOver first own w → f.verdict ≡ Done
     → Wrote own (written_then (written_by w op) (move_of decls w op) (written_from decls ops)) f.writes
-operation_wrote decls parts first (Read k) ops own w turn f none vouch rest fit is by over done =
+operation_wrote decls parts first (Read k) ops own w turn f vouch rest fit is by over done =
     wrote_on decls parts first ops own w (Some (reply_of (is_tree decls k.storage) is.0)) f rest
     (subst (λ t. FinishesBy t (Runs decls parts ops) f) is.2 by) over done
-operation_wrote decls parts first (Write k v) ops own w turn f none vouch rest fit is by over done =
+operation_wrote decls parts first (Write k v) ops own w turn f vouch rest fit is by over done =
     wrote_one own k (Some v) (written_from decls ops (insert w k v)) f.writes
     (wrote_on decls parts first ops (wrote k (Some v) own) (insert w k v) None f rest
     (subst (λ t. FinishesBy t (Runs decls parts ops) f) is by) (over_put first own w k v over) done)
-operation_wrote decls parts first (Remove k) ops own w turn f none vouch rest fit is by over done =
-    absurd (true≢false (sym fit ∙ none k.storage))
-operation_wrote decls parts first (Add k v) ops own w turn f none vouch rest fit is by over done =
+operation_wrote decls parts first (Remove k) ops own w turn f vouch rest fit is by over done =
+    removal_wrote decls parts first ops own w k is.0 f rest
+    (subst (λ t. FinishesBy t (Runs decls parts ops) f) is.2 by) over
+    (tree_same decls parts first own w k is.0 fit vouch over is.1) done
+operation_wrote decls parts first (Add k v) ops own w turn f vouch rest fit is by over done =
     let same = same_amount (is_tree decls k.storage) (get w k) is.0
     (seen_same decls parts first own w k is.0 vouch over is.1) in
     let turn-is = is.2 ∙ ap (λ n. added k v n own) (sym same) in
     sum_wrote decls parts first ops own w k (nat_lt (amount_at w k + v) (2 ^ 64)) (amount_at w k + v) Over f rest
     (subst (λ t. FinishesBy t (Runs decls parts ops) f) turn-is by) over (λ e. cc) done
-operation_wrote decls parts first (Take k v) ops own w turn f none vouch rest fit is by over done =
+operation_wrote decls parts first (Take k v) ops own w turn f vouch rest fit is by over done =
     let same = same_amount (is_tree decls k.storage) (get w k) is.0
     (seen_same decls parts first own w k is.0 vouch over is.1) in
     let turn-is = is.2 ∙ ap (λ n. taken k v n own) (sym same) in
     sum_wrote decls parts first ops own w k (nat_le v (amount_at w k)) (amount_at w k - v) Short f rest
     (subst (λ t. FinishesBy t (Runs decls parts ops) f) turn-is by) over (λ e. cc) done
-operation_wrote decls parts first (Scan storage low high) ops own w turn f none vouch rest fit is by over done =
-    absurd (true≢false (sym fit ∙ none storage))
+operation_wrote decls parts first (Scan storage low high) ops own w turn f vouch rest fit is by over done =
+    wrote_on decls parts first ops own w (Some (Rows is.0)) f rest
+    (subst (λ t. FinishesBy t (Runs decls parts ops) f) is.2 by) over done
 
-runs_wrote : (decls : List Decl) (parts : List Part) (first : State) (ops : List Op) → HasNoTree decls
-    → AreVouched decls parts first
+runs_wrote : (decls : List Decl) (parts : List Part) (first : State) (ops : List Op) → AreVouched decls parts first
     → RestWrote decls parts first ops
-runs_wrote decls parts first [] none vouch = λ own w f is over done.
+runs_wrote decls parts first [] vouch = λ own w f is over done.
     subst (λ (x : Finished). Wrote own [] x.writes) (sym is) (wrote_none own)
-runs_wrote decls parts first (op ∷ ops) none vouch = λ own w f is over done.
-    operation_wrote decls parts first op ops own w is.1.0 f none vouch
-    (runs_wrote decls parts first ops none vouch) is.0 is.1.1 is.1.2 over done
+runs_wrote decls parts first (op ∷ ops) vouch = λ own w f is over done.
+    operation_wrote decls parts first op ops own w is.1.0 f vouch
+    (runs_wrote decls parts first ops vouch) is.0 is.1.1 is.1.2 over done
 
 -- a transaction that doesn't end well has no writes
 none_kept : (decls : List Decl) (parts : List Part) (ops : List Op) (own : List Change) (f : Finished)
@@ -224,25 +246,24 @@ at_none own none = record {
 }
 
 -- the writes that a transaction keeps are at the keys of its write set
-set_at : (decls : List Decl) (parts : List Part) (s : State) (ops : List Op) (f : Finished) → HasNoTree decls
-    → AreVouched decls parts s
+set_at : (decls : List Decl) (parts : List Part) (s : State) (ops : List Op) (f : Finished) → AreVouched decls parts s
     → Runs decls parts ops [] f → (v : Verdict) → f.verdict ≡ v → AreAt (kept_by v (written_from decls ops s)) f.writes
-set_at decls parts s ops f none vouch runs Done is =
-    at_all (written_from decls ops s) f.writes (runs_wrote decls parts s ops none vouch [] s f runs (λ k. refl) is)
-set_at decls parts s ops f none vouch runs Short is =
+set_at decls parts s ops f vouch runs Done is =
+    at_all (written_from decls ops s) f.writes (runs_wrote decls parts s ops vouch [] s f runs (λ k. refl) is)
+set_at decls parts s ops f vouch runs Short is =
     at_none f.writes (none_kept decls parts ops [] f runs (λ done. cc))
-set_at decls parts s ops f none vouch runs Over is = at_none f.writes (none_kept decls parts ops [] f runs (λ done. cc))
+set_at decls parts s ops f vouch runs Over is = at_none f.writes (none_kept decls parts ops [] f runs (λ done. cc))
 
--- an attempt on arrays writes the write set of its transaction
+-- an attempt writes the write set of its transaction
 pub attempt_writes : AttemptWrites
-attempt_writes decls s contents e a none agrees reads is =
+attempt_writes decls s contents e a agrees reads is =
     let vouch : AreVouched decls a.parts s = λ k value there.
     agrees k ∙ ap (reply_of (is_tree decls k.storage)) (vouched_is contents a.parts k value reads there) in
     let steps = attempt_steps decls s contents e a agrees reads is in
-    let at = set_at decls a.parts s e.ops (finished e.verdict e.replies is.own) none vouch is.runs
+    let at = set_at decls a.parts s e.ops (finished e.verdict e.replies is.own) vouch is.runs
     (step decls s e.ops).verdict steps.answers.verdict in
     let same : (q : Key) → writes_key a.writes q ≡ writes_key is.own q =
-    λ q. ap is_some (as_own q (is.writes q)) in record {
+    λ q. ap is_some (is.writes q) in record {
       each = each_in (Contains (write_set decls s e.ops)) (keys_of a.writes)
           (λ q has. at.only q (sym (same q) ∙ written_key a.writes q has));
       all = λ q has. key_written a.writes q (same q ∙ at.all q has);
@@ -250,25 +271,20 @@ attempt_writes decls s contents e a none agrees reads is =
           (λ (c : Change). c.value ≡ get (state_after decls s e) c.key)
           (λ c here. sym (steps.changes c.key ∙ ap (λ o. unwrap_or o (get s c.key)) here)) a.writes counts;
     }
-  where
-    as_own : (q : Key) → (written q a.writes ≡ written q is.own) ⊎ LeavesOut decls a is.own q
-        → written q a.writes ≡ written q is.own
-    as_own q (inl same) = same
-    as_own q (inr out) = absurd (true≢false (sym out.tree ∙ none q.storage))
 
 -- ---- attempts behind others
 
 -- each attempt of serial reads writes the write set of its transaction
 pub write_along : (decls : List Decl) (s : State) (contents : Key → Content) (entries : List Entry)
     (attempts : List Attempt)
-    → HasNoTree decls → Agrees decls s contents → ReadsAlong contents attempts → AreAttemptsOf decls entries attempts
+    → Agrees decls s contents → ReadsAlong contents attempts → AreAttemptsOf decls entries attempts
     → WriteAlong decls s entries attempts
-write_along decls s contents [] [] none agrees reads are = tt
-write_along decls s contents [] (a ∷ attempts) none agrees reads are = absurd are
-write_along decls s contents (e ∷ entries) [] none agrees reads are = absurd are
-write_along decls s contents (e ∷ entries) (a ∷ attempts) none agrees reads are = (
-  attempt_writes decls s contents e a none agrees reads.0 are.0,
-  write_along decls (state_after decls s e) (λ k. after_writes k a (contents k)) entries attempts none
+write_along decls s contents [] [] agrees reads are = tt
+write_along decls s contents [] (a ∷ attempts) agrees reads are = absurd are
+write_along decls s contents (e ∷ entries) [] agrees reads are = absurd are
+write_along decls s contents (e ∷ entries) (a ∷ attempts) agrees reads are = (
+  attempt_writes decls s contents e a agrees reads.0 are.0,
+  write_along decls (state_after decls s e) (λ k. after_writes k a (contents k)) entries attempts
       (attempt_steps decls s contents e a agrees reads.0 are.0).agrees reads.1 are.1,
 )
 
@@ -312,10 +328,10 @@ runs_behind decls s opening before attempts entries serial agrees are =
           (sym (after_behind (content_at opening) before attempts)) along.2;
     }
 
--- and on arrays each of them writes its write set
+-- and each of them writes its write set
 pub writes_behind : WritesBehind
-writes_behind decls s opening before attempts entries none serial agrees are =
-    write_along decls s (after_attempts (content_at opening) before) entries attempts none agrees
+writes_behind decls s opening before attempts entries serial agrees are =
+    write_along decls s (after_attempts (content_at opening) before) entries attempts agrees
     (reads_behind (content_at opening) before attempts serial.reads) are
 
 -- ---- in another order

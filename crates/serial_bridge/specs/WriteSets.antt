@@ -1,4 +1,4 @@
--- What attempts on arrays write: the write sets of their transactions, and attempts behind others.
+-- What attempts write: the write sets of their transactions, and attempts behind others.
 use Rattle.std.specs.Prelude.{◌≡◌, ℕ, false, List, [], ◌∷◌, ◌++◌, map, Some, Contains, ⊤}
 use Rattle.std.specs.List.{AllByRecursion}
 use Rattle.std.specs.FinMap.{get}
@@ -36,10 +36,10 @@ pub record WritesItsSet (decls : List Decl) (s : State) (e : Entry) (a : Attempt
   pub values : EachCounts a.writes
       → AllByRecursion (λ (c : Change). c.value ≡ get (state_after decls s e) c.key) a.writes
 
--- So does an attempt on arrays that read what the contents have, on every state that agrees with them.
+-- So does an attempt that read what the contents have, on every state that agrees with them.
 abbrev pub AttemptWrites : Type 0
 AttemptWrites = (decls : List Decl) (s : State) (contents : Key → Content) (e : Entry) (a : Attempt)
-    → HasNoTree decls → Agrees decls s contents → ReadsFrom contents a → IsAttemptOf decls e a
+    → Agrees decls s contents → ReadsFrom contents a → IsAttemptOf decls e a
     → WritesItsSet decls s e a
 
 -- each attempt writes the write set of its transaction on the state that those before leave
@@ -61,9 +61,9 @@ RunsBehind = (decls : List Decl) (s : State) (opening : List (Key × Content)) (
     → AreAttemptsOf decls entries attempts
     → RunsSerially decls s entries attempts (after_attempts (content_at opening) (before ++ attempts))
 
--- and on arrays each writes its write set then
+-- and each writes its write set then
 abbrev pub WritesBehind : Type 0
 WritesBehind = (decls : List Decl) (s : State) (opening : List (Key × Content)) (before attempts : List Attempt)
-    (entries : List Entry) → HasNoTree decls
+    (entries : List Entry)
     → ReadsAreSerial opening (before ++ attempts) → Agrees decls s (after_attempts (content_at opening) before)
     → AreAttemptsOf decls entries attempts → WriteAlong decls s entries attempts

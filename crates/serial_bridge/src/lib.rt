@@ -8,8 +8,8 @@
 //! Terms: *part*, what an attempt read and must stay valid; an attempt *is* a transaction's (`IsAttemptOf`) where each
 //! operation sees what the transaction wrote before it, else what some part has.
 //! Layout: `Transaction` says what a transaction sees and does, `Bridge` what follows, `Laws` has the proofs in the
-//! form that crates above cite; `WriteSets` says that attempts on arrays write their write sets, and which run attempts
-//! behind others are, with proofs in `WriteLaws`; proofs/Examples works some transactions by hand.
+//! form that crates above cite; `WriteSets` says that attempts write their write sets, and which run attempts behind
+//! others are, with proofs in `WriteLaws`; proofs/Examples works some transactions by hand.
 //! Design: docs/COMMIT.md, "From reads to replies".
 #![tactic(auto)]
 

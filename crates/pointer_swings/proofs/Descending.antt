@@ -28,7 +28,7 @@ use Rattle.pointer_swings.specs.Children.{CanDescend, HasDescended, descended}
 use Rattle.pointer_swings.proofs.Lower.{child_lower}
 
 -- the page with a number that stands for some keys is there
-named_there : (l : Layout) (words : List ℕ) (views : List View) (s : Shared) (id : ℕ) (v : View) (sp : Span) (n name : ℕ)
+pub named_there : (l : Layout) (words : List ℕ) (views : List View) (s : Shared) (id : ℕ) (v : View) (sp : Span) (n name : ℕ)
     → Begins l words views s id v → IsNamed s.resident.places sp n name → n ≤ length s.resident.pages
 named_there l words views s id v sp zero name b named = omega arith
 named_there l words views s id v sp (suc n) name b named =

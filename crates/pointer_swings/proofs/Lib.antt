@@ -12,3 +12,9 @@ pub mod MovesDown
 pub mod SwingFacts
 pub mod SwingInner
 pub mod Swinging
+pub mod KeysDown
+pub mod LeafPage
+pub mod LeafSwings
+pub mod BranchSwings
+pub mod SwingStep
+pub mod TreeDescending

@@ -50,7 +50,10 @@ module _ (laws : Laws) (l : Layout) (words : List ℕ) (views : List View) (s : 
       → Repointed laws l words views s id v active b x sp at value here s.story.places s.story.homes s.story.horizon e r []
   repointed span slot shown = record {
     pages = λ u. refl;
-    headers = λ u. refl;
+    headers = λ u left. refl;
+    closed = λ u. refl;
+    buried = λ u dead. refl;
+    unsplit = λ u lost split. absurd (true≢false (sym lost));
     room = refl;
     named = let was = b.sound.named in record { count = was.count; none = was.none; says = was.says; stand = was.stand; below = was.below };
     there = pointer_new;
@@ -65,4 +68,5 @@ module _ (laws : Laws) (l : Layout) (words : List ℕ) (views : List View) (s : 
     kept-places = λ y left. refl;
     contents = λ y. refl;
     locked = λ y. refl;
+    freed = λ y free. free;
   }

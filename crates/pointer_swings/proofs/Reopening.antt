@@ -124,7 +124,7 @@ module _ (laws : Laws) (l : Layout) (words : List ℕ) (views : List View) (s : 
           leads = b.pages.leads;
           fills = old.fills;
           known = old.known;
-          heads = old.heads;
+          heads = λ z has. old.heads z has refl;
           moved = old.moved;
           sealed = old.sealed;
           inners = old.inners;

@@ -2,21 +2,25 @@
 -- are dead from then on.
 use Rattle.std.proofs.Common.{◌≡◌, ◌≢◌, ◌⊎◌, inl, inr, ℕ, ◌+◌, ◌*◌, ◌<◌, ◌≤◌, ◌^◌, Bool, true, false, true≢false, cond}
 use Rattle.std.proofs.Common.{eqb-true, List, length, get_or, set, refl, sym, ap, ◌∙◌, subst, arith}
-use Rattle.std.proofs.Common.{Some, None}
+use Rattle.std.proofs.Common.{Option, Some, None}
 use Rattle.std.specs.Prelude.{unwrap_or}
 use Rattle.std.specs.List.{Contains, slice_get}
 use Rattle.std.proofs.lemmas.Bool.{and_from, and_parts, cases_Bool}
+use Rattle.std.proofs.lemmas.Option.{slice_get_within}
+use Rattle.serial_model.specs.declared.decl.Decl.{Decl}
+use Rattle.serial_model.specs.declared.decl.Decl.TheVariants.{Array, Tree}
 use Rattle.serial_model.specs.declared.key.Key.{Key}
 use Rattle.serial_model.specs.declared.number.Number.{Number}
 use Rattle.homes.specs.declared.places.At.{At}
 use Rattle.homes.specs.declared.places.At.TheVariants.{Root, In}
 use Rattle.homes.specs.declared.places.Content.{Content}
-use Rattle.homes.specs.declared.places.Holder.TheVariants.{Held, Dead}
+use Rattle.homes.specs.declared.places.Holder.TheVariants.{Free, Held, Dead}
 use Rattle.homes.specs.declared.places.Home.{Home}
 use Rattle.homes.specs.declared.places.Span.{Span}
 use Rattle.homes.specs.declared.places.Spot.{Spot}
 use Rattle.homes.specs.Homes.{has_key}
-use Rattle.wire_form.specs.Words.{at_bit, number_word, slot_field}
+use Rattle.wire_form.specs.Leaves.{tree_leaf}
+use Rattle.wire_form.specs.Words.{absent_field, at_bit, number_word, slot_field}
 use Rattle.snapshot_store.specs.Places.{page as page_words}
 use Rattle.commit_core.specs.declared.place.Place.{Place}
 use Rattle.commit_core.specs.declared.seat.Seat.{Seat}
@@ -65,6 +69,7 @@ use Rattle.engine_pages.specs.Stays.{IsKnown}
 use Rattle.engine_pages.specs.Touches.{AreBlamed, Touched}
 use Rattle.engine_pages.specs.Views.{IsActive, seat_number, tries, waits}
 use Rattle.engine_pages.specs.Words.{IsSmall, ShowsWords, ShowsPointer, ShowsPage, ShowsRecord, ShowsTree, is_shown}
+use Rattle.engine_pages.specs.Words.{head_word, IsBit, ShowsKeyed}
 use Rattle.engine_pages.specs.Words.{IsOverwritten, state_number}
 use Rattle.engine_pages.specs.Words.{lock_field, spot}
 use Rattle.engine_pages.proofs.Dealing.{blamed}
@@ -76,7 +81,7 @@ use Rattle.engine_pages.proofs.Named.{more_same}
 use Rattle.engine_pages.proofs.PagesStay.{WordsStay, leaf_shape}
 use Rattle.engine_pages.proofs.PointerLaws.{PointerIs, pointer_is}
 use Rattle.engine_pages.proofs.Seats.{is_at, put_seat}
-use Rattle.engine_pages.proofs.SlotFacts.{head_same, moved_same, known_same, draft_same, within_same, shut_same}
+use Rattle.engine_pages.proofs.SlotFacts.{head_same, draft_same, within_same, shut_same}
 use Rattle.engine_pages.proofs.SlotSteps.{PagesNow, acted_as, own_pages, trees_same}
 use Rattle.engine_pages.proofs.TreeFacts.{inner_at, new_inner_at, new_leaf_at, same_fence, sealed_at}
 use Rattle.engine_pages.proofs.Turns.{Turn, Stride, Begins, marks_stay, tried_goes, written}
@@ -84,11 +89,9 @@ use Rattle.engine_pages.proofs.Words.{tree_shown}
 use Rattle.views.specs.Sums.{total}
 use Rattle.dual_pointer.proofs.Stands.{at_cases, words_before, stand, IsAmong, apart, IsInPage, StandsAt, array_over}
 use Rattle.dual_pointer.proofs.Stands.{before_none, before_some, stands_at_place, among, IsOfPage, of_page, tree_pointed}
-use Rattle.dual_pointer.proofs.Stands.{laid_spans}
 
 -- a slot from which what led to it is taken away
 pub record IsGone (s : Shared) (e : Table) (u : ℕ) : Type 0 where
-  pub tree : s.trees u ≡ None
   pub known : IsKnown s.table u
   pub state : (slot_of e u).state ≡ (slot_of s.table u).state
   pub passes : (slot_of e u).passes ≡ (slot_of s.table u).passes
@@ -101,6 +104,21 @@ record SameSlot (x y : Slot) : Type 0 where
   state : y.state ≡ x.state
   passes : y.passes ≡ x.passes
   times : y.times ≡ x.times
+
+-- the layout of a page that stays, over the same keys, where a dead header stays dead
+laid_on : (o : Option Decl) (k : ℕ → Option Fenced) (d e : Table) (u : ℕ) (sp : Span) → page_of e u ≡ page_of d u
+    → (header_of d u ≡ Dead → header_of e u ≡ header_of d u) → ((j : ℕ) → span_at e (at_index u j) ≡ span_at d (at_index u j))
+    → IsLaidOut o k d u sp → IsLaidOut o k e u sp
+laid_on None k d e u sp page dead spans over = over
+laid_on (Some (Array id size)) k d e u sp page dead spans over = (
+  over.0,
+  record {
+    page = page ∙ over.1.page;
+    spans = λ j has. spans j ∙ over.1.spans j has;
+    header = dead over.1.header ∙ over.1.header;
+  },
+)
+laid_on (Some (Tree id)) k d e u sp page dead spans over = over
 
 -- 1 in the stage of an attempt in progress
 abbrev tries_at : Stage → ℕ
@@ -132,7 +150,10 @@ module _ (laws : Laws) (l : Layout) (words : List ℕ) (views : List View) (s : 
   -- to; these slots are gone, with the pointers in them, which were locked; and records there are locked as they were.
   pub record Repointed : Type 0 where
     pub pages : (u : ℕ) → page_of e u ≡ page_of d u
-    pub headers : (u : ℕ) → header_of e u ≡ header_of d u
+    pub headers : (u : ℕ) → has_slot gone u ≡ false → header_of e u ≡ header_of d u
+    pub closed : (u : ℕ) → lock_field (header_of e u) ≡ lock_field (header_of d u)
+    pub buried : (u : ℕ) → header_of d u ≡ Dead → header_of e u ≡ header_of d u
+    pub unsplit : (u : ℕ) → has_slot gone u ≡ true → page_of d u ≡ Split → ⊥
     pub room : e.room ≡ d.room
     pub named : ArePages l.decls s.resident e
     pub there : pointer_of e x ≡ r
@@ -148,6 +169,7 @@ module _ (laws : Laws) (l : Layout) (words : List ℕ) (views : List View) (s : 
     pub kept-places : (y : Spot) → has_slot gone y.slot ≡ false → place_of places y ≡ place_of m.places y
     pub contents : (y : Spot) → (place_of places y).content ≡ (place_of m.places y).content
     pub locked : (y : Spot) → lock_field (place_of places y).holder ≡ lock_field (place_of m.places y).holder
+    pub freed : (y : Spot) → (place_of places y).holder ≡ Free → (place_of m.places y).holder ≡ Free
 
   place : StandsAt l s at x
   place = stands_at_place l words views s id v x sp at b here
@@ -262,14 +284,7 @@ module _ (laws : Laws) (l : Layout) (words : List ℕ) (views : List View) (s : 
       | inr left ↦ ap (λ (z : Slot). is_never z.led) (c.keeps u left) ∙ known
     ]
 
-    -- a page of a tree is none of those that are gone
-    tree_left : (u : ℕ) (f : Fenced) → s.trees u ≡ Some f → has_slot gone u ≡ false
-    tree_left u f tree = elim (cases_Bool (has_slot gone u)) [
-      | inl lost ↦ let no : Some f ≡ None = sym tree ∙ (c.away u lost).tree in absurd (cc)
-      | inr left ↦ left
-    ]
-
-    -- nor is one to which nothing has led
+    -- one to which nothing has led is none of those that are gone
     made_left : (u : ℕ) → is_never (slot_of d u).led ≡ true → has_slot gone u ≡ false
     made_left u never = elim (cases_Bool (has_slot gone u)) [
       | inl lost ↦ absurd (true≢false (sym never ∙ (c.away u lost).known))
@@ -280,7 +295,7 @@ module _ (laws : Laws) (l : Layout) (words : List ℕ) (views : List View) (s : 
     laid_out y u now-live leads =
         let leads-was = leads_was y u leads in
         subst (λ (z : Span). IsLaidOut (decl_of l.decls z.storage) s.trees e u z) (sym (spans y))
-        (laid_spans (decl_of l.decls (span_at d y).storage) s.trees d e u (span_at d y) (c.pages u) (c.headers u)
+        (laid_on (decl_of l.decls (span_at d y).storage) s.trees d e u (span_at d y) (c.pages u) (c.buried u)
         (λ j. spans (at_index u j)) (b.sound.laid_out y u (was_live y now-live) leads-was))
       where
         leads_was : (y : At) (u : ℕ) → (pointer_of e y).slot ≡ Some u → (pointer_of d y).slot ≡ Some u
@@ -384,31 +399,113 @@ module _ (laws : Laws) (l : Layout) (words : List ℕ) (views : List View) (s : 
     )
     page_shows u Split few tree is-page h = tt
 
+    -- ---- a tree's page that is gone
+
+    -- none of the words of a tree's page but pointers' is the pointer's
+    no_pointer_word : (u : ℕ) (f : Fenced) → s.trees u ≡ Some f → (i : ℕ) → (i < 4) ⊎ (34 ≤ i) → i < 64
+        → page_at l.slots u i ≢ at
+    no_pointer_word u f tree i outside less same =
+        not_page u i less (λ y is-in in-page slot.
+        let there : s.trees y.slot ≡ Some f = ap s.trees (sym slot) ∙ tree in
+        let before : words_before (s.trees y.slot) ≡ 4 = before_some s.trees y.slot f there in
+        let index = in-page.fan f there in
+        let word = in-page.word in
+        elim outside [ inl low ↦ omega arith | inr high ↦ omega arith ]) same
+
+    -- a record in it is locked as it was
+    keyed_shows : (y : Spot) (at' : ℕ) (k : Key) → get_or words' at' 0 ≡ get_or words at' 0
+        → get_or words' (at' + 1) 0 ≡ get_or words (at' + 1) 0 → get_or words' (at' + 2) 0 ≡ get_or words (at' + 2) 0
+        → ShowsKeyed words at' (IsOverwritten m) k (place_of m.places y)
+        → ShowsKeyed words' at' (IsOverwritten n) k (place_of places y)
+    keyed_shows y at' k one two three was =
+        let same = sym (c.contents y) in record {
+          key = one ∙ was.key;
+          absent = was.absent;
+          word = two ∙ (was.word
+              ∙ (ap (λ (z : Content). (number_word z.number + lock_field (place_of m.places y).holder) + was.absent) same
+              ∙ ap (λ i. (number_word (place_of places y).content.number + i) + was.absent) (sym (c.locked y))));
+          bit = bit_shows was.bit;
+          value = three ∙ (was.value ∙ ap (λ (z : Content). unwrap_or z.value 0) same);
+          small = subst (λ (z : Content). IsSmall z.number) same was.small;
+        }
+      where
+        bit_shows : IsBit (IsOverwritten m k) (place_of m.places y) was.absent → IsBit (IsOverwritten n k) (place_of places y) was.absent
+        bit_shows (inl is) = inl (is ∙ ap (λ (z : Content). absent_field tree_leaf z.value) (sym (c.contents y)))
+        bit_shows (inr old) = inr record {
+          one = old.one;
+          held = λ free. old.held (c.freed y free);
+          some = λ none. old.some (sym (c.contents y) ∙ none);
+          later = subst (λ (z : Content). IsOverwritten m k z.number) (sym (c.contents y)) old.later;
+        }
+
+    gone_shows : (u : ℕ) (f : Fenced) → u < l.slots → s.trees u ≡ Some f → has_slot gone u ≡ true → (page : Page) → page_of d u ≡ page
+        → ShowsTree s.resident.places words l.slots u f (IsOverwritten m) (place_of m.places) d page
+        → ShowsTree s.resident.places words' l.slots u f (IsOverwritten n) (place_of places) e page
+    gone_shows u f less tree lost Blank is h = h
+    gone_shows u f less tree lost (Leaf ks) is h =
+        let stays : (i : ℕ) → i < 64 → get_or words' (page_at l.slots u i) 0 ≡ get_or words (page_at l.slots u i) 0 =
+        λ i few. others (page_at l.slots u i) (not_leaf u i ks few is) in (
+          h.0,
+          stays 0 (omega arith) ∙ (h.1 ∙ ap (λ i. head_word (length f.keys) 1 i false) (sym (c.closed u))),
+          record {
+            low = stays 1 (omega arith) ∙ (h.2).low;
+            high = stays 2 (omega arith) ∙ (h.2).high;
+            few = (h.2).few;
+            once = (h.2).once;
+            inside = (h.2).inside;
+            keys = λ i k has.
+                let one = row_words u i (slice_get_within f.keys i k has) (h.2).few in
+                keyed_shows (spot u i) (page_at l.slots u (16 + 3 * i)) k (stays (16 + 3 * i) one.0)
+                (ap (λ j. get_or words' j 0) one.3 ∙ (stays (17 + 3 * i) one.1 ∙ ap (λ j. get_or words j 0) (sym one.3)))
+                (ap (λ j. get_or words' j 0) one.4 ∙ (stays (18 + 3 * i) one.2 ∙ ap (λ j. get_or words j 0) (sym one.4)))
+                ((h.2).keys i k has);
+          },
+        )
+      where
+        row_words : (u i : ℕ) → i < length f.keys → length f.keys ≤ 16
+            → (16 + 3 * i < 64) × (17 + 3 * i < 64) × (18 + 3 * i < 64)
+            × (page_at l.slots u (16 + 3 * i) + 1 ≡ page_at l.slots u (17 + 3 * i))
+            × (page_at l.slots u (16 + 3 * i) + 2 ≡ page_at l.slots u (18 + 3 * i))
+        row_words u i less few = (omega arith, omega arith, omega arith, omega arith, omega arith)
+    gone_shows u f less tree lost (Inner count) is h =
+        let before : words_before (s.trees u) ≡ 4 = before_some s.trees u f tree in
+        tree_pointed s.resident.places words words' l.slots u f (IsOverwritten m) (IsOverwritten n) (place_of m.places) (place_of places) d e count
+        (λ i low. others (page_at l.slots u i) (no_pointer_word u f tree i (inl low) (omega arith)))
+        (λ i from few. others (page_at l.slots u i) (no_pointer_word u f tree i (inr from) few))
+        (λ j few most was.
+        pointer_shows (at_index u j) (page_at l.slots u (4 + j)) (omega (arith, before)) (less, omega (arith, before))
+        (λ in-gone. c.shut u j count lost is few) was)
+        (λ j. spans (at_index u j)) (c.buried u h.7) h
+    gone_shows u f less tree lost Split is h = absurd (c.unsplit u lost is)
+
     -- and those of a tree's page
     tree_shows : (u : ℕ) (f : Fenced) → u < l.slots → s.trees u ≡ Some f
         → ShowsTree s.resident.places words l.slots u f (IsOverwritten m) (place_of m.places) d (page_of d u)
         → ShowsTree s.resident.places words' l.slots u f (IsOverwritten n) (place_of places) e (page_of d u)
-    tree_shows u f few tree h = elim (of_page x u) [
-      | inl of ↦
-          let in-page = inner of.spot of.is in
-          let page-is : page_of d u ≡ Inner in-page.count = ap (page_of d) (sym of.slot) ∙ in-page.page in
-          let before : words_before (s.trees u) ≡ 4 = before_some s.trees u f tree in
-          subst (λ (z : Page). ShowsTree s.resident.places words' l.slots u f (IsOverwritten n) (place_of places) e z) (sym page-is)
-          (tree_pointed s.resident.places words words' l.slots u f (IsOverwritten m) (IsOverwritten n) (place_of m.places) (place_of places) d e in-page.count
-          (λ i less. others (page_at l.slots u i) (not_word of f tree i (inl less) (omega arith)))
-          (λ i from less. others (page_at l.slots u i) (not_word of f tree i (inr from) less))
-          (λ j less most was.
-          pointer_shows (at_index u j) (page_at l.slots u (4 + j)) (omega (arith, before)) (few, omega (arith, before))
-          (λ lost. absurd (true≢false (sym lost ∙ tree_left u f tree))) was)
-          (λ j. spans (at_index u j)) (c.headers u)
-          (subst (λ (z : Page). ShowsTree s.resident.places words l.slots u f (IsOverwritten m) (place_of m.places) d z) page-is h))
-      | inr other ↦
-          tree_shown s.resident.places words words' l.slots u f (IsOverwritten m) (IsOverwritten n) (place_of m.places) (place_of places) d e (page_of d u)
-          (λ i less. others (page_at l.slots u i) (not_page u i less (λ y is-in in-page same. other y is-in (sym same))))
-          (λ i. c.kept-places (spot u i) (tree_left u f tree)) (λ k i over. over)
-          (λ j.
-          c.same (at_index u j) (λ same. other (record { slot = u; index = j }) same refl) (tree_left u f tree))
-          (c.headers u) h
+    tree_shows u f few tree h = elim (cases_Bool (has_slot gone u)) [
+      | inl lost ↦ gone_shows u f few tree lost (page_of d u) refl h
+      | inr left ↦ elim (of_page x u) [
+        | inl of ↦
+            let in-page = inner of.spot of.is in
+            let page-is : page_of d u ≡ Inner in-page.count = ap (page_of d) (sym of.slot) ∙ in-page.page in
+            let before : words_before (s.trees u) ≡ 4 = before_some s.trees u f tree in
+            subst (λ (z : Page). ShowsTree s.resident.places words' l.slots u f (IsOverwritten n) (place_of places) e z) (sym page-is)
+            (tree_pointed s.resident.places words words' l.slots u f (IsOverwritten m) (IsOverwritten n) (place_of m.places) (place_of places) d e in-page.count
+            (λ i less. others (page_at l.slots u i) (not_word of f tree i (inl less) (omega arith)))
+            (λ i from less. others (page_at l.slots u i) (not_word of f tree i (inr from) less))
+            (λ j less most was.
+            pointer_shows (at_index u j) (page_at l.slots u (4 + j)) (omega (arith, before)) (few, omega (arith, before))
+            (λ lost. absurd (true≢false (sym lost ∙ left))) was)
+            (λ j. spans (at_index u j)) (c.headers u left)
+            (subst (λ (z : Page). ShowsTree s.resident.places words l.slots u f (IsOverwritten m) (place_of m.places) d z) page-is h))
+        | inr other ↦
+            tree_shown s.resident.places words words' l.slots u f (IsOverwritten m) (IsOverwritten n) (place_of m.places) (place_of places) d e (page_of d u)
+            (λ i less. others (page_at l.slots u i) (not_page u i less (λ y is-in in-page same. other y is-in (sym same))))
+            (λ i. c.kept-places (spot u i) left) (λ k i over. over)
+            (λ j.
+            c.same (at_index u j) (λ same. other (record { slot = u; index = j }) same refl) left)
+            (c.headers u left) h
+      ]
     ]
       where
         -- it is none of the words of the page that aren't pointers'
@@ -469,7 +566,7 @@ module _ (laws : Laws) (l : Layout) (words : List ℕ) (views : List View) (s : 
           within = was.within;
           held = was.held;
           known = known_still z.slot was.known;
-          over = laid_spans (decl_of l.decls z.span.storage) s.trees d e z.slot z.span (c.pages z.slot) (c.headers z.slot)
+          over = laid_on (decl_of l.decls z.span.storage) s.trees d e z.slot z.span (c.pages z.slot) (c.buried z.slot)
               (λ j. spans (at_index z.slot j)) was.over;
         }
 
@@ -478,7 +575,8 @@ module _ (laws : Laws) (l : Layout) (words : List ℕ) (views : List View) (s : 
         let was = b.pages.drafts z has in
         let unled = owned_never d z.slot (slot_of d z.slot).state (slot_of d z.slot).led was.owned
         (b.sound.joint.pages.table.holds_counted.led z.slot) in
-        draft_same words words' l.slots d e v.grip.made v.grip.made z was.made (states z.slot) (c.headers z.slot)
+        draft_same words words' l.slots d e v.grip.made v.grip.made z was.made (states z.slot)
+        (c.headers z.slot (made_left z.slot unled))
         (λ i less. others (page_at l.slots z.slot i) (not_unled z.slot i less unled)) was
 
     made_never : (u : ℕ) → has_slot v.grip.made u ≡ true → is_never (slot_of d u).led ≡ true
@@ -504,7 +602,7 @@ module _ (laws : Laws) (l : Layout) (words : List ℕ) (views : List View) (s : 
             over = record {
               page = c.pages z.slot ∙ was.1.over.page;
               spans = λ j has. spans (at_index z.slot j) ∙ was.1.over.spans j has;
-              header = c.headers z.slot ∙ was.1.over.header;
+              header = c.headers z.slot left ∙ was.1.over.header;
             };
             page = was.1.page;
             exact = was.1.exact;
@@ -536,25 +634,49 @@ module _ (laws : Laws) (l : Layout) (words : List ℕ) (views : List View) (s : 
           },
         )
 
+    -- a split leaf is none of those that are gone
+    split_left : (u : ℕ) → page_of d u ≡ Split → has_slot gone u ≡ false
+    split_left u split = elim (cases_Bool (has_slot gone u)) [
+      | inl lost ↦ absurd (c.unsplit u lost split)
+      | inr left ↦ left
+    ]
+
     leds : (u : ℕ) → has_slot gone u ≡ false → (slot_of e u).led ≡ (slot_of d u).led
     leds u left = ap (λ (z : Slot). z.led) (c.keeps u left)
 
     known_leaf_still : (z : Known) → Contains v.known z → IsKnownLeaf l e s.trees v.grip.holds z
     known_leaf_still z has =
         let was = b.pages.treed.known z has in
-        known_same l s.trees d e v.grip.holds v.grip.holds z was.held (leds z.slot (tree_left z.slot was.fence was.there)) was
+        record {
+          within = was.within;
+          held = was.held;
+          known = known_still z.slot was.known;
+          fence = was.fence;
+          there = was.there;
+          front = was.front;
+        }
 
-    head_still : (z : Head) → IsHead l words d s.trees p z → IsHead l words' e s.trees p z
-    head_still z was =
-        head_same l words words' s.trees d e p z (c.headers z.slot) (c.pages z.slot)
+    head_still : (z : Head) → has_slot gone z.slot ≡ false → IsHead l words d s.trees p z → IsHead l words' e s.trees p z
+    head_still z left was =
+        head_same l words words' s.trees d e p z (c.headers z.slot left) (c.pages z.slot)
         (λ i less. others (page_at l.slots z.slot i) (not_leaf z.slot i z.keys less was.leaf)) was
 
     moved_still : (z : Moved) → Contains v.moved z → IsMoved l words' e s.trees v.grip.holds z
     moved_still z has =
         let was = b.pages.treed.moved z has in
-        moved_same l words words' s.trees d e v.grip.holds v.grip.holds z was.held
-        (leds z.slot (tree_left z.slot was.fence was.there)) (c.pages z.slot)
-        (λ i less. others (page_at l.slots z.slot i) (not_split z.slot i less was.split)) was
+        let stays : (i : ℕ) → i < 64 → get_or words' (page_at l.slots z.slot i) 0 ≡ get_or words (page_at l.slots z.slot i) 0 =
+        λ i less. others (page_at l.slots z.slot i) (not_split z.slot i less was.split) in
+        record {
+          within = was.within;
+          held = was.held;
+          known = known_still z.slot was.known;
+          split = c.pages z.slot ∙ was.split;
+          fence = was.fence;
+          there = was.there;
+          minor = stays 3 (omega arith) ∙ was.minor;
+          major = stays 4 (omega arith) ∙ was.major;
+          separator = stays 5 (omega arith) ∙ was.separator;
+        }
 
     inner_still : (z : InnerOf) → Contains v.inners z → IsInner l e s.trees v.grip.holds z
     inner_still z has =
@@ -566,7 +688,7 @@ module _ (laws : Laws) (l : Layout) (words : List ℕ) (views : List View) (s : 
     new_leaf_still z has =
         let was = b.pages.treed.new_leaves z has in
         let left = made_left z.slot (made_never z.slot was.made) in
-        new_leaf_at l m n d e s.trees s.trees v.grip.made v.grip.made z was.made (states z.slot) (c.headers z.slot)
+        new_leaf_at l m n d e s.trees s.trees v.grip.made v.grip.made z was.made (states z.slot) (c.headers z.slot left)
         (c.pages z.slot) refl (λ i. c.kept-places (spot z.slot i) left) was
 
     new_inner_still : (z : NewInner) → Contains v.new_inners z → IsNewInner l e s.trees s.resident v.grip.made z
@@ -599,7 +721,7 @@ module _ (laws : Laws) (l : Layout) (words : List ℕ) (views : List View) (s : 
       pub blanks : (u : ℕ) → has_slot v.blanks u ≡ true → IsBlank l.slots e v.grip.made u
       pub fills : (z : Filled) → Contains v.fills z → (v.role ≡ Keeper) × IsFilled l words' s.resident z
       pub known : (z : Known) → Contains v.known z → IsKnownLeaf l e s.trees v.grip.holds z
-      pub heads : (z : Head) → Contains v.heads z → IsHead l words' e s.trees p z
+      pub heads : (z : Head) → Contains v.heads z → has_slot gone z.slot ≡ false → IsHead l words' e s.trees p z
       pub moved : (z : Moved) → Contains v.moved z → IsMoved l words' e s.trees v.grip.holds z
       pub sealed : (u : ℕ) → has_slot v.sealed u ≡ true → IsSealed l e p u
       pub inners : (z : InnerOf) → Contains v.inners z → IsInner l e s.trees v.grip.holds z
@@ -614,10 +736,11 @@ module _ (laws : Laws) (l : Layout) (words : List ℕ) (views : List View) (s : 
       blanks = blank_still;
       fills = fill_still;
       known = known_leaf_still;
-      heads = λ z has. head_still z (b.pages.treed.heads p (is_at v.role active) z has);
+      heads = λ z has left. head_still z left (b.pages.treed.heads p (is_at v.role active) z has);
       moved = moved_still;
       sealed = λ u has.
-          sealed_at l d e p u (c.headers u) (c.pages u) (b.pages.treed.sealed p (is_at v.role active) u has);
+          let was = b.pages.treed.sealed p (is_at v.role active) u has in
+          sealed_at l d e p u (c.headers u (split_left u was.split)) (c.pages u) was;
       inners = inner_still;
       new_leaves = new_leaf_still;
       new_inners = new_inner_still;

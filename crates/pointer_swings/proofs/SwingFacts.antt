@@ -1,38 +1,43 @@
 -- What a swing finds, and the table that it leaves.
 use Rattle.std.proofs.Common.{◌≡◌, inl, inr, ℕ, zero, suc, ◌+◌, ◌/◌, ◌^◌, ◌<◌, ◌≤◌, Bool, true, false, true≢false, cond, eqb}
 use Rattle.std.proofs.Common.{eqb-true, leb, List, [], ◌∷◌, length, get_or, refl, sym, ap, ◌∙◌, subst, arith}
+use Rattle.serial_model.specs.declared.decl.Decl.{Decl}
 use Rattle.std.proofs.Common.{Option, Some, None}
 use Rattle.std.specs.Prelude.{◌||◌}
 use Rattle.std.proofs.lemmas.Bool.{and_from}
 use Rattle.std.proofs.lemmas.Bool.Decides.{nat_tests}
 use Rattle.homes.specs.declared.places.At.{At}
-use Rattle.homes.specs.declared.places.Holder.TheVariants.{Free, Dead}
+use Rattle.homes.specs.declared.places.Holder.{Holder}
+use Rattle.homes.specs.declared.places.Holder.TheVariants.{Free, Held, Dead}
 use Rattle.homes.specs.declared.places.Span.{Span}
 use Rattle.homes.specs.Homes.{is_free, same_span}
 use Rattle.homes.specs.Laws.{same_at-self}
 use Rattle.wire_form.specs.Words.{at_bit, slot_field}
 use Rattle.drop_core.specs.declared.table.Led.TheVariants.{Away, From}
+use Rattle.drop_core.specs.declared.table.Page.TheVariants.{Split}
 use Rattle.drop_core.specs.declared.table.Pointer.{Pointer}
 use Rattle.drop_core.specs.declared.table.Slot.{Slot}
 use Rattle.drop_core.specs.declared.table.Table.{Table}
-use Rattle.drop_core.specs.Event.{buried, bury, dropped, is_in, is_open, is_target}
-use Rattle.drop_core.specs.Table.{has_slot, header_of, is_led, is_live, is_never, page_span, pointer_of, slot_of, snap_of}
+use Rattle.drop_core.specs.Event.{buried, bury, dropped, is_closed_to_others, is_in, is_open, is_target}
+use Rattle.drop_core.specs.Table.{has_slot, header_of, page_of, is_led, is_live, is_never, page_span, pointer_of, slot_of, snap_of}
 use Rattle.drop_core.proofs.Buried.{away-other, away-same, buried-look}
 use Rattle.engine_pages.specs.declared.layout.Layout.{Layout}
 use Rattle.engine_pages.specs.declared.view.Lead.{Lead}
 use Rattle.engine_pages.specs.declared.view.View.{View}
-use Rattle.engine_pages.specs.Pages.{decl_of, is_array, IsLaidOutFor, IsOver}
+use Rattle.engine_pages.specs.Pages.{IsLaidOutFor}
 use Rattle.engine_pages.specs.Pointers.{half_of, is_open_word, slot_half}
-use Rattle.engine_pages.specs.Resident.{IsNamed}
+use Rattle.engine_rule.specs.Reading.{name_of}
+use Rattle.snapshot_store.specs.declared.place.PagePlace.{PagePlace}
+use Rattle.serial_model.specs.Keys.{id_of}
+use Rattle.engine_pages.specs.Resident.{IsNamed, place_for}
 use Rattle.engine_pages.specs.Rule.{Shared, IsLead}
 use Rattle.engine_pages.specs.Views.{IsActive, seat_number}
 use Rattle.engine_pages.specs.Words.{lock_field, ShowsPointer}
 use Rattle.engine_pages.proofs.Joint.{Laws}
 use Rattle.engine_pages.proofs.PointerLaws.{PointerIs, halves, open_pointer, pointer_is}
 use Rattle.engine_pages.proofs.Turns.{Begins}
-use Rattle.dual_pointer.proofs.Names.{named_none}
 use Rattle.pointer_swings.specs.Swings.{CanSwing}
-use Rattle.dual_pointer.proofs.Stands.{array_over, at_cases}
+use Rattle.dual_pointer.proofs.Stands.{at_cases}
 use Rattle.pointer_swings.proofs.Renewing.{span_self, target_page}
 use Rattle.pointer_swings.proofs.Steps.{IsGone}
 
@@ -52,6 +57,31 @@ one_slot t u has = by_test (eqb t u) refl
     by_test : (c : Bool) → eqb t u ≡ c → t ≡ u
     by_test true hit = eqb-true t u hit
     by_test false miss = absurd (true≢false (sym has ∙ ap (λ (c : Bool). c || false) miss))
+
+-- a pointer that names no page, over keys of a storage that is declared so
+named_zero : (decl : Decl) (xs : List (Decl × PagePlace)) (sp : Span) (number name : ℕ) → id_of decl ≡ sp.storage
+    → number ≡ 0 → name ≡ 0 → IsNamed xs sp number name
+named_zero decl xs sp number name storage none nameless = record {
+  decl = decl;
+  storage = storage;
+  is = nameless ∙ sym (zeroed number none);
+  there = λ some. absurd (omega (arith, none, some));
+}
+  where
+    zeroed : (n : ℕ) → n ≡ 0 → name_of xs decl (place_for sp n) ≡ 0
+    zeroed zero none = refl
+    zeroed (suc n) none = absurd (omega (arith, none))
+
+-- the header of the slot's page is the seat's or dead, and the page is no split leaf
+pub record IsClosed (d : Table) (p t : ℕ) : Type 0 where
+  pub closed : is_closed_to_others p (header_of d t) ≡ true
+  pub unsplit : page_of d t ≡ Split → ⊥
+
+-- the bit of a header that is the seat's or dead
+pub closed_bit : (p : ℕ) (h : Holder) → is_closed_to_others p h ≡ true → lock_field h ≡ at_bit 60 1
+closed_bit p Free is = absurd (true≢false (sym is))
+closed_bit p (Held o) is = refl
+closed_bit p Dead is = refl
 
 module _ (laws : Laws) (l : Layout) (words : List ℕ) (views : List View) (s : Shared) (id : ℕ) (v : View)
     (active : IsActive v.role) (b : Begins l words views s id v) (x : At) (sp : Span) (at t number expected : ℕ)
@@ -90,13 +120,8 @@ module _ (laws : Laws) (l : Layout) (words : List ℕ) (views : List View) (s : 
   pub opened : is_open d x ≡ true
   opened = and_from (is_live d x) (is_free q.holder) live (ap is_free free)
 
-  pub array : is_array l.decls sp.storage ≡ true
-  array = ap (λ (y : Layout). is_array y.decls sp.storage) (sym b.own.layout) ∙ c.array
-
-  pub laid : (s.trees t ≡ None) × IsOver d t sp
-  laid =
-      array_over (decl_of l.decls sp.storage) s.trees d t sp array
-      (subst (λ (z : Span). IsLaidOutFor l.decls s.trees d t z) found.span (b.sound.laid_out x t live leads))
+  pub laid : IsLaidOutFor l.decls s.trees d t sp
+  laid = subst (λ (z : Span). IsLaidOutFor l.decls s.trees d t z) found.span (b.sound.laid_out x t live leads)
 
   pub led : (slot_of d t).led ≡ From x
   led = b.sound.joint.pages.table.holds_counted.back x t live leads
@@ -121,7 +146,8 @@ module _ (laws : Laws) (l : Layout) (words : List ℕ) (views : List View) (s : 
       by_number : (k : ℕ) → number ≡ k → Target
       by_number zero e = record {
         name = 0;
-        named = named_none l.decls s.resident.places sp number 0 array e refl;
+        named = named_zero found.shows.named.decl s.resident.places sp number 0
+            (found.shows.named.storage ∙ ap (λ (z : Span). z.storage) found.span) e refl;
         most = omega arith;
         few = omega (arith, e);
         target = none_target;
@@ -191,7 +217,6 @@ module _ (laws : Laws) (l : Layout) (words : List ℕ) (views : List View) (s : 
         let is = slot_now u lost in
         let here : t ≡ u = one_slot t u lost in
         let from : (slot_of d u).led ≡ From x = ap (λ k. (slot_of d k).led) (sym here) ∙ led in record {
-          tree = ap s.trees (sym here) ∙ laid.0;
           known = ap is_never from;
           state = ap (λ (z : Slot). z.state) is;
           passes = ap (λ (z : Slot). z.passes) is;
@@ -200,13 +225,23 @@ module _ (laws : Laws) (l : Layout) (words : List ℕ) (views : List View) (s : 
           unled = ap (λ (z : Slot). is_led z.led) is;
         }
 
-    pub headers : (u : ℕ) → header_of e u ≡ header_of d u
-    headers u = by_test (eqb t u) refl
+    pub headers : (u : ℕ) → has_slot (t ∷ []) u ≡ false → header_of e u ≡ header_of d u
+    headers u left = by_test (eqb t u) refl left
       where
-        by_test : (k : Bool) → eqb t u ≡ k → header_of e u ≡ header_of d u
-        by_test true hit =
-            ap (λ (k : Bool). cond k Dead (header_of d u)) hit ∙ (sym (laid.1).header ∙ ap (header_of d) (eqb-true t u hit))
-        by_test false miss = ap (λ (k : Bool). cond k Dead (header_of d u)) miss
+        by_test : (i : Bool) → eqb t u ≡ i → (eqb t u || false) ≡ false → header_of e u ≡ header_of d u
+        by_test true hit left = absurd (true≢false (sym (ap (λ (i : Bool). i || false) hit) ∙ left))
+        by_test false miss left = ap (λ (i : Bool). cond i Dead (header_of d u)) miss
+
+    -- the header of the page that is gone is dead
+    header_gone : (u : ℕ) → eqb t u ≡ true → header_of e u ≡ Dead
+    header_gone u hit = ap (λ (i : Bool). cond i Dead (header_of d u)) hit
+
+    pub buried_so : (u : ℕ) → header_of d u ≡ Dead → header_of e u ≡ header_of d u
+    buried_so u dead = by_test (eqb t u) refl
+      where
+        by_test : (i : Bool) → eqb t u ≡ i → header_of e u ≡ header_of d u
+        by_test true hit = header_gone u hit ∙ sym dead
+        by_test false miss = ap (λ (i : Bool). cond i Dead (header_of d u)) miss
 
     -- what its word says
     pub shown : (w : Target) → w.name ≡ name → (ws : List ℕ) → get_or ws at 0 ≡ number → ShowsPointer s.resident.places ws at r
@@ -220,3 +255,17 @@ module _ (laws : Laws) (l : Layout) (words : List ℕ) (views : List View) (s : 
               (subst (IsNamed s.resident.places sp number) is-name w.named);
           keepers = found.shows.keepers;
         }
+
+    -- where nobody else can open its header
+    module _ (k : IsClosed d p t) where
+      pub closed : (u : ℕ) → lock_field (header_of e u) ≡ lock_field (header_of d u)
+      closed u = by_test (eqb t u) refl
+        where
+          by_test : (i : Bool) → eqb t u ≡ i → lock_field (header_of e u) ≡ lock_field (header_of d u)
+          by_test true hit =
+              ap (λ (h : Holder). lock_field h) (header_gone u hit)
+              ∙ sym (ap (λ u. lock_field (header_of d u)) (sym (eqb-true t u hit)) ∙ closed_bit p (header_of d t) k.closed)
+          by_test false miss = ap (λ (i : Bool). lock_field (cond i Dead (header_of d u))) miss
+
+      pub unsplit : (u : ℕ) → has_slot (t ∷ []) u ≡ true → page_of d u ≡ Split → ⊥
+      unsplit u lost split = k.unsplit (ap (page_of d) (one_slot t u lost) ∙ split)

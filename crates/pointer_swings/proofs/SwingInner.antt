@@ -42,14 +42,14 @@ use Rattle.pointer_swings.specs.Shuts.{shut_of}
 -- ---- a table with open pointers
 
 -- the pointer, as nobody's
-abbrev freed : At × Pointer → At × Pointer
+abbrev pub freed : At × Pointer → At × Pointer
 freed e = (e.0, record e.1 { holder = Free })
 
 -- the same table with all pointers open
-abbrev open_table : Table → Table
+abbrev pub open_table : Table → Table
 open_table d = record d { pointers = map freed d.pointers }
 
-freed-look : (ps : List (At × Pointer)) (y : At) (p : ℕ) → (look same_at no_pointer ps y).holder ≡ Held p
+pub freed-look : (ps : List (At × Pointer)) (y : At) (p : ℕ) → (look same_at no_pointer ps y).holder ≡ Held p
     → look same_at no_pointer (map freed ps) y ≡ record (look same_at no_pointer ps y) { holder = Free }
 freed-look [] y p held = let no : Dead ≡ Held p = held in absurd (cc)
 freed-look (e ∷ more) y p held = by_test (same_at e.0 y) refl (freed-look more y p)
@@ -70,13 +70,13 @@ freed-look (e ∷ more) y p held = by_test (same_at e.0 y) refl (freed-look more
         ∙ ap (λ (z : Pointer). let f : Pointer = record z { holder = Free } in f) (sym one))
 
 -- tests that agree below a number
-below_same : (n : ℕ) (f g : ℕ → Bool) → ((j : ℕ) → j < n → f j ≡ g j) → all_below n f ≡ all_below n g
+pub below_same : (n : ℕ) (f g : ℕ → Bool) → ((j : ℕ) → j < n → f j ≡ g j) → all_below n f ≡ all_below n g
 below_same zero f g same = refl
 below_same (suc n) f g same =
     ap (λ (c : Bool). c && all_below n f) (same n (omega arith))
     ∙ ap (λ (c : Bool). g n && c) (below_same n f g (λ j less. same j (omega arith)))
 
-all_true : (n : ℕ) (f : ℕ → Bool) → ((j : ℕ) → j < n → f j ≡ true) → all_below n f ≡ true
+pub all_true : (n : ℕ) (f : ℕ → Bool) → ((j : ℕ) → j < n → f j ≡ true) → all_below n f ≡ true
 all_true zero f each = refl
 all_true (suc n) f each = and_from (f n) (all_below n f) (each n (omega arith)) (all_true n f (λ j less. each j (omega arith)))
 

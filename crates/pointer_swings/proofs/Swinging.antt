@@ -37,7 +37,7 @@ use Rattle.commit_core.specs.Places.{place_of, spot_of, stands_at}
 use Rattle.drop_core.specs.declared.event.Act.TheVariants.{Swing}
 use Rattle.drop_core.specs.declared.grip.Grip.{Grip}
 use Rattle.drop_core.specs.declared.table.Page.{Page}
-use Rattle.drop_core.specs.declared.table.Page.TheVariants.{Leaf, Inner}
+use Rattle.drop_core.specs.declared.table.Page.TheVariants.{Leaf, Inner, Split}
 use Rattle.drop_core.specs.declared.table.Pointer.{Pointer}
 use Rattle.drop_core.specs.declared.table.Table.{Table}
 use Rattle.drop_core.specs.Event.{Turned, can_swing, can_swing_from, each_once, is_in}
@@ -51,7 +51,7 @@ use Rattle.engine_pages.specs.declared.layout.Layout.{Layout}
 use Rattle.engine_pages.specs.declared.view.Head.{Head}
 use Rattle.engine_pages.specs.declared.view.Shut.{Shut}
 use Rattle.engine_pages.specs.declared.view.View.{View}
-use Rattle.engine_pages.specs.Pages.{is_array, is_leaf_span, keys_from, IsOver}
+use Rattle.engine_pages.specs.Pages.{decl_of, is_array, is_leaf_span, keys_from, shape_of, IsLaidOutFor, IsOver}
 use Rattle.engine_pages.specs.Rule.{Shared, IsShut, Shows}
 use Rattle.engine_pages.specs.Slots.{other_shuts}
 use Rattle.engine_pages.specs.Steps.{read_at}
@@ -65,8 +65,9 @@ use Rattle.engine_pages.proofs.Turns.{Stride, Begins, allows_at}
 use Rattle.dual_pointer.proofs.InnerStands.{IsParted, parted}
 use Rattle.dual_pointer.proofs.Moves.{leaf_stands}
 use Rattle.dual_pointer.proofs.SnapWords.{LeafSays, leaf_says}
+use Rattle.dual_pointer.proofs.Stands.{array_over}
 use Rattle.pointer_swings.specs.Shuts.{shut_of}
-use Rattle.pointer_swings.specs.Swings.{CanSwing, HasSwung, swung}
+use Rattle.pointer_swings.specs.Swings.{CanSwing, HasSwung, IsArrayAs, swung}
 use Rattle.pointer_swings.proofs.LettingGo.{keeper_idle}
 use Rattle.pointer_swings.proofs.Locked.{locked_held, locked_home, locked_proper, locked_says}
 use Rattle.pointer_swings.proofs.Misses.{missed}
@@ -75,8 +76,15 @@ use Rattle.pointer_swings.proofs.Renewing.{last_more}
 use Rattle.pointer_swings.proofs.Shutting.{keeper_active}
 use Rattle.pointer_swings.proofs.Steps.{Repointed, old_now, pointer_stride, shut_still}
 use Rattle.pointer_swings.proofs.SwingInner.{shut_like, shut_stood}
-use Rattle.pointer_swings.proofs.SwingFacts.{Target, array, away, dead, e as now_with, found, free, headers, keeps, laid, leads}
-use Rattle.pointer_swings.proofs.SwingFacts.{one_slot, opened, r as led_down, same, shown, target, there}
+use Rattle.pointer_swings.proofs.SwingFacts.{IsClosed, Target, away, buried_so, closed, dead, e as now_with, found, free, headers, keeps}
+use Rattle.pointer_swings.proofs.SwingFacts.{laid, leads, one_slot, opened, r as led_down, same, shown, target, there, unsplit}
+
+-- a header of another slot
+head_other : (t : ℕ) (z : Head) → not (eqb z.slot t) ≡ true → has_slot (t ∷ []) z.slot ≡ false
+head_other t z other = elim (cases_Bool (eqb t z.slot)) [
+  | inl same ↦ absurd (true≢false (sym other ∙ ap not (eq-eqb z.slot t (sym (eqb-true t z.slot same)))))
+  | inr apart ↦ ap (λ (c : Bool). c || false) apart
+]
 
 -- a leaf's range has as many keys as it has room for
 leaf_end : (sp : Span) (height : ℕ) → sp.high ≡ sp.low + last_at height → is_leaf_span sp ≡ true → sp.high ≡ sp.low + 31
@@ -86,7 +94,7 @@ leaf_end sp (suc height) exact leaf =
     let many = last_more height in absurd (omega (arith, exact, near, many))
 
 -- a lock's bit is that of a dead record
-held_bit : (p : ℕ) (h : Holder) → holder_is p h ≡ true → lock_field h ≡ at_bit 60 1
+pub held_bit : (p : ℕ) (h : Holder) → holder_is p h ≡ true → lock_field h ≡ at_bit 60 1
 held_bit p Free is = absurd (true≢false (sym is))
 held_bit p (Held o) is = refl
 held_bit p Dead is = refl
@@ -125,48 +133,49 @@ module _ (laws : Laws) (l : Layout) (words : List ℕ) (views : List View) (s : 
   abbrev q : Pointer
   q = pointer_of d x
 
-  to : Target laws l words views s id v active b x sp at t number expected c n-is
+  pub to : Target laws l words views s id v active b x sp at t number expected c n-is
   to = target laws l words views s id v active b x sp at t number expected c n-is
 
-  abbrev e : Table
+  abbrev pub e : Table
   e = now_with laws l words views s id v active b x sp at t number expected c n-is to.name
 
-  abbrev r : Pointer
+  abbrev pub r : Pointer
   r = led_down laws l words views s id v active b x sp at t number expected c n-is to.name
 
-  abbrev w : View
+  abbrev pub w : View
   w = swung t at number (get_or words at 0) v
 
-  idle : v.seat.stage ≡ Idle
+  pub idle : v.seat.stage ≡ Idle
   idle = keeper_idle l v c.keeper b.fits.part
 
-  leads-to : q.slot ≡ Some t
+  pub leads-to : q.slot ≡ Some t
   leads-to = leads laws l words views s id v active b x sp at t number expected c n-is
 
-  in-array : is_array l.decls sp.storage ≡ true
-  in-array = array laws l words views s id v active b x sp at t number expected c n-is
-
-  span-is : q.span ≡ sp
+  pub span-is : q.span ≡ sp
   span-is = (found laws l words views s id v active b x sp at t number expected c n-is).span
 
-  over : (s.trees t ≡ None) × IsOver d t sp
-  over = laid laws l words views s id v active b x sp at t number expected c n-is
+  pub laid-out : IsLaidOutFor l.decls s.trees d t sp
+  laid-out = laid laws l words views s id v active b x sp at t number expected c n-is
 
   -- the table, with the story's places, homes and horizon
-  abbrev Point : List (Spot × Place) → List (Key × Home) → Number → Type 0
+  abbrev pub Point : List (Spot × Place) → List (Key × Home) → Number → Type 0
   Point places homes horizon =
       Repointed laws l words views s id v active b x sp at number c.place places homes horizon e r (t ∷ [])
 
-  point : (places : List (Spot × Place)) (homes : List (Key × Home)) (horizon : Number)
+  pub point : IsClosed d p t → (places : List (Spot × Place)) (homes : List (Key × Home)) (horizon : Number)
       → ((u j k : ℕ) → has_slot (t ∷ []) u ≡ true → page_of d u ≡ Inner k → j < k
       → lock_field (pointer_of d (at_index u j)).holder ≡ at_bit 60 1)
       → ((y : Spot) → has_slot (t ∷ []) y.slot ≡ false → place_of places y ≡ place_of m.places y)
       → ((y : Spot) → (place_of places y).content ≡ (place_of m.places y).content)
       → ((y : Spot) → lock_field (place_of places y).holder ≡ lock_field (place_of m.places y).holder)
+      → ((y : Spot) → (place_of places y).holder ≡ Free → (place_of m.places y).holder ≡ Free)
       → Point places homes horizon
-  point places homes horizon shut kept contents locked = record {
+  point k places homes horizon shut kept contents locked freed = record {
     pages = λ u. refl;
     headers = headers laws l words views s id v active b x sp at t number expected c n-is to.name;
+    closed = closed laws l words views s id v active b x sp at t number expected c n-is to.name k;
+    buried = buried_so laws l words views s id v active b x sp at t number expected c n-is to.name;
+    unsplit = unsplit laws l words views s id v active b x sp at t number expected c n-is to.name k;
     room = refl;
     named = let was = b.sound.named in record { count = was.count; none = was.none; says = was.says; stand = was.stand; below = was.below };
     there = there laws l words views s id v active b x sp at t number expected c n-is to.name;
@@ -181,6 +190,7 @@ module _ (laws : Laws) (l : Layout) (words : List ℕ) (views : List View) (s : 
     kept-places = kept;
     contents = contents;
     locked = locked;
+    freed = freed;
   }
     where
       none_some : (u : ℕ) → None ≡ Some u → ⊥
@@ -189,15 +199,15 @@ module _ (laws : Laws) (l : Layout) (words : List ℕ) (views : List View) (s : 
   -- ---- what is asked of the pages
 
   -- what the machine of pages asks, where the page may be stood for
-  pages_allow : is_like d t (page_of d t) (snap_of d to.name) ≡ true → is_stood_for p d t to.name q.span (page_of d t) ≡ true
+  pub pages_allow : IsClosed d p t → is_like d t (page_of d t) (snap_of d to.name) ≡ true → is_stood_for p d t to.name q.span (page_of d t) ≡ true
       → page_allows p d (s.grips p) (Swing x to.name) ≡ true
-  pages_allow like stood =
+  pages_allow k like stood =
       and_from (can_swing p d x to.name) (keeps_header p d q.slot)
       (and_from (is_open d x) _ (opened laws l words views s id v active b x sp at t number expected c n-is)
       (and_from (is_target d to.name q.span) (can_swing_from p d x to.name q.slot) to.target
       (ap (can_swing_from p d x to.name) leads-to
       ∙ and_from (is_like d t (page_of d t) (snap_of d to.name)) (is_stood_for p d t to.name q.span (page_of d t)) like stood)))
-      (ap (keeps_header p d) leads-to ∙ ap (is_closed_to_others p) (over.1).header)
+      (ap (keeps_header p d) leads-to ∙ k.closed)
 
   -- the grip and the table that it leaves
   turned-is : page_effect p d (s.grips p) (Swing x to.name) ≡ record { table = e; grip = w.grip }
@@ -213,7 +223,7 @@ module _ (laws : Laws) (l : Layout) (words : List ℕ) (views : List View) (s : 
 
   -- ---- the step, whatever moves
 
-  stride_with : (places : List (Spot × Place)) (homes : List (Key × Home)) (horizon : Number) (f : ℕ → ℕ)
+  pub stride_with : (places : List (Spot × Place)) (homes : List (Key × Home)) (horizon : Number) (f : ℕ → ℕ)
       (tells : View → ℕ → View → Type 0) → Point places homes horizon → f (get_or words at 0) ≡ number
       → may_do s p (TurnPages (Swing x to.name)) ≡ true
       → after_moves p m (s.seats p) (moves d (Swing x to.name))
@@ -265,7 +275,9 @@ module _ (laws : Laws) (l : Layout) (words : List ℕ) (views : List View) (s : 
           leads = b.pages.leads;
           fills = old.fills;
           known = old.known;
-          heads = λ z has. old.heads z (in_filter (λ (y : Head). not (eqb y.slot t)) z v.heads has);
+          heads = λ z has.
+              old.heads z (in_filter (λ (y : Head). not (eqb y.slot t)) z v.heads has)
+              (head_other t z (filter_only (λ (y : Head). not (eqb y.slot t)) z v.heads has));
           moved = old.moved;
           sealed = old.sealed;
           inners = old.inners;
@@ -279,209 +291,205 @@ module _ (laws : Laws) (l : Layout) (words : List ℕ) (views : List View) (s : 
         };
       } tells-so
 
-  seat-is : s.seats p ≡ v.seat
+  pub seat-is : s.seats p ≡ v.seat
   seat-is = sym b.own.seat
 
-  begins : can_begin (s.seats p).stage ≡ true
+  pub begins : can_begin (s.seats p).stage ≡ true
   begins = ap (λ (y : Seat). can_begin y.stage) seat-is ∙ ap can_begin idle
 
-  -- ---- a leaf
+  -- ---- an array's page
 
-  module _ (leaf : is_leaf_span sp ≡ true) where
-    abbrev keys : List Key
-    keys = keys_from sp.storage sp.low 32
+  module _ (a : IsArrayAs v t sp number) where
+    in-array : is_array l.decls sp.storage ≡ true
+    in-array = ap (λ (y : Layout). is_array y.decls sp.storage) (sym b.own.layout) ∙ a.array
 
-    abbrev down : Key → Home
-    down = snap_home d to.name
+    over : (s.trees t ≡ None) × IsOver d t sp
+    over = array_over (decl_of l.decls sp.storage) s.trees d t sp in-array laid-out
 
-    abbrev leaf-moves : List Move
-    leaf-moves = moves_to down keys
-
-    exact : sp.high ≡ sp.low + 31
-    exact = leaf_end sp c.height c.exact leaf
-
-    page-is : page_of d t ≡ Leaf keys
-    page-is = (over.1).page ∙ leaf_shape sp leaf
-
-    moves-are : moves d (Swing x to.name) ≡ leaf-moves
-    moves-are =
-        ap (λ o. moves_to down (keys_in d o)) leads-to ∙ ap (λ (z : Page). moves_to down (leaf_keys z)) page-is
-
-    says-so : LeafSays d to.name sp (page_words s.resident.pages number)
-    says-so = leaf_says l.decls s.resident d sp number to.name b.sound.declared b.sound.named to.named in-array exact
-
-    can : CanMoveDown p m d t sp to.name
-    can = record {
-      at = λ i few. ap (stands_at m.places) (locked_home l words views s id v b c.keeper t sp number c.there in-array i (c.records leaf i few));
-      held = λ i few. locked_held l words views s id v b c.keeper t sp number c.there in-array i (c.records leaf i few);
-      says = λ i few. locked_says l words views s id v b c.keeper t sp number c.there in-array i (c.records leaf i few) ∙ sym (says-so.says i few);
-      proper = λ i few. locked_proper l words views s id v b c.keeper t sp number c.there in-array i (c.records leaf i few);
-      tried = λ a has now. let after = (b.fits.keepers c.keeper).past.tried a has now in omega arith;
+    array-closed : IsClosed d p t
+    array-closed = record {
+      closed = ap (is_closed_to_others p) (over.1).header;
+      unsplit = λ split. by_kind (is_leaf_span sp) refl ((over.1).page) split;
     }
-
-    abbrev places : List (Spot × Place)
-    places = buried_places leaf-moves m.homes m.places
-
-    -- a place that is left is one of the leaf's
-    left_here : (y : Spot) → is_left leaf-moves m.homes y ≡ true → (i : ℕ) × (i < 32) × (y ≡ spot t (0 + i))
-    left_here y lost =
-        left_row down m.homes t 0 sp.storage sp.low 32 y
-        (λ i few.
-        ap spot_of (locked_home l words views s id v b c.keeper t sp number c.there in-array i (c.records leaf i few))
-        ∙ ap (λ k. Some (spot t k)) (zero_plus i)) lost
       where
-        zero_plus : (i : ℕ) → i ≡ 0 + i
-        zero_plus i = omega arith
+        by_kind : (i : Bool) → is_leaf_span sp ≡ i → page_of d t ≡ shape_of sp → page_of d t ≡ Split → ⊥
+        by_kind true leaf page split =
+            let no : Leaf (keys_from sp.storage sp.low 32) ≡ Split = sym (page ∙ leaf_shape sp leaf) ∙ split in absurd (cc)
+        by_kind false inner page split =
+            let no : Inner 64 ≡ Split = sym (page ∙ inner_shape sp inner) ∙ split in absurd (cc)
 
-    leaf-point : Point places (rehomed leaf-moves m.homes) (horizon_after m.horizon m.places m.homes leaf-moves)
-    leaf-point = point places (rehomed leaf-moves m.homes) (horizon_after m.horizon m.places m.homes leaf-moves)
-        (λ u j k lost inner less.
-        let here : t ≡ u = one_slot t u lost in
-        let no : Leaf keys ≡ Inner k = sym page-is ∙ (ap (page_of d) here ∙ inner) in absurd (cc))
-        (λ y left. elim (cases_Bool (is_left leaf-moves m.homes y)) [
-          | inl lost ↦
-              let at-i = left_here y lost in
-              let slot : t ≡ y.slot = ap (λ (z : Spot). z.slot) (sym at-i.2) in
-              absurd (true≢false (sym (ap (λ (k : Bool). k || false) (eq-eqb t y.slot slot)) ∙ left))
-          | inr stays ↦ place-stays leaf-moves m.homes m.places y stays
-        ])
-        (λ y. elim (cases_Bool (is_left leaf-moves m.homes y)) [
-          | inl lost ↦ ap (λ (z : Place). z.content) (place-left leaf-moves m.homes m.places y lost)
-          | inr stays ↦ ap (λ (z : Place). z.content) (place-stays leaf-moves m.homes m.places y stays)
-        ])
-        (λ y. elim (cases_Bool (is_left leaf-moves m.homes y)) [
-          | inl lost ↦
-              let at-i = left_here y lost in
-              let i : ℕ = at-i.0 in
-              let here : y ≡ spot t i = at-i.2 ∙ ap (spot t) (plus_zero i) in
-              ap (λ (z : Place). lock_field z.holder) (place-left leaf-moves m.homes m.places y lost)
-              ∙ sym (ap (λ z. lock_field (place_of m.places z).holder) here
-              ∙ held_bit p (place_of m.places (spot t i)).holder
-              (locked_held l words views s id v b c.keeper t sp number c.there in-array i (c.records leaf i at-i.1)))
-          | inr stays ↦ ap (λ (z : Place). lock_field z.holder) (place-stays leaf-moves m.homes m.places y stays)
-        ])
-      where
-        plus_zero : (i : ℕ) → 0 + i ≡ i
-        plus_zero i = omega arith
+    -- ---- a leaf
 
-    moved-leaf : after_moves p m (s.seats p) (moves d (Swing x to.name))
-        ≡ record { story = with_moves m leaf-moves; seat = record v.seat { locks = [] } }
-    moved-leaf =
-        ap (after_moves p m (s.seats p)) moves-are
-        ∙ ap (moved_as (with_moves m leaf-moves))
-        (ap (λ (y : Seat). settled (record y { locks = filter (λ k. not (moves_key leaf-moves k)) y.locks })) seat-is
-        ∙ (ap (λ ks. settled (record v.seat { locks = ks })) (locks_gone down keys v.seat.locks (c.own leaf))
-        ∙ ap (λ g. settled_at g (record v.seat { locks = [] })) idle))
+    module _ (leaf : is_leaf_span sp ≡ true) where
+      abbrev keys : List Key
+      keys = keys_from sp.storage sp.low 32
 
-    may-leaf : may_do s p (TurnPages (Swing x to.name)) ≡ true
-    may-leaf =
-        let stands = leaf_stands d to.name sp exact in
-        let one = and_parts (each_once keys) (list_all (λ k. in_span sp k) keys && leaves_none_out d to.name sp keys) stands in
-        let two = and_parts (list_all (λ k. in_span sp k) keys) (leaves_none_out d to.name sp keys) one.1 in
-        let lets : commit_lets p m (s.seats p) d (Swing x to.name) ≡ true =
-        and_from (can_begin (s.seats p).stage) _ begins
-        (ap (λ ks. holds_all p m ks && absences_are_old m ks) keys-are
-        ∙ and_from (holds_all p m keys) (absences_are_old m keys) (holds_keys p m d t sp to.name can) (absences_old p m d t sp to.name can)) in
-        and_from (page_allows p d (s.grips p) (Swing x to.name))
-        (commit_lets p m (s.seats p) d (Swing x to.name) && may_move p m (s.seats p) (moves d (Swing x to.name)))
-        (pages_allow
-        (ap (λ (z : Page). is_like d t z (snap_of d to.name)) page-is ∙ says-so.leaf)
-        (ap (λ (z : Page). is_stood_for p d t to.name q.span z) page-is ∙ (ap (λ z. leaves_none_out d to.name z keys) span-is ∙ two.1)))
-        (and_from (commit_lets p m (s.seats p) d (Swing x to.name)) (may_move p m (s.seats p) (moves d (Swing x to.name))) lets
-        (ap (may_move p m (s.seats p)) moves-are
-        ∙ (ap (λ k. can_rehome p k m leaf-moves) begins ∙ may_move_down p m d t sp to.name can)))
-      where
-        keys-are : keys_in d q.slot ≡ keys
-        keys-are = ap (keys_in d) leads-to ∙ ap leaf_keys page-is
+      abbrev down : Key → Home
+      down = snap_home d to.name
 
-    pub leaf_stride : (f : ℕ → ℕ) (tells : View → ℕ → View → Type 0) → f (get_or words at 0) ≡ number
-        → tells v (get_or words at 0) w → Stride l words views s p v at f tells
-    leaf_stride f tells f-is tells-so =
-        stride_with places (rehomed leaf-moves m.homes) (horizon_after m.horizon m.places m.homes leaf-moves) f tells leaf-point
-        f-is may-leaf moved-leaf tells-so
+      abbrev leaf-moves : List Move
+      leaf-moves = moves_to down keys
 
-  -- ---- an interior page
+      exact : sp.high ≡ sp.low + 31
+      exact = leaf_end sp a.height a.exact leaf
 
-  module _ (inner : is_leaf_span sp ≡ false) where
-    inner-is : page_of d t ≡ Inner 64
-    inner-is = (over.1).page ∙ inner_shape sp inner
+      page-is : page_of d t ≡ Leaf keys
+      page-is = (over.1).page ∙ leaf_shape sp leaf
 
-    none-moved : moves d (Swing x to.name) ≡ []
-    none-moved =
-        ap (λ o. moves_to (snap_home d to.name) (keys_in d o)) leads-to
-        ∙ ap (λ (z : Page). moves_to (snap_home d to.name) (leaf_keys z)) inner-is
+      moves-are : moves d (Swing x to.name) ≡ leaf-moves
+      moves-are =
+          ap (λ o. moves_to down (keys_in d o)) leads-to ∙ ap (λ (z : Page). moves_to down (leaf_keys z)) page-is
 
-    shut-here : (j : ℕ) → j < 64 → IsShut d s.resident p v.grip.holds (shut_of (at_index t j) (get_or (page_words v.pages number) j 0))
-    shut-here j less =
-        b.pages.shuts p (is_at v.role active) (shut_of (at_index t j) (get_or (page_words v.pages number) j 0)) (c.pointers inner j less)
+      says-so : LeafSays d to.name sp (page_words s.resident.pages number)
+      says-so = leaf_says l.decls s.resident d sp number to.name b.sound.declared b.sound.named to.named in-array exact
 
-    parts : IsParted sp
-    parts = parted sp c.height c.exact inner
+      can : CanMoveDown p m d t sp to.name
+      can = record {
+        at = λ i few. ap (stands_at m.places) (locked_home l words views s id v b c.keeper t sp number c.there in-array i (a.records leaf i few));
+        held = λ i few. locked_held l words views s id v b c.keeper t sp number c.there in-array i (a.records leaf i few);
+        says = λ i few. locked_says l words views s id v b c.keeper t sp number c.there in-array i (a.records leaf i few) ∙ sym (says-so.says i few);
+        proper = λ i few. locked_proper l words views s id v b c.keeper t sp number c.there in-array i (a.records leaf i few);
+        tried = λ a has now. let after = (b.fits.keepers c.keeper).past.tried a has now in omega arith;
+      }
 
-    inner-point : Point m.places m.homes m.horizon
-    inner-point = point m.places m.homes m.horizon
-        (λ u j k lost is less.
-        let here : t ≡ u = one_slot t u lost in
-        let same : Inner k ≡ Inner 64 = sym is ∙ (ap (page_of d) (sym here) ∙ inner-is) in
-        let count : k ≡ 64 = cc in
-        ap (λ i. lock_field (pointer_of d (at_index i j)).holder) (sym here) ∙ ap lock_field (shut-here j (omega (arith, less, count))).shut)
-        (λ y left. refl) (λ y. refl) (λ y. refl)
+      abbrev places : List (Spot × Place)
+      places = buried_places leaf-moves m.homes m.places
 
-    moved-none : after_moves p m (s.seats p) (moves d (Swing x to.name))
-        ≡ record { story = m; seat = record v.seat { locks = [] } }
-    moved-none =
-        ap (after_moves p m (s.seats p)) none-moved
-        ∙ (ap (moved_as m) seat-is ∙ ap (λ ks. moved_as m (record v.seat { locks = ks })) (c.unlocked inner))
+      -- a place that is left is one of the leaf's
+      left_here : (y : Spot) → is_left leaf-moves m.homes y ≡ true → (i : ℕ) × (i < 32) × (y ≡ spot t (0 + i))
+      left_here y lost =
+          left_row down m.homes t 0 sp.storage sp.low 32 y
+          (λ i few.
+          ap spot_of (locked_home l words views s id v b c.keeper t sp number c.there in-array i (a.records leaf i few))
+          ∙ ap (λ k. Some (spot t k)) (zero_plus i)) lost
+        where
+          zero_plus : (i : ℕ) → i ≡ 0 + i
+          zero_plus i = omega arith
 
-    may-inner : may_do s p (TurnPages (Swing x to.name)) ≡ true
-    may-inner =
-        let lets : commit_lets p m (s.seats p) d (Swing x to.name) ≡ true =
-        and_from (can_begin (s.seats p).stage) _ begins (ap (λ ks. holds_all p m ks && absences_are_old m ks) no-keys) in
-        and_from (page_allows p d (s.grips p) (Swing x to.name))
-        (commit_lets p m (s.seats p) d (Swing x to.name) && may_move p m (s.seats p) (moves d (Swing x to.name)))
-        (pages_allow
-        (ap (λ (z : Page). is_like d t z (snap_of d to.name)) inner-is
-        ∙ shut_like l words views s id v b t sp number to.name over.1 inner parts c.there to.named in-array to.most shut-here (c.low inner))
-        (ap (λ (z : Page). is_stood_for p d t to.name q.span z) inner-is
-        ∙ shut_stood l words views s id v b t sp number to.name over.1 inner parts c.there to.named in-array to.most shut-here (c.low inner)))
-        (and_from (commit_lets p m (s.seats p) d (Swing x to.name)) (may_move p m (s.seats p) (moves d (Swing x to.name))) lets
-        (ap (may_move p m (s.seats p)) none-moved))
-      where
-        no-keys : keys_in d q.slot ≡ []
-        no-keys = ap (keys_in d) leads-to ∙ ap leaf_keys inner-is
+      leaf-point : Point places (rehomed leaf-moves m.homes) (horizon_after m.horizon m.places m.homes leaf-moves)
+      leaf-point = point array-closed places (rehomed leaf-moves m.homes) (horizon_after m.horizon m.places m.homes leaf-moves)
+          (λ u j k lost inner less.
+          let here : t ≡ u = one_slot t u lost in
+          let no : Leaf keys ≡ Inner k = sym page-is ∙ (ap (page_of d) here ∙ inner) in absurd (cc))
+          (λ y left. elim (cases_Bool (is_left leaf-moves m.homes y)) [
+            | inl lost ↦
+                let at-i = left_here y lost in
+                let slot : t ≡ y.slot = ap (λ (z : Spot). z.slot) (sym at-i.2) in
+                absurd (true≢false (sym (ap (λ (k : Bool). k || false) (eq-eqb t y.slot slot)) ∙ left))
+            | inr stays ↦ place-stays leaf-moves m.homes m.places y stays
+          ])
+          (λ y. elim (cases_Bool (is_left leaf-moves m.homes y)) [
+            | inl lost ↦ ap (λ (z : Place). z.content) (place-left leaf-moves m.homes m.places y lost)
+            | inr stays ↦ ap (λ (z : Place). z.content) (place-stays leaf-moves m.homes m.places y stays)
+          ])
+          (λ y. elim (cases_Bool (is_left leaf-moves m.homes y)) [
+            | inl lost ↦
+                let at-i = left_here y lost in
+                let i : ℕ = at-i.0 in
+                let here : y ≡ spot t i = at-i.2 ∙ ap (spot t) (plus_zero i) in
+                ap (λ (z : Place). lock_field z.holder) (place-left leaf-moves m.homes m.places y lost)
+                ∙ sym (ap (λ z. lock_field (place_of m.places z).holder) here
+                ∙ held_bit p (place_of m.places (spot t i)).holder
+                (locked_held l words views s id v b c.keeper t sp number c.there in-array i (a.records leaf i at-i.1)))
+            | inr stays ↦ ap (λ (z : Place). lock_field z.holder) (place-stays leaf-moves m.homes m.places y stays)
+          ])
+          (λ y free. elim (cases_Bool (is_left leaf-moves m.homes y)) [
+            | inl lost ↦
+                let no : Dead ≡ Free =
+                sym (ap (λ (z : Place). z.holder) (place-left leaf-moves m.homes m.places y lost)) ∙ free in absurd (cc)
+            | inr stays ↦ ap (λ (z : Place). z.holder) (sym (place-stays leaf-moves m.homes m.places y stays)) ∙ free
+          ])
+        where
+          plus_zero : (i : ℕ) → 0 + i ≡ i
+          plus_zero i = omega arith
 
-    pub inner_stride : (f : ℕ → ℕ) (tells : View → ℕ → View → Type 0) → f (get_or words at 0) ≡ number
-        → tells v (get_or words at 0) w → Stride l words views s p v at f tells
-    inner_stride f tells f-is tells-so =
-        stride_with m.places m.homes m.horizon f tells inner-point f-is may-inner moved-none tells-so
+      moved-leaf : after_moves p m (s.seats p) (moves d (Swing x to.name))
+          ≡ record { story = with_moves m leaf-moves; seat = record v.seat { locks = [] } }
+      moved-leaf =
+          ap (after_moves p m (s.seats p)) moves-are
+          ∙ ap (moved_as (with_moves m leaf-moves))
+          (ap (λ (y : Seat). settled (record y { locks = filter (λ k. not (moves_key leaf-moves k)) y.locks })) seat-is
+          ∙ (ap (λ ks. settled (record v.seat { locks = ks })) (locks_gone down keys v.seat.locks (a.own leaf))
+          ∙ ap (λ g. settled_at g (record v.seat { locks = [] })) idle))
 
-pub swings : Laws → (l : Layout) (slots id : ℕ) (me : Me (Unit {0}) View) (x : At) (sp : Span) (at t number expected : ℕ)
-    → CanSwing me.0 x sp at t number expected
-    → Allows (λ s. Shows l s.words s.views) slots id me at (λ k. either (eqb k expected) number k)
-    (λ k now. (now.1 ≡ me.1) × HasSwung t at number expected me.0 k now.0)
-swings laws l slots id me x sp at t number expected can =
-    allows_at laws l slots id me at (λ k. either (eqb k expected) number k) (HasSwung t at number expected)
-    (keeper_active me.0.role can.keeper)
-    (λ words views s b. by_found words views s b (eqb (get_or words at 0) expected) refl)
-  where
-    by_found : (words : List ℕ) (views : List View) (s : Shared) → Begins l words views s id me.0 → (c : Bool)
-        → eqb (get_or words at 0) expected ≡ c
-        → Stride l words views s (seat_number me.0.role) me.0 at (λ k. either (eqb k expected) number k) (HasSwung t at number expected)
-    by_found words views s b true found =
-        let n : ℕ = get_or words at 0 in
-        let active = keeper_active me.0.role can.keeper in
-        let n-is = eqb-true n expected found in
-        let f : ℕ → ℕ = λ k. either (eqb k expected) number k in
-        let f-is : f n ≡ number = ap (λ c. either c number n) found in
-        let so = subst (λ c. MatchBool c (swung t at number n me.0 ≡ swung t at number n me.0) (swung t at number n me.0 ≡ read_at at n me.0)) (sym found) refl in
-        elim (cases_Bool (is_leaf_span sp)) [
-          | inl leaf ↦
-              leaf_stride laws l words views s id me.0 active b x sp at t number expected can n-is leaf f (HasSwung t at number expected) f-is so
-          | inr inner ↦
-              inner_stride laws l words views s id me.0 active b x sp at t number expected can n-is inner f (HasSwung t at number expected) f-is so
-        ]
-    by_found words views s b false found =
-        let n : ℕ = get_or words at 0 in
-        missed l words views s id me.0 (keeper_active me.0.role can.keeper) b x sp at can.place
-        (λ k. either (eqb k expected) number k) (HasSwung t at number expected) (ap (λ c. either c number n) found)
-        (subst (λ c. MatchBool c (read_at at n me.0 ≡ swung t at number n me.0) (read_at at n me.0 ≡ read_at at n me.0)) (sym found) refl)
+      may-leaf : may_do s p (TurnPages (Swing x to.name)) ≡ true
+      may-leaf =
+          let stands = leaf_stands d to.name sp exact in
+          let one = and_parts (each_once keys) (list_all (λ k. in_span sp k) keys && leaves_none_out d to.name sp keys) stands in
+          let two = and_parts (list_all (λ k. in_span sp k) keys) (leaves_none_out d to.name sp keys) one.1 in
+          let lets : commit_lets p m (s.seats p) d (Swing x to.name) ≡ true =
+          and_from (can_begin (s.seats p).stage) _ begins
+          (ap (λ ks. holds_all p m ks && absences_are_old m ks) keys-are
+          ∙ and_from (holds_all p m keys) (absences_are_old m keys) (holds_keys p m d t sp to.name can) (absences_old p m d t sp to.name can)) in
+          and_from (page_allows p d (s.grips p) (Swing x to.name))
+          (commit_lets p m (s.seats p) d (Swing x to.name) && may_move p m (s.seats p) (moves d (Swing x to.name)))
+          (pages_allow array-closed
+          (ap (λ (z : Page). is_like d t z (snap_of d to.name)) page-is ∙ says-so.leaf)
+          (ap (λ (z : Page). is_stood_for p d t to.name q.span z) page-is ∙ (ap (λ z. leaves_none_out d to.name z keys) span-is ∙ two.1)))
+          (and_from (commit_lets p m (s.seats p) d (Swing x to.name)) (may_move p m (s.seats p) (moves d (Swing x to.name))) lets
+          (ap (may_move p m (s.seats p)) moves-are
+          ∙ (ap (λ k. can_rehome p k m leaf-moves) begins ∙ may_move_down p m d t sp to.name can)))
+        where
+          keys-are : keys_in d q.slot ≡ keys
+          keys-are = ap (keys_in d) leads-to ∙ ap leaf_keys page-is
+
+      pub leaf_stride : (f : ℕ → ℕ) (tells : View → ℕ → View → Type 0) → f (get_or words at 0) ≡ number
+          → tells v (get_or words at 0) w → Stride l words views s p v at f tells
+      leaf_stride f tells f-is tells-so =
+          stride_with places (rehomed leaf-moves m.homes) (horizon_after m.horizon m.places m.homes leaf-moves) f tells leaf-point
+          f-is may-leaf moved-leaf tells-so
+
+    -- ---- an interior page
+
+    module _ (inner : is_leaf_span sp ≡ false) where
+      inner-is : page_of d t ≡ Inner 64
+      inner-is = (over.1).page ∙ inner_shape sp inner
+
+      none-moved : moves d (Swing x to.name) ≡ []
+      none-moved =
+          ap (λ o. moves_to (snap_home d to.name) (keys_in d o)) leads-to
+          ∙ ap (λ (z : Page). moves_to (snap_home d to.name) (leaf_keys z)) inner-is
+
+      shut-here : (j : ℕ) → j < 64 → IsShut d s.resident p v.grip.holds (shut_of (at_index t j) (get_or (page_words v.pages number) j 0))
+      shut-here j less =
+          b.pages.shuts p (is_at v.role active) (shut_of (at_index t j) (get_or (page_words v.pages number) j 0)) (a.pointers inner j less)
+
+      parts : IsParted sp
+      parts = parted sp a.height a.exact inner
+
+      inner-point : Point m.places m.homes m.horizon
+      inner-point = point array-closed m.places m.homes m.horizon
+          (λ u j k lost is less.
+          let here : t ≡ u = one_slot t u lost in
+          let same : Inner k ≡ Inner 64 = sym is ∙ (ap (page_of d) (sym here) ∙ inner-is) in
+          let count : k ≡ 64 = cc in
+          ap (λ i. lock_field (pointer_of d (at_index i j)).holder) (sym here) ∙ ap lock_field (shut-here j (omega (arith, less, count))).shut)
+          (λ y left. refl) (λ y. refl) (λ y. refl) (λ y free. free)
+
+      moved-none : after_moves p m (s.seats p) (moves d (Swing x to.name))
+          ≡ record { story = m; seat = record v.seat { locks = [] } }
+      moved-none =
+          ap (after_moves p m (s.seats p)) none-moved
+          ∙ (ap (moved_as m) seat-is ∙ ap (λ ks. moved_as m (record v.seat { locks = ks })) (a.unlocked inner))
+
+      may-inner : may_do s p (TurnPages (Swing x to.name)) ≡ true
+      may-inner =
+          let lets : commit_lets p m (s.seats p) d (Swing x to.name) ≡ true =
+          and_from (can_begin (s.seats p).stage) _ begins (ap (λ ks. holds_all p m ks && absences_are_old m ks) no-keys) in
+          and_from (page_allows p d (s.grips p) (Swing x to.name))
+          (commit_lets p m (s.seats p) d (Swing x to.name) && may_move p m (s.seats p) (moves d (Swing x to.name)))
+          (pages_allow array-closed
+          (ap (λ (z : Page). is_like d t z (snap_of d to.name)) inner-is
+          ∙ shut_like l words views s id v b t sp number to.name over.1 inner parts c.there to.named in-array to.most shut-here (a.low inner))
+          (ap (λ (z : Page). is_stood_for p d t to.name q.span z) inner-is
+          ∙ shut_stood l words views s id v b t sp number to.name over.1 inner parts c.there to.named in-array to.most shut-here (a.low inner)))
+          (and_from (commit_lets p m (s.seats p) d (Swing x to.name)) (may_move p m (s.seats p) (moves d (Swing x to.name))) lets
+          (ap (may_move p m (s.seats p)) none-moved))
+        where
+          no-keys : keys_in d q.slot ≡ []
+          no-keys = ap (keys_in d) leads-to ∙ ap leaf_keys inner-is
+
+      pub inner_stride : (f : ℕ → ℕ) (tells : View → ℕ → View → Type 0) → f (get_or words at 0) ≡ number
+          → tells v (get_or words at 0) w → Stride l words views s p v at f tells
+      inner_stride f tells f-is tells-so =
+          stride_with m.places m.homes m.horizon f tells inner-point f-is may-inner moved-none tells-so

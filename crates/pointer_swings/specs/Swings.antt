@@ -1,5 +1,5 @@
 -- What a swing asks and tells: a pointer leads from a slot to the snapshot page that says what the slot's page says.
-use Rattle.std.specs.Prelude.{◌≡◌, ℕ, ◌+◌, ◌^◌, ◌<◌, ◌≤◌, ◌==◌, true, false, List, [], ◌∷◌, ◌++◌}
+use Rattle.std.specs.Prelude.{◌≡◌, ◌⊎◌, ℕ, ◌+◌, ◌^◌, ◌<◌, ◌≤◌, ◌==◌, true, false, List, [], ◌∷◌, ◌++◌}
 use Rattle.std.specs.Prelude.{length, get_or, Some, None}
 use Rattle.std.specs.Prelude.{Contains, MatchBool, unwrap_or}
 use Rattle.atomic_table.specs.Table.{Step}
@@ -25,6 +25,7 @@ use Rattle.engine_pages.specs.Words.{spot}
 use Rattle.page_records.specs.Locks.{took_at}
 use Rattle.dual_pointer.specs.Copies.{IsLeadOf}
 use Rattle.pointer_swings.specs.Shuts.{shut_of}
+use Rattle.pointer_swings.specs.TreeSwings.{IsTreeInnerAs, IsTreeLeafAs}
 
 -- the key with this index among those of a span
 abbrev pub key_in : Span → ℕ → Key
@@ -39,19 +40,13 @@ pub record IsLockedAs (v : View) (t : ℕ) (sp : Span) (words : List ℕ) (i : �
   pub number : number_word content.number ≡ array_word words i
   pub value : unwrap_or content.value 0 ≡ array_value words i
 
--- The maintenance thread's pass may swing the pointer, which is over the keys of an array's page of some height, where
--- it finds this word, which is that of an open one that leads to the slot. The snapshot page with this number, if there
--- is one, stands for the same keys. Of a leaf the pass has locked each record, and nothing else, as that page has it; of
--- an interior page it has shut each pointer, which leads to no slot and where the page leads, and has locked nothing.
-pub record CanSwing (v : View) (x : At) (sp : Span) (at t number expected : ℕ) : Type 0 where
-  pub keeper : v.role ≡ Keeper
-  pub place : IsPointerAt v x sp at
-  pub leads : half_of expected ≡ Some t
+-- The keys are those of an array's page of some height. Of a leaf the pass has locked each record, and nothing else, as
+-- the snapshot page with this number has it; of an interior page it has shut each pointer, which leads to no slot and
+-- where that page leads, and has locked nothing.
+pub record IsArrayAs (v : View) (t : ℕ) (sp : Span) (number : ℕ) : Type 0 where
   pub array : is_array v.layout.decls sp.storage ≡ true
   pub height : ℕ
   pub exact : sp.high ≡ sp.low + last_at height
-  pub there : number ≤ length v.pages
-  pub lead : 0 < number → IsLeadOf v sp number
   pub records : is_leaf_span sp ≡ true → (i : ℕ) → i < array_leaf.room → IsLockedAs v t sp (page v.pages number) i
   pub pointers : is_leaf_span sp ≡ false → (j : ℕ) → j < array_fan
       → Contains v.shuts (shut_of (at_index t j) (get_or (page v.pages number) j 0))
@@ -59,6 +54,18 @@ pub record CanSwing (v : View) (x : At) (sp : Span) (at t number expected : ℕ)
   pub own : is_leaf_span sp ≡ true → (k : Key) → has_key v.seat.locks k ≡ true
       → has_key (keys_from sp.storage sp.low array_leaf.room) k ≡ true
   pub unlocked : is_leaf_span sp ≡ false → v.seat.locks ≡ []
+
+-- The maintenance thread's pass may swing the pointer, where it finds this word, which is that of an open one that
+-- leads to the slot. The snapshot page with this number, if there is one, stands for the same keys, and says what the
+-- slot's page does, which is an array's, or a leaf or an interior page of a tree, and of which the pass has locked or
+-- shut all.
+pub record CanSwing (v : View) (x : At) (sp : Span) (at t number expected : ℕ) : Type 0 where
+  pub keeper : v.role ≡ Keeper
+  pub place : IsPointerAt v x sp at
+  pub leads : half_of expected ≡ Some t
+  pub there : number ≤ length v.pages
+  pub lead : 0 < number → IsLeadOf v sp number
+  pub page : IsArrayAs v t sp number ⊎ (IsTreeLeafAs v t sp number ⊎ IsTreeInnerAs v t sp number)
 
 -- Nothing leads to the slot any more, whose locks, header and shut pointers are nobody's; which pointer did is known.
 abbrev pub swung : ℕ → ℕ → ℕ → ℕ → View → View

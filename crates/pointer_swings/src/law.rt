@@ -114,6 +114,18 @@ impl<J: Descended> Play<(), View> for Descending<J> {
     ghost then = { told (Descends J.span J.page J.index) };
 }
 
+/// A word of a tree's snapshot page is loaded, and the page below is known.
+pub struct DescendingTree<J: Descended> {
+    of: PhantomData<J>,
+}
+
+impl<J: Descended> Play<(), View> for DescendingTree<J> {
+    ghost use Rattle.engine_pages.specs.Steps.{told};
+    ghost use Rattle.pointer_swings.specs.Children.{DescendsTree};
+
+    ghost then = { told (DescendsTree J.span J.page J.index) };
+}
+
 /// What was seen is let go.
 pub struct LettingGo {}
 

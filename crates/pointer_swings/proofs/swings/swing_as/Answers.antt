@@ -6,7 +6,7 @@ use Rattle.engine_pages.specs.Layout.{words_of}
 use Rattle.engine_pages.specs.Rule.{Shows}
 use Rattle.engine_pages.proofs.Joint.{Laws}
 use Rattle.pointer_swings.specs.Swings.{HasSwung}
-use Rattle.pointer_swings.proofs.Swinging.{swings}
+use Rattle.pointer_swings.proofs.SwingStep.{swings}
 use Rattle.pointer_swings.proofs.swings.swing_as.Goals as goal
 
 pub compare_exchange-requires : goal.compare_exchange-requires

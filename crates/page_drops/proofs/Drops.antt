@@ -74,28 +74,30 @@ can_swing x sp at t page word v a u can compared moved row =
       keeper = leaf.keeper;
       place = any_pointer u x sp at (pointer_worked v u x sp at worked can.place);
       leads = can.leads;
-      array = leaf.array;
-      height = 0;
-      exact = can.exact;
       there = leaf.there;
       lead = λ some. lead_worked v u sp page worked (can.lead some);
-      records = λ _ i less.
-          let seen = compared.seen i less in record {
-            content = seen.content;
-            kept = subst (λ list. Contains list (record_part (key_in sp i) (spot t i) seen.content)) (sym moved.parts) seen.has;
-            took =
-                subst (λ n. Contains u.took (took_at (key_in sp i) (spot t i) n)) (sym seen.number)
-                (subst (λ list. Contains list (took_at (key_in sp i) (spot t i) (array_word (page_words v.pages page) i)))
-                (sym (row.took ∙ ap (λ ws. took_row t sp ws 0 32) before))
-                (subst (λ j. Contains (took_row t sp (page_words v.pages page) 0 32) (took_at (key_in sp j) (spot t j) (array_word (page_words v.pages page) j)))
-                (plus i) (took_there t sp (page_words v.pages page) 0 32 i less)));
-            number = seen.number ∙ ap (λ ws. array_word ws i) (sym pages);
-            value = seen.value ∙ ap (λ ws. array_value ws i) (sym pages);
-          };
-      pointers = λ inner. absurd (true≢false (sym can.leaf.leaf ∙ inner));
-      low = λ inner. absurd (true≢false (sym can.leaf.leaf ∙ inner));
-      own = λ _ k has. row_keys sp 0 32 k (omega arith) (ap (λ list. has_key list k) (sym row.locks) ∙ has);
-      unlocked = λ inner. absurd (true≢false (sym can.leaf.leaf ∙ inner));
+      page = inl record {
+        array = leaf.array;
+        height = 0;
+        exact = can.exact;
+        records = λ _ i less.
+            let seen = compared.seen i less in record {
+              content = seen.content;
+              kept = subst (λ list. Contains list (record_part (key_in sp i) (spot t i) seen.content)) (sym moved.parts) seen.has;
+              took =
+                  subst (λ n. Contains u.took (took_at (key_in sp i) (spot t i) n)) (sym seen.number)
+                  (subst (λ list. Contains list (took_at (key_in sp i) (spot t i) (array_word (page_words v.pages page) i)))
+                  (sym (row.took ∙ ap (λ ws. took_row t sp ws 0 32) before))
+                  (subst (λ j. Contains (took_row t sp (page_words v.pages page) 0 32) (took_at (key_in sp j) (spot t j) (array_word (page_words v.pages page) j)))
+                  (plus i) (took_there t sp (page_words v.pages page) 0 32 i less)));
+              number = seen.number ∙ ap (λ ws. array_word ws i) (sym pages);
+              value = seen.value ∙ ap (λ ws. array_value ws i) (sym pages);
+            };
+        pointers = λ inner. absurd (true≢false (sym can.leaf.leaf ∙ inner));
+        low = λ inner. absurd (true≢false (sym can.leaf.leaf ∙ inner));
+        own = λ _ k has. row_keys sp 0 32 k (omega arith) (ap (λ list. has_key list k) (sym row.locks) ∙ has);
+        unlocked = λ inner. absurd (true≢false (sym can.leaf.leaf ∙ inner));
+      };
     }
   where
     plus : (i : ℕ) → 0 + i ≡ i

@@ -130,19 +130,21 @@ can_swing_inner x sp at t page word v u can turned row few =
       keeper = inner.keeper;
       place = any_pointer u x sp at (pointer_went v u x sp at turned.went can.place);
       leads = can.leads;
-      array = inner.array;
-      height = inner.height;
-      exact = inner.exact;
       there = inner.there;
       lead = inner.lead;
-      records = λ leaf. absurd (true≢false (sym leaf ∙ inner.inner));
-      pointers = λ _ j less.
-          subst (λ ws. Contains u.shuts (shut_of (at_index t j) (get_or ws j 0))) (sym pages)
-          (subst (λ list. Contains list (shut_of (at_index t j) (get_or (page_words v.pages page) j 0))) (sym row)
-          (shut_there t (page_words v.pages page) 64 j less));
-      low = λ _ j less. subst (λ ws. get_or ws j 0 < 2 ^ 32) (sym pages) (few j less);
-      own = λ leaf. absurd (true≢false (sym leaf ∙ inner.inner));
-      unlocked = λ _. ap (λ (z : View). z.seat.locks) turned.went.shut ∙ can.locks;
+      page = inl record {
+        array = inner.array;
+        height = inner.height;
+        exact = inner.exact;
+        records = λ leaf. absurd (true≢false (sym leaf ∙ inner.inner));
+        pointers = λ _ j less.
+            subst (λ ws. Contains u.shuts (shut_of (at_index t j) (get_or ws j 0))) (sym pages)
+            (subst (λ list. Contains list (shut_of (at_index t j) (get_or (page_words v.pages page) j 0))) (sym row)
+            (shut_there t (page_words v.pages page) 64 j less));
+        low = λ _ j less. subst (λ ws. get_or ws j 0 < 2 ^ 32) (sym pages) (few j less);
+        own = λ leaf. absurd (true≢false (sym leaf ∙ inner.inner));
+        unlocked = λ _. ap (λ (z : View). z.seat.locks) turned.went.shut ∙ can.locks;
+      };
     }
 
 -- ---- behind the swing

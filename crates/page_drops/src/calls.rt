@@ -35,7 +35,7 @@ pub struct Dropped {
 
 impl Dropped {
     /// With a page more that was kept.
-    pub(crate) fn and_kept(self, kept: Kept) -> Dropped
+    pub fn and_kept(self, kept: Kept) -> Dropped
         requires room { HasRoom 1 self }
         ensures counts { (note : KeptPage) → IsNoteOf kept note → HasCounted self 0 (note ∷ []) result }
     {
@@ -47,7 +47,7 @@ impl Dropped {
     }
 
     /// With a page more that was dropped, or kept.
-    pub(crate) fn and(self, found: Result<(), Kept>) -> Dropped
+    pub fn and(self, found: Result<(), Kept>) -> Dropped
         requires room { HasRoom 1 self }
         ensures drops { OnOk found (HasCounted self 1 [] result) }
         ensures keeps { IfErr found (λ k. (note : KeptPage) → IsNoteOf k note → HasCounted self 0 (note ∷ []) result) }
@@ -74,7 +74,7 @@ fn first_of(first: Option<Kept>, kept: Kept) -> Option<Kept>
 }
 
 /// Takes all pages of arrays out of memory that are what the newest snapshot has, beside transactions that run: `roots`
-/// has the number of that snapshot's page for each storage's root, or 0.
+/// has the number of that snapshot's page for each storage's root, or 0. Now and then other threads may go first.
 pub fn drop_all(engine: &Engine, pass: &mut Pass, roots: &[u32]) -> Dropped
     requires of { IsPassOf engine.now pass.old }
     requires can { CanDropAll roots.now (view pass.old) }

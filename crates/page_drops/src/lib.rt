@@ -4,7 +4,9 @@
 //! dropped only where each of its records, by its word and its value, or each of its pointers is the snapshot's, while
 //! all of them are locked or shut; its pointer then names the snapshot's page alone. Of a page that stays, none is left
 //! locked or shut, and the pass's view has the word for which it stays, as it was seen, and why; its pointer names the
-//! snapshot's page beside it, unless it stays since that pointer had changed, and then it isn't gone into.
+//! snapshot's page beside it, unless it stays since that pointer had changed, and then it isn't gone into. Once in some
+//! 512 pages the calling thread gives its core away, when none of its pages is locked or shut. A page of another kind is
+//! compared by the same words (`word_at`, `word_of`), and noted as kept by the same step (`keep`).
 #![tactic(auto)]
 
 mod calls;
@@ -19,3 +21,4 @@ mod visits;
 
 pub use calls::{Dropped, drop_all};
 pub use noting::Kept;
+pub use records::{keep, word_at, word_of};

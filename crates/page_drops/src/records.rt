@@ -37,7 +37,7 @@ fn key_of(leaf: Leaf, index: u32) -> Key
 }
 
 /// The place of a word of the page in a slot.
-pub(crate) fn word_at(engine: &Engine, slot: u32, index: u32) -> u32
+pub fn word_at(engine: &Engine, slot: u32, index: u32) -> u32
     requires slot { slot < engine.now.table.shared.key.slots }
     requires index { index < 64 }
     ensures { result ≡ page_at engine.now.table.shared.key.slots slot index }
@@ -46,7 +46,7 @@ pub(crate) fn word_at(engine: &Engine, slot: u32, index: u32) -> u32
 }
 
 /// A word of the snapshot page with this number; page 0 reads as zeros.
-pub(crate) fn word_of(engine: &Engine, pass: &mut Pass, page: u32, index: u32) -> u64
+pub fn word_of(engine: &Engine, pass: &mut Pass, page: u32, index: u32) -> u64
     requires of { IsPassOf engine.now pass.old }
     requires keeper { (view pass.old).role ≡ Keeper }
     requires there { page ≤ length (view pass.old).pages }
@@ -63,7 +63,7 @@ pub(crate) fn word_of(engine: &Engine, pass: &mut Pass, page: u32, index: u32) -
 }
 
 /// Notes that a page is kept for the word that was seen last.
-pub(crate) fn keep(engine: &Engine, pass: &mut Pass, word: u32, seen: u64, why: KeptWhy) -> Kept
+pub fn keep(engine: &Engine, pass: &mut Pass, word: u32, seen: u64, why: KeptWhy) -> Kept
     requires of { IsPassOf engine.now pass.old }
     requires keeper { (view pass.old).role ≡ Keeper }
     requires last { HasSeenLast (view pass.old) (record { word = word; seen = seen; why = why }) }

@@ -16,10 +16,14 @@ use crate::records::{Leaf, keep, word_at};
 use engine_pages::{Engine, KeptWhy, Pass, enter, follow, leave};
 use homes::{At, Span, Spot};
 use pointer_swings::{let_go, renew};
+use std::thread::yield_now;
 
 const SLOT: u64 = 1 << 32;
 
 const SHUT: u64 = 1 << 60;
+
+/// Once in so many pages the pass gives its core away, where other threads wait for one.
+const TURN: u32 = 512;
 
 /// A slot that the pass holds since it found a pointer to lead there, by this word, which names the newest snapshot's
 /// page.
@@ -164,7 +168,20 @@ fn visit_leaves(engine: &Engine, pass: &mut Pass, inner: Inner, before: Dropped)
         });
         sum = visit_leaf(engine, pass, place, part, word, child, sum);
     }
+    give_way(before, sum);
     sum
+}
+
+// Lets other threads go first, once in so many pages that were met. Nothing of a page is locked or shut meanwhile.
+fn give_way(before: Dropped, after: Dropped) {
+    if pages_met(before) / TURN < pages_met(after) / TURN {
+        yield_now();
+    }
+}
+
+// How many pages were dropped and kept.
+fn pages_met(sum: Dropped) -> u32 {
+    sum.dropped.wrapping_add(sum.kept)
 }
 
 /// Goes over a pointer that is over the keys of a page over such pages, and over those in that page first.

@@ -47,7 +47,7 @@ use Rattle.array_pages.proofs.DeclLaws.{array_there, stands_in}
 use Rattle.array_pages.proofs.PageLaws.{stands_deep}
 use Rattle.array_pages.proofs.WalkLaws.{can_after}
 use Rattle.array_pages.proofs.WalkLaws.{keeps_self, keeps_then, layout_stays, led_self, only_self, only_then, place_stays}
-use Rattle.array_pages.proofs.WalkLaws.{walked_self}
+use Rattle.array_pages.proofs.WalkLaws.{trees_after, walked_self}
 use Rattle.array_pages.proofs.WalkLaws.{pointer_apart, saw_back}
 use Rattle.array_pages.proofs.WalkLaws.{led_by, led_over, led_then, onto_stays, walked_then, ways_same, ways_to}
 use Rattle.array_pages.proofs.WalkLaws.{ways_to_then, word_stays}
@@ -355,7 +355,8 @@ finds_below bound less few k pointers slots place span at n number value r v u w
     let reads : (a : ℕ) → seen_at w.reads a ≡ seen_at u.reads a = λ a. ap (λ (z : View). seen_at z.reads a) g.is in
     record {
       can = can_after slots u w walk (ap (λ (z : View). z.grip) g.is)
-          (subst WaysAgree (sym (ap (λ (z : View). z.ways) g.is)) h.can.agree) h.can;
+          (subst WaysAgree (sym (ap (λ (z : View). z.ways) g.is)) h.can.agree)
+          (trees_after u w walk (ap (λ (z : View). z.ways) g.is) h.can.trees) h.can;
       walked = all;
       most = most;
       grows = let first = h.grows in omega (arith, first, more);
@@ -411,7 +412,8 @@ pub finds_read : (bound few : ℕ) (k : Key) (pointers : List Seen) (slots : Lis
     → OnlyWaysTo k v u → AreLedTo k v u → ReadsSo k r u w → FindsSo bound few k pointers slots r v w
 finds_read bound few k pointers slots (Ok (places.Volatile at word value)) v u w most grows walk can only keeps
     kept words ways led h =
-    let late = can_after slots u w h.walked h.grip (subst WaysAgree (sym h.ways) can.agree) can in record {
+    let late = can_after slots u w h.walked h.grip (subst WaysAgree (sym h.ways) can.agree)
+    (trees_after u w h.walked h.ways can.trees) can in record {
       can = late;
       walked = walked_then v u w walk h.walked;
       most = most;
@@ -429,7 +431,8 @@ finds_read bound few k pointers slots (Ok (places.Snapshot value number p)) v u 
 finds_read bound few k pointers slots (Ok (places.Zero p)) v u w most grows walk can only keeps kept words ways led h =
     absurd h.read
 finds_read bound few k pointers slots (Err why) v u w most grows walk can only keeps kept words ways led h =
-    let late = can_after slots u w h.walked h.grip (subst WaysAgree (sym h.ways) can.agree) can in record {
+    let late = can_after slots u w h.walked h.grip (subst WaysAgree (sym h.ways) can.agree)
+    (trees_after u w h.walked h.ways can.trees) can in record {
       can = late;
       walked = walked_then v u w walk h.walked;
       most = most;

@@ -22,6 +22,7 @@ use Rattle.engine_pages.specs.declared.view.NewInner.{NewInner}
 use Rattle.engine_pages.specs.declared.view.NewLeaf.{NewLeaf}
 use Rattle.engine_pages.specs.declared.view.View.{View}
 use Rattle.engine_pages.specs.declared.view.Way.{Way}
+use Rattle.engine_pages.specs.Agreement.{TreesAgree}
 use Rattle.engine_pages.specs.Pages.{is_array}
 use Rattle.engine_pages.specs.Pointers.{IsArrayPointerAt, WaysAgree, page_half, ways_if, any_pointer}
 use Rattle.engine_pages.specs.Slots.{entered, other_copies, other_inners, other_leaves, retired}
@@ -36,7 +37,7 @@ use Rattle.array_pages.proofs.ReadLaws.{kept_here, kept_with, noted_in, seen_oth
 use Rattle.array_pages.proofs.WalkLaws.{can_by, entered_holds}
 use Rattle.array_pages.proofs.WalkLaws.{entered_within, layout_stays}
 use Rattle.array_pages.proofs.WalkLaws.{place_grows, place_stays, role_stays}
-use Rattle.array_pages.proofs.WalkLaws.{self, stage_stays, walked_self}
+use Rattle.array_pages.proofs.WalkLaws.{self, stage_stays, trees_after, walked_self}
 use Rattle.array_pages.proofs.WalkLaws.{led_new, led_none, only_if}
 use Rattle.array_pages.proofs.CopyLaws.{missed_most, missed_walks}
 
@@ -97,7 +98,8 @@ install_none slots at word span why v w can h =
     let late : CanWalk slots w =
     can_by slots slots v w (layout_stays v w m.0) (role_stays v w m.0) (stage_stays v w m.0)
     (λ t. walks.holds t ∙ ap (λ (z : View). has_slot z.grip.holds t) (sym m.1)) walks.within
-    (subst (λ (z : View). WaysAgree z.ways) (sym m.1) walks.agree) walks in record {
+    (subst (λ (z : View). WaysAgree z.ways) (sym m.1) walks.agree)
+    (trees_after v w m.0 (ap (λ (z : View). z.ways) m.1) walks.trees) walks in record {
       can = make_after slots slots v w m.0 late can;
       walked = m.0;
       kept = ap (λ (z : View). z.seat.kept) m.1;
@@ -218,12 +220,12 @@ module _ (slots : List ℕ) (place : At) (span : Span) (at word t : ℕ) (v c d 
   late_grows : length (slots ++ t ∷ []) ≤ length slots + 1
   late_grows = let long = length-append slots (t ∷ []) in omega (arith, long)
 
-  late_can : (e : View) → HasWalked v e → e.grip.holds ≡ t ∷ v.grip.holds → WaysAgree e.ways
+  late_can : (e : View) → HasWalked v e → e.grip.holds ≡ t ∷ v.grip.holds → WaysAgree e.ways → TreesAgree e
       → CanMake (slots ++ t ∷ []) e
-  late_can e walk holds agree =
+  late_can e walk holds agree trees =
       make_after slots (slots ++ t ∷ []) v e walk
       (can_by slots (slots ++ t ∷ []) v e (layout_stays v e walk) (role_stays v e walk) (stage_stays v e walk)
-      (late_holds e holds) (entered_within slots t v can.walks h.there) agree can.walks) can
+      (late_holds e holds) (entered_within slots t v can.walks h.there) agree trees can.walks) can
 
   more_held : (b : Bool) (x : Way) → Contains v.ways x → Contains (ways_if b t span v.ways) x
   more_held true x has = in_tail x (record { slot = t; span = span }) v.ways has
@@ -252,7 +254,7 @@ module _ (slots : List ℕ) (place : At) (span : Span) (at word t : ℕ) (v c d 
       (subst (λ (b : Bool). Contains (ways_if b t span v.ways) (record { slot = t; span = span }))
       (sym (or_left (eqb t t) (has_slot v.grip.holds t) (self t)))
       (in_head (let x : Way = record { slot = t; span = span } in x) v.ways)) in record {
-        can = late_can e walk (ap (λ (z : View). z.grip.holds) is) i.agree;
+        can = late_can e walk (ap (λ (z : View). z.grip.holds) is) i.agree i.trees;
         walked = walk;
         kept = ap (λ (z : View). z.seat.kept) is;
         most =
@@ -305,7 +307,8 @@ module _ (slots : List ℕ) (place : At) (span : Span) (at word t : ℕ) (v c d 
         is = refl;
       } in record {
         can = late_can f walk (ap (λ (z : View). z.grip.holds) is)
-            (subst (λ (z : View). WaysAgree z.ways) (sym is) can.walks.agree);
+            (subst (λ (z : View). WaysAgree z.ways) (sym is) can.walks.agree)
+            (trees_after v f walk (ap (λ (z : View). z.ways) is) can.walks.trees);
         walked = walk;
         kept = ap (λ (z : View). z.seat.kept) is;
         most =

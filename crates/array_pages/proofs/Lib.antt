@@ -1,8 +1,8 @@
 pub mod DeclLaws
 mod SpanLaws
 mod PageLaws
-mod LookLaws
-mod ReadLaws
+pub mod LookLaws
+pub mod ReadLaws
 pub mod WalkLaws
 mod ReachLaws
 mod RecordLaws

@@ -144,7 +144,7 @@ module _ (pointers : List Seen) (slots : List ℕ) (place : At) (span : Span) (a
   l = f.loaded
 
   first_walks : CanWalk slots u
-  first_walks = can_after slots v u l.walked l.grip l.agree can.walks
+  first_walks = can_after slots v u l.walked l.grip l.agree l.trees can.walks
 
   pub can_first : CanMake slots u
   can_first = make_after slots slots v u l.walked first_walks can
@@ -182,7 +182,7 @@ module _ (pointers : List Seen) (slots : List ℕ) (place : At) (span : Span) (a
       let q = place_stays v u place span at l.walked p in
       let walk = walked_then v u w l.walked g.loaded.walked in record {
         can = make_after slots slots v w walk
-            (can_after slots u w g.loaded.walked g.loaded.grip g.loaded.agree first_walks) can;
+            (can_after slots u w g.loaded.walked g.loaded.grip g.loaded.agree g.loaded.trees first_walks) can;
         walked = walk;
         kept = ap (λ (s : Seat). s.kept) g.seat ∙ kept_first;
         most = let one = l.most in let two = g.loaded.most in omega (arith, one, two);
@@ -321,7 +321,7 @@ module _ (pointers : List Seen) (place : At) (span : Span) (at n : ℕ) (v u : V
   check_can : (slots : List ℕ) → CanMake slots v → CanMake slots u
   check_can slots c =
       make_after slots slots v u f.loaded.walked
-      (can_after slots v u f.loaded.walked f.loaded.grip f.loaded.agree c.walks) c
+      (can_after slots v u f.loaded.walked f.loaded.grip f.loaded.agree f.loaded.trees c.walks) c
 
   check_others : (a : ℕ) → (a ≢ at) ⊎ (true ≡ false) → seen_at u.reads a ≡ seen_at v.reads a
   check_others a (inl apart) = f.loaded.others a apart

@@ -17,6 +17,7 @@ use Rattle.engine_pages.specs.declared.view.RefusalCause.{RefusalCause}
 use Rattle.engine_pages.specs.declared.view.RefusalCause.TheVariants as causes
 use Rattle.engine_pages.specs.declared.view.SetName.TheVariants as sets
 use Rattle.engine_pages.specs.declared.view.View.{View}
+use Rattle.engine_pages.specs.Agreement.{TreesAgree}
 use Rattle.engine_pages.specs.Pages.{is_array}
 use Rattle.engine_pages.specs.Pointers.{IsArrayPointerAt, HasFollowed, WaysAgree, half_of, slot_half}
 use Rattle.dual_pointer.specs.Parts.{saw_pointer, HasSeenPointer, SawPointer}
@@ -59,9 +60,10 @@ no_half n bare =
     let none : n / 2 ^ 32 ≡ 0 = omega (arith, bare) in
     ap (λ (b : Bool). let o : Option ℕ = cond b (slot_half (n / 2 ^ 32)) None in o) open-so ∙ ap slot_half none
 
-loaded_kept : (place : At) (span : Span) (at : ℕ) (v : View) (n : ℕ) (u : View) → WaysAgree v.ways → n < 2 ^ 32
+loaded_kept : (place : At) (span : Span) (at : ℕ) (v : View) (n : ℕ) (u : View) → WaysAgree v.ways → TreesAgree v
+    → n < 2 ^ 32
     → HasSeenPointer place span at v n u → IsLoaded span at v n u
-loaded_kept place span at v n u agree bare h =
+loaded_kept place span at v n u agree trees bare h =
     let w : View = saw_pointer h.history h.decided h.pages h.name h.part at span n v in
     subst (IsLoaded span at v n) (sym h.is) record {
       walked = record {
@@ -86,6 +88,7 @@ loaded_kept place span at v n u agree bare h =
       grip = refl;
       most = omega arith;
       agree = agree;
+      trees = record { known = trees.known; inners = trees.inners; apart = trees.apart; spans = trees.spans };
       only = λ x has. inl has;
       met = seen_same v.reads at n (Some n);
       others = λ a apart. seen_other v.reads at n (Some n) a apart;
@@ -115,14 +118,14 @@ saw_followed place span at v n u some s =
     (subst (λ (b : Bool). MatchBool b (HasSeenPointer place span at v n u) (HasFollowed span at v n u))
     (not_below n (2 ^ 32) some) s)
 
-pub loaded_saw : (place : At) (span : Span) (at : ℕ) (v : View) (n : ℕ) (u : View) → WaysAgree v.ways
+pub loaded_saw : (place : At) (span : Span) (at : ℕ) (v : View) (n : ℕ) (u : View) → WaysAgree v.ways → TreesAgree v
     → SawPointer place span at v n u → IsLoaded span at v n u
-loaded_saw place span at v n u agree s = by_test (nat_lt n (2 ^ 32)) refl
+loaded_saw place span at v n u agree trees s = by_test (nat_lt n (2 ^ 32)) refl
   where
     by_test : (b : Bool) → nat_lt n (2 ^ 32) ≡ b → IsLoaded span at v n u
     by_test true low =
         let bare : n < 2 ^ 32 = grind (arith, nat_tests) in
-        loaded_kept place span at v n u agree bare (saw_kept place span at v n u bare s)
+        loaded_kept place span at v n u agree trees bare (saw_kept place span at v n u bare s)
     by_test false high =
         let some : 2 ^ 32 ≤ n = grind (arith, nat_tests) in (saw_followed place span at v n u some s).loaded
 
@@ -160,7 +163,7 @@ leaves_memory place span at v n u bare array h =
 module _ (pointers : List Seen) (slots : List ℕ) (place : At) (span : Span) (at n : ℕ) (v u : View)
     (can : CanWalk slots v) (p : IsArrayPointerAt v place span at) (l : IsLoaded span at v n u) where
   can_first : CanWalk slots u
-  can_first = can_after slots v u l.walked l.grip l.agree can
+  can_first = can_after slots v u l.walked l.grip l.agree l.trees can
 
   -- the set has it with another word
   pub reach_other : (why : RefusalCause) → IsMetElse pointers at n why
@@ -186,7 +189,7 @@ module _ (pointers : List Seen) (slots : List ℕ) (place : At) (span : Span) (a
   reach_shut met again w set_is shut f =
       let q = place_stays v u place span at l.walked p in
       let walk = walked_then v u w l.walked f.loaded.walked in record {
-        can = can_after slots u w f.loaded.walked f.loaded.grip f.loaded.agree can_first;
+        can = can_after slots u w f.loaded.walked f.loaded.grip f.loaded.agree f.loaded.trees can_first;
         walked = walk;
         most = let one = l.most in let two = f.loaded.most in omega (arith, one, two);
         grows = omega arith;

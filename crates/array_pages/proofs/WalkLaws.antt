@@ -28,6 +28,7 @@ use Rattle.drop_core.specs.Table.{has_slot}
 use Rattle.tx_sets.specs.declared.seen.Seen.{Seen}
 use Rattle.tx_sets.specs.Entries.{word_at}
 use Rattle.engine_pages.specs.declared.layout.Layout.{Layout}
+use Rattle.engine_pages.specs.declared.view.Inner.{Inner}
 use Rattle.engine_pages.specs.declared.view.Lead.{Lead}
 use Rattle.engine_pages.specs.declared.view.RefusalCause.{RefusalCause}
 use Rattle.engine_pages.specs.declared.view.RefusalCause.TheVariants as causes
@@ -37,8 +38,9 @@ use Rattle.engine_pages.specs.declared.view.SetName.TheVariants.{Holds}
 use Rattle.engine_pages.specs.declared.view.SetName.TheVariants as sets
 use Rattle.engine_pages.specs.declared.view.View.{View}
 use Rattle.engine_pages.specs.declared.view.Way.{Way}
+use Rattle.engine_pages.specs.Agreement.{KnownAgree, TreesAgree}
 use Rattle.engine_pages.specs.Layout.{page_at}
-use Rattle.engine_pages.specs.Pages.{is_array, root_span}
+use Rattle.engine_pages.specs.Pages.{is_array, is_tree, root_span}
 use Rattle.engine_pages.specs.Pointers.{IsArrayPointerAt, HasFollowed, WaysAgree, followed, half_of, is_open_word}
 use Rattle.engine_pages.specs.Pointers.{leads_more, slot_half}
 use Rattle.engine_pages.specs.Pointers.{ways_if, ways_more}
@@ -198,6 +200,20 @@ walked_then v u w a b = record {
 pub walked_formed : (v w z : View) → w ≡ as_walked v z → w ≡ as_walked v w
 walked_formed v w z e = subst (λ (y : View). y ≡ as_walked v y) (sym e) refl
 
+-- what it knows of pages of trees agrees, as its ways do
+pub trees_after : (v w : View) → HasWalked v w → w.ways ≡ v.ways → TreesAgree v → TreesAgree w
+trees_after v w walk ways a = record {
+  known = subst KnownAgree (sym (ap (λ (z : View). z.known) walk.is)) a.known;
+  inners = λ x y hx hy. a.inners x y (inner x hx) (inner y hy);
+  apart = λ x y hx hy. a.apart x y (subst (λ (z : View). Contains z.known x) walk.is hx) (inner y hy);
+  spans = λ x y hx hy same tree. a.spans x y (subst (λ (l : List Way). Contains l x) ways hx)
+      (subst (λ (l : List Way). Contains l y) ways hy) same
+      (subst (λ (l : Layout). is_tree l.decls x.span.storage ≡ true) (layout_stays v w walk) tree);
+}
+  where
+    inner : (x : Inner) → Contains w.inners x → Contains v.inners x
+    inner x has = subst (λ (z : View). Contains z.inners x) walk.is has
+
 -- ---- ways that are new
 
 -- the key is one of these
@@ -307,21 +323,22 @@ saw_back at seen was v u w since s = record {
 -- the same pass, with these holds
 pub can_by : (slots late : List ℕ) (v w : View) → w.layout ≡ v.layout → w.role ≡ v.role → w.seat.stage ≡ v.seat.stage
     → ((t : ℕ) → has_slot late t ≡ has_slot w.grip.holds t) → ((t : ℕ) → has_slot late t ≡ true → t < v.layout.slots)
-    → WaysAgree w.ways → CanWalk slots v → CanWalk late w
-can_by slots late v w layout role stage holds within agree c = record {
+    → WaysAgree w.ways → TreesAgree w → CanWalk slots v → CanWalk late w
+can_by slots late v w layout role stage holds within agree trees c = record {
   active = subst (λ (r : Role). IsActive r) (sym role) c.active;
   rest = ap is_trying stage ∙ c.rest;
   holds = holds;
   within = λ t h. subst (λ (y : Layout). t < y.slots) (sym layout) (within t h);
   agree = agree;
+  trees = trees;
   declared = subst (λ (y : Layout). AreDecls y.decls) (sym layout) c.declared;
 }
 
-pub can_after : (slots : List ℕ) (v w : View) → HasWalked v w → w.grip ≡ v.grip → WaysAgree w.ways → CanWalk slots v
-    → CanWalk slots w
-can_after slots v w walk grip agree c =
+pub can_after : (slots : List ℕ) (v w : View) → HasWalked v w → w.grip ≡ v.grip → WaysAgree w.ways → TreesAgree w
+    → CanWalk slots v → CanWalk slots w
+can_after slots v w walk grip agree trees c =
     can_by slots slots v w (layout_stays v w walk) (role_stays v w walk) (stage_stays v w walk)
-    (λ t. c.holds t ∙ ap (λ (g : Grip). has_slot g.holds t) (sym grip)) c.within agree c
+    (λ t. c.holds t ∙ ap (λ (g : Grip). has_slot g.holds t) (sym grip)) c.within agree trees c
 
 push_any : (slots : List ℕ) (t q : ℕ) → has_slot (slots ++ t ∷ []) q ≡ has_slot (t ∷ slots) q
 push_any [] t q = refl
@@ -353,7 +370,9 @@ pub can_entered : (slots : List ℕ) (t : ℕ) (v w : View) → t < v.layout.slo
 can_entered slots t v w there is c =
     can_by slots (slots ++ t ∷ []) v w (ap (λ (z : View). z.layout) is) (ap (λ (z : View). z.role) is)
     (ap (λ (z : View). z.seat.stage) is) (entered_holds slots t v w c (ap (λ (z : View). z.grip.holds) is))
-    (entered_within slots t v c there) (subst (λ (z : View). WaysAgree z.ways) (sym is) c.agree) c
+    (entered_within slots t v c there) (subst (λ (z : View). WaysAgree z.ways) (sym is) c.agree)
+    (subst TreesAgree (sym is)
+    record { known = c.trees.known; inners = c.trees.inners; apart = c.trees.apart; spans = c.trees.spans }) c
 
 pub self : (t : ℕ) → eqb t t ≡ true
 self t = eq-eqb t t refl
@@ -388,6 +407,7 @@ pub record IsLoaded (span : Span) (at : ℕ) (v : View) (n : ℕ) (u : View) : T
   pub grip : u.grip ≡ v.grip
   pub most : u.steps ≤ v.steps + 1
   pub agree : WaysAgree u.ways
+  pub trees : TreesAgree u
   pub only : OnlyWays span v u
   pub met : seen_at u.reads at ≡ Some n
   pub others : (a : ℕ) → a ≢ at → seen_at u.reads a ≡ seen_at v.reads a
@@ -462,6 +482,7 @@ is_followed span at v n w h =
         grip = refl;
         most = omega arith;
         agree = subst (λ (z : View). WaysAgree z.ways) h.is h.agree;
+        trees = subst TreesAgree h.is h.trees;
         only = λ x has. only_more (half_of n) v.grip.holds span v.ways x has;
         met = seen_same v.reads at n (kept_at v.reads at);
         others = λ a apart. seen_other v.reads at n (kept_at v.reads at) a apart;
@@ -712,7 +733,7 @@ module _ (slots : List ℕ) (place : At) (at word : ℕ) (span : Span) (v e : Vi
 
   can_last : CanWalk (slots ++ t ∷ []) w
   can_last =
-      can_after (slots ++ t ∷ []) e w f.loaded.walked f.loaded.grip f.loaded.agree
+      can_after (slots ++ t ∷ []) e w f.loaded.walked f.loaded.grip f.loaded.agree f.loaded.trees
       (can_entered slots t v e led.there enters can)
 
   kept_last : w.seat.kept ≡ v.seat.kept

@@ -25,6 +25,7 @@ use Rattle.engine_pages.specs.declared.view.SetName.{SetName}
 use Rattle.engine_pages.specs.declared.view.SetName.TheVariants as sets
 use Rattle.engine_pages.specs.declared.view.View.{View}
 use Rattle.engine_pages.specs.declared.view.Way.{Way}
+use Rattle.engine_pages.specs.Agreement.{TreesAgree}
 use Rattle.engine_pages.specs.Layout.{page_at, root_at}
 use Rattle.engine_pages.specs.Pages.{root_span}
 use Rattle.engine_pages.specs.Pointers.{IsArrayPointerAt, WaysAgree}
@@ -38,13 +39,14 @@ abbrev pub HoldsAre : List ℕ → View → Type 0
 HoldsAre slots v = (t : ℕ) → has_slot slots t ≡ has_slot v.grip.holds t
 
 -- A pass that has a seat and no attempt in progress, with the set of its holds. Two ways into one slot are over the
--- same keys, and the storages are declared as those of a database.
+-- same keys, what it knows of pages of trees agrees, and the storages are declared as those of a database.
 pub record CanWalk (slots : List ℕ) (v : View) : Type 0 where
   pub active : IsActive v.role
   pub rest : is_trying v.seat.stage ≡ false
   pub holds : HoldsAre slots v
   pub within : (t : ℕ) → has_slot slots t ≡ true → t < v.layout.slots
   pub agree : WaysAgree v.ways
+  pub trees : TreesAgree v
   pub declared : AreDecls v.layout.decls
 
 -- ---- what has changed

@@ -5,11 +5,11 @@ ghost use Rattle.array_pages.specs.Spans.{keys_above, make_steps, walk_holds, Is
 ghost use Rattle.array_pages.specs.Steps.{CanCopy, ChecksSo, MakesSo, SettlesSo};
 ghost use Rattle.array_pages.specs.Walks.{AreLedTo, HasWalked, IsWayPlace, KeepsWords, OnlyWaysTo};
 ghost use Rattle.engine_pages.specs.Layout.{words_of};
-ghost use Rattle.engine_pages.specs.Pages.{is_array, is_leaf_span};
+ghost use Rattle.engine_pages.specs.Pages.{is_array};
 ghost use Rattle.engine_pages.specs.Passes.{view, IsPassOf};
 ghost use Rattle.engine_pages.specs.Pointers.{IsArrayPointerAt};
 ghost use Rattle.engine_pages.specs.Views.{IsActive};
-ghost use Rattle.snapshot_store.specs.ArrayPages.{indexes_at, last_at};
+ghost use Rattle.snapshot_store.specs.ArrayPages.{indexes_at};
 
 use crate::copying::install_copy;
 use crate::sizes::{LEAF, MIDDLE, RECORD, TOP};

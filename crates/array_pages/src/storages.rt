@@ -1,8 +1,7 @@
 // The storages of an engine, and where words of its table stand.
 ghost use Rattle.std.specs.Prelude.{◌≡◌, ◌+◌, ◌-◌, ◌<◌, ◌≤◌};
-ghost use Rattle.array_pages.specs.Spans.{keys_above, HasArray, IsArrayAt};
+ghost use Rattle.array_pages.specs.Spans.{HasArray, IsArrayAt};
 ghost use Rattle.engine_pages.specs.Layout.{page_at};
-ghost use Rattle.snapshot_store.specs.ArrayPages.{last_at};
 
 use engine_pages::Engine;
 use homes::Span;

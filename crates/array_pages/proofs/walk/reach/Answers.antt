@@ -27,7 +27,7 @@ follow-later-requires-clause-pass c =
     let u = view c.see_pointer-word.new.pass in
     let l : IsLoaded c.args.span c.args.at v c.see_pointer-word.result u =
     loaded_saw c.args.place c.args.span c.args.at v c.see_pointer-word.result u c.requires.can.agree
-    c.see_pointer-word.ensures.sees in active_stays v u l.walked c.requires.can.active
+    c.requires.can.trees c.see_pointer-word.ensures.sees in active_stays v u l.walked c.requires.can.active
 
 pub follow-later-requires-clause-place : goal.follow-later-requires-clause-place
 follow-later-requires-clause-place c =
@@ -35,7 +35,7 @@ follow-later-requires-clause-place c =
     let u = view c.see_pointer-word.new.pass in
     let l : IsLoaded c.args.span c.args.at v c.see_pointer-word.result u =
     loaded_saw c.args.place c.args.span c.args.at v c.see_pointer-word.result u c.requires.can.agree
-    c.see_pointer-word.ensures.sees in
+    c.requires.can.trees c.see_pointer-word.ensures.sees in
     any_pointer u c.args.place c.args.span c.args.at
     (place_stays v u c.args.place c.args.span c.args.at l.walked c.requires.place)
 
@@ -45,7 +45,7 @@ follow-later-requires-clause-word c =
     let u = view c.see_pointer-word.new.pass in
     let l : IsLoaded c.args.span c.args.at v c.see_pointer-word.result u =
     loaded_saw c.args.place c.args.span c.args.at v c.see_pointer-word.result u c.requires.can.agree
-    c.see_pointer-word.ensures.sees in
+    c.requires.can.trees c.see_pointer-word.ensures.sees in
     subst (λ (y : Layout). c.args.at < words_of y) (sym (layout_stays v u l.walked)) c.requires.word
 
 pub hold-requires-clause-can : goal.hold-requires-clause-can
@@ -54,7 +54,7 @@ hold-requires-clause-can c =
     let u = view c.see_pointer-word.new.pass in
     let l : IsLoaded c.args.span c.args.at v c.see_pointer-word.result u =
     loaded_saw c.args.place c.args.span c.args.at v c.see_pointer-word.result u c.requires.can.agree
-    c.see_pointer-word.ensures.sees in can_after c.args.holds.now v u l.walked l.grip l.agree c.requires.can
+    c.requires.can.trees c.see_pointer-word.ensures.sees in can_after c.args.holds.now v u l.walked l.grip l.agree l.trees c.requires.can
 
 pub hold-requires-clause-place : goal.hold-requires-clause-place
 hold-requires-clause-place c =
@@ -62,7 +62,7 @@ hold-requires-clause-place c =
     let u = view c.see_pointer-word.new.pass in
     let l : IsLoaded c.args.span c.args.at v c.see_pointer-word.result u =
     loaded_saw c.args.place c.args.span c.args.at v c.see_pointer-word.result u c.requires.can.agree
-    c.see_pointer-word.ensures.sees in place_stays v u c.args.place c.args.span c.args.at l.walked c.requires.place
+    c.requires.can.trees c.see_pointer-word.ensures.sees in place_stays v u c.args.place c.args.span c.args.at l.walked c.requires.place
 
 pub hold-requires-clause-word : goal.hold-requires-clause-word
 hold-requires-clause-word c =
@@ -70,7 +70,7 @@ hold-requires-clause-word c =
     let u = view c.see_pointer-word.new.pass in
     let l : IsLoaded c.args.span c.args.at v c.see_pointer-word.result u =
     loaded_saw c.args.place c.args.span c.args.at v c.see_pointer-word.result u c.requires.can.agree
-    c.see_pointer-word.ensures.sees in
+    c.requires.can.trees c.see_pointer-word.ensures.sees in
     subst (λ (y : Layout). c.args.at < words_of y) (sym (layout_stays v u l.walked)) c.requires.word
 
 pub hold-requires-clause-led : goal.hold-requires-clause-led
@@ -79,7 +79,7 @@ hold-requires-clause-led c =
     let u = view c.see_pointer-word.new.pass in
     let l : IsLoaded c.args.span c.args.at v c.see_pointer-word.result u =
     loaded_saw c.args.place c.args.span c.args.at v c.see_pointer-word.result u c.requires.can.agree
-    c.see_pointer-word.ensures.sees in
+    c.requires.can.trees c.see_pointer-word.ensures.sees in
     led_to c.args.span c.args.at v c.see_pointer-word.result u l c.if-word-ge-SLOT.true c.if-word-ge-SHUT.false
 
 pub returns-then-word-ge-SHUT-clause-reaches : goal.returns-then-word-ge-SHUT-clause-reaches
@@ -89,7 +89,8 @@ returns-then-word-ge-SHUT-clause-reaches c =
     let w = view c.follow-later.new.pass in
     let n = c.see_pointer-word.result in
     let l : IsLoaded c.args.span c.args.at v n u =
-    loaded_saw c.args.place c.args.span c.args.at v n u c.requires.can.agree c.see_pointer-word.ensures.sees in
+    loaded_saw c.args.place c.args.span c.args.at v n u c.requires.can.agree
+    c.requires.can.trees c.see_pointer-word.ensures.sees in
     subst (λ (r : RefusalCause). ReachesSo (length c.args.holds.now + 1) c.args.pointers.now c.args.holds.now
     c.args.place c.args.span c.args.at (Err r) v w)
     (sym c.conflict.ensures)
@@ -117,7 +118,8 @@ returns-then-met-clause-reaches c =
     let u = view c.see_pointer-word.new.pass in
     let n = c.see_pointer-word.result in
     let l : IsLoaded c.args.span c.args.at v n u =
-    loaded_saw c.args.place c.args.span c.args.at v n u c.requires.can.agree c.see_pointer-word.ensures.sees in
+    loaded_saw c.args.place c.args.span c.args.at v n u c.requires.can.agree
+    c.requires.can.trees c.see_pointer-word.ensures.sees in
     reach_page c.args.pointers.now c.args.holds.now c.args.place c.args.span c.args.at n v u c.requires.can
     c.requires.place l
     c.in_ok-met.met c.in_ok-met.ensures.met (λ none. absurd (true≢false (sym c.if-met.true ∙ none)))
@@ -130,7 +132,8 @@ returns-then-is_full-clause-reaches c =
     let u = view c.see_pointer-word.new.pass in
     let n = c.see_pointer-word.result in
     let l : IsLoaded c.args.span c.args.at v n u =
-    loaded_saw c.args.place c.args.span c.args.at v n u c.requires.can.agree c.see_pointer-word.ensures.sees in
+    loaded_saw c.args.place c.args.span c.args.at v n u c.requires.can.agree
+    c.requires.can.trees c.see_pointer-word.ensures.sees in
     reach_wide c.args.pointers.now c.args.holds.now c.args.place c.args.span c.args.at n v u c.requires.can
     c.requires.place l
     c.in_ok-met.met c.in_ok-met.ensures.met c.if-met.false c.if-word-ge-SLOT.false
@@ -142,7 +145,8 @@ returns-clause-reaches c =
     let u = view c.see_pointer-word.new.pass in
     let n = c.see_pointer-word.result in
     let l : IsLoaded c.args.span c.args.at v n u =
-    loaded_saw c.args.place c.args.span c.args.at v n u c.requires.can.agree c.see_pointer-word.ensures.sees in
+    loaded_saw c.args.place c.args.span c.args.at v n u c.requires.can.agree
+    c.requires.can.trees c.see_pointer-word.ensures.sees in
     reach_page c.args.pointers.now c.args.holds.now c.args.place c.args.span c.args.at n v u c.requires.can
     c.requires.place l
     c.in_ok-met.met c.in_ok-met.ensures.met
@@ -158,7 +162,8 @@ returns-in_err-met-clause-reaches c =
     let u = view c.see_pointer-word.new.pass in
     let n = c.see_pointer-word.result in
     let l : IsLoaded c.args.span c.args.at v n u =
-    loaded_saw c.args.place c.args.span c.args.at v n u c.requires.can.agree c.see_pointer-word.ensures.sees in
+    loaded_saw c.args.place c.args.span c.args.at v n u c.requires.can.agree
+    c.requires.can.trees c.see_pointer-word.ensures.sees in
     rw (p.1, p.2)
     (reach_other c.args.pointers.now c.args.holds.now c.args.place c.args.span c.args.at n v u c.requires.can
     c.requires.place l
@@ -171,7 +176,8 @@ returns-in_err-slot-clause-reaches c =
     let u = view c.see_pointer-word.new.pass in
     let n = c.see_pointer-word.result in
     let l : IsLoaded c.args.span c.args.at v n u =
-    loaded_saw c.args.place c.args.span c.args.at v n u c.requires.can.agree c.see_pointer-word.ensures.sees in
+    loaded_saw c.args.place c.args.span c.args.at v n u c.requires.can.agree
+    c.requires.can.trees c.see_pointer-word.ensures.sees in
     rw (p.1, p.2)
     (reach_unheld c.args.pointers.now c.args.holds.now c.args.place c.args.span c.args.at n v u c.requires.can
     c.requires.place l

@@ -14,6 +14,7 @@ use Rattle.tx_sets.specs.declared.seen.Seen.{Seen}
 use Rattle.tx_sets.specs.declared.sets.Sets.{Sets}
 use Rattle.tx_sets.specs.Entries.{places_of}
 use Rattle.tx_sets.specs.Gathered.{AreEmpty}
+use Rattle.engine_pages.specs.Agreement.{TreesAgree}
 use Rattle.engine_pages.specs.declared.layout.Layout.{Layout}
 use Rattle.engine_pages.specs.declared.view.RefusalCause.TheVariants as refusals
 use Rattle.engine_pages.specs.declared.view.Role.{Role}
@@ -23,11 +24,13 @@ use Rattle.engine_pages.specs.Times.{HasTimed}
 use Rattle.engine_pages.specs.Views.{IsActive, IsResting}
 use Rattle.page_records.specs.Ends.{readied, refused_for, worker_of, Begun, HasForgotten}
 use Rattle.page_commit.specs.Places.{ground}
+use Rattle.page_commit.specs.HeaderParts.{AreHeaders}
 use Rattle.page_commit.specs.Live.{entry_places, AreParts, HasHolds, IsLive, IsOver, IsWriteOf}
 use Rattle.page_commit.specs.Refusing.{RefusesBegin}
 use Rattle.page_commit.specs.Committing.{HasAborted, HasBegun}
 use Rattle.page_commit.specs.Steps.{HasLeft}
 use Rattle.page_commit.proofs.LeaveLaws.{holds_stay, left_agree, left_holds, same_then, SamePages}
+use Rattle.page_commit.proofs.LeaveLaws.{left_trees, trees_stay}
 use Rattle.page_commit.proofs.PageLaws.{forgotten_pages}
 
 -- ---- the begin
@@ -37,6 +40,9 @@ timed_pages v u n h = record {
   layout = ap (λ (y : View). y.layout) h.is;
   grip = ap (λ (y : View). y.grip) h.is;
   ways = ap (λ (y : View). y.ways) h.is;
+  known = ap (λ (y : View). y.known) h.is;
+  moved = ap (λ (y : View). y.moved) h.is;
+  branches = ap (λ (y : View). y.inners) h.is;
   drafts = ap (λ (y : View). y.drafts) h.is;
   copies = ap (λ (y : View). y.copies) h.is;
   blanks = ap (λ (y : View). y.blanks) h.is;
@@ -51,6 +57,7 @@ no_parts sets v empty = record {
   known = λ part has. absurd (in_none part has);
   reads = λ e has. absurd (in_none e (subst (λ (l : List ReadEntry). Contains l e) empty.reads has));
   pointers = λ p has. absurd (in_none p (subst (λ (l : List Seen). Contains l p) empty.pointers has));
+  headers = λ p has. absurd (in_none p (subst (λ (l : List Seen). Contains l p) empty.headers has));
   once = λ a b has. absurd (in_none a has);
 }
 
@@ -66,19 +73,35 @@ begun_live sets v u n over empty h =
       stage = ap (λ (y : View). y.seat.stage) h.is ∙ over.seat.stage;
       gone = refl;
       agree = subst Rattle.engine_pages.specs.Pointers.WaysAgree (sym pages.ways) over.agree;
+      trees = ready_trees u (trees_stay v u pages over.trees);
       holds = subst (λ l. HasHolds l (readied u)) (sym empty.holds) (ready_holds u (holds_stay [] v u pages over.holds));
       parts = subst (AreParts sets (readied u)) (sym kept) (no_parts sets (readied u) empty);
       places = subst (λ (l : List ReadEntry). AreDistinct (entry_places l)) (sym empty.reads) tt;
       once = subst (λ (l : List Seen). AreDistinct (places_of l)) (sym empty.pointers) tt;
       writes = subst (AllByRecursion (IsWriteOf (ground (readied u)))) (sym empty.writes) tt;
-      met = λ k at place clear. ap (λ (l : List ReadEntry). Rattle.page_commit.specs.Live.read_word at l) (sym empty.reads);
+      met = record {
+        arrays = λ k at place clear.
+            ap (λ (l : List ReadEntry). Rattle.page_commit.specs.Live.read_word at l) (sym empty.reads);
+        trees = λ k at m place clear read.
+            absurd (none_some m (ap (λ (l : List ReadEntry). Rattle.page_commit.specs.Live.read_word at l) (sym empty.reads)
+            ∙ read));
+      };
       points = λ p has. absurd (in_none p (subst (λ (l : List Seen). Contains l p) empty.pointers has));
       kept = λ p has. absurd (in_none p (subst (λ (l : List Seen). Contains l p) empty.pointers has));
+      headers = subst (λ (l : List Seen). AreHeaders l (readied u)) (sym empty.headers) record {
+        once = tt;
+        met = λ h has. absurd (in_none h has);
+        kept = λ h has. absurd (in_none h has);
+      };
+      only = λ at m kept. absurd (none_some m kept);
       inside = λ at m seen. absurd (none_some m seen);
     }
   where
     none_some : (m : ℕ) → None ≡ Some m → ⊥
     none_some m same = cc
+
+    ready_trees : (y : View) → TreesAgree y → TreesAgree (readied y)
+    ready_trees y a = record { known = a.known; inners = a.inners; apart = a.apart; spans = a.spans }
 
     ready_holds : (y : View) → HasHolds [] y → HasHolds [] (readied y)
     ready_holds y h = record {
@@ -120,6 +143,20 @@ refuses_begin v w n over b high =
     let pages : SamePages v u = timed_pages v u n h in
     let layout : w.layout ≡ v.layout = ap (λ (y : View). y.layout) is ∙ pages.layout in
     let role : w.role ≡ v.role = ap (λ (y : View). y.role) is ∙ ap (λ (y : View). y.role) h.is in
+    let now : SamePages v w = same_then v u w pages record {
+      layout = ap (λ (y : View). y.layout) is;
+      grip = ap (λ (y : View). y.grip) is;
+      ways = ap (λ (y : View). y.ways) is;
+      known = ap (λ (y : View). y.known) is;
+      moved = ap (λ (y : View). y.moved) is;
+      branches = ap (λ (y : View). y.inners) is;
+      drafts = ap (λ (y : View). y.drafts) is;
+      copies = ap (λ (y : View). y.copies) is;
+      blanks = ap (λ (y : View). y.blanks) is;
+      leaves = ap (λ (y : View). y.new_leaves) is;
+      inners = ap (λ (y : View). y.new_inners) is;
+      heads = ap (λ (y : View). y.heads) is;
+    } in
     let draws : w.draws ≡ v.draws = ap (λ (y : View). y.draws) is ∙ ap (λ (y : View). y.draws) h.is in record {
       clock = n;
       is = refl;
@@ -140,17 +177,8 @@ refuses_begin v w n over b high =
               (subst (λ (y : View). IsResting y.seat) (sym h.is) over.seat);
           agree = subst Rattle.engine_pages.specs.Pointers.WaysAgree
               (sym (ap (λ (y : View). y.ways) is ∙ pages.ways)) over.agree;
-          holds = holds_stay [] v w (same_then v u w pages record {
-            layout = ap (λ (y : View). y.layout) is;
-            grip = ap (λ (y : View). y.grip) is;
-            ways = ap (λ (y : View). y.ways) is;
-            drafts = ap (λ (y : View). y.drafts) is;
-            copies = ap (λ (y : View). y.copies) is;
-            blanks = ap (λ (y : View). y.blanks) is;
-            leaves = ap (λ (y : View). y.new_leaves) is;
-            inners = ap (λ (y : View). y.new_inners) is;
-            heads = ap (λ (y : View). y.heads) is;
-          }) over.holds;
+          trees = trees_stay v w now over.trees;
+          holds = holds_stay [] v w now over.holds;
         };
         layout = layout;
         role = role;
@@ -202,6 +230,7 @@ aborted sets v w x live h l =
           stage = ap (λ (y : View). y.seat.stage) l.is ∙ (ap (λ (y : View). y.seat.stage) h.is ∙ live.stage);
         };
         agree = left_agree w x (subst Rattle.engine_pages.specs.Pointers.WaysAgree (sym pages.ways) live.agree) l;
+        trees = left_trees w x (trees_stay v w pages live.trees) l;
         holds = left_holds sets.holds w x (holds_stay sets.holds v w pages live.holds) l;
       };
       layout = layout;

@@ -23,7 +23,7 @@ use Rattle.tx_sets.specs.declared.reads.ReadEntry.{ReadEntry}
 use Rattle.tx_sets.specs.declared.seen.Seen.{Seen}
 use Rattle.tx_sets.specs.declared.sets.Sets.{Sets}
 use Rattle.tx_sets.specs.declared.writes.Write.{Write}
-use Rattle.tx_sets.specs.Entries.{places_of, writes_at}
+use Rattle.tx_sets.specs.Entries.{writes_at}
 use Rattle.engine_pages.specs.declared.view.Read.{Read}
 use Rattle.engine_pages.specs.declared.view.Took.{Took}
 use Rattle.engine_pages.specs.declared.view.View.{View}
@@ -42,6 +42,7 @@ use Rattle.page_commit.specs.Live.{IsWordFor, entry_places, read_word, reads_at,
 use Rattle.page_commit.specs.Steps.{entry_words, pointer_words, tooks_of, AreAsRead, CheckConflict, HasCheckedSome}
 use Rattle.page_commit.specs.Steps.{HasFailed, HasTried}
 use Rattle.page_commit.proofs.Lists.{in_at, map_push}
+use Rattle.array_pages.proofs.ReadLaws.{kept_with}
 use Rattle.page_commit.proofs.ReadLaws.{seen_at-other}
 use Rattle.tx_sets.specs.Entries as sets_of
 
@@ -245,6 +246,7 @@ starts_checking sets v h = record {
   loaded = v.loaded;
   reads = v.reads;
   aside = λ at clear none. refl;
+  kept = λ at. refl;
   is = by_lists sets.reads sets.pointers;
 }
   where
@@ -379,6 +381,7 @@ checked_one reads sets done d own b k v w x same p lt test hit c =
           (subst (λ (l : List ReadEntry). reads_at at l ≡ false) more clear) in
           seen_at-other p.reads e.at k at (λ hit'. true≢false (sym (eq-eqb e.at at hit') ∙ parts.1))
           ∙ p.aside at parts.0 none';
+      kept = λ at. kept_with p.reads e.at k at ∙ p.kept at;
       is = is ∙ (ap (λ (z : View). checked_at (spot_at z.layout.slots e.at) e.at k z) p.is
           ∙ ap (λ l. with_checked v l y) words);
     }
@@ -454,7 +457,7 @@ check_conflict reads sets done d own b k v w x h apart same p lt own-is test mis
     let was : seen_at w.reads e.at ≡ Some e.word =
     ap (λ (y : View). seen_at y.reads e.at) p.is
     ∙ (p.aside e.at clear (none_met sets.pointers e.at)
-    ∙ (h.met e.key e.at t.place free ∙ entry_is sets.reads e apart entry)) in
+    ∙ (h.met.arrays e.key e.at t.place free ∙ entry_is sets.reads e apart entry)) in
     let steps : w.steps ≡ p.steps = ap (λ (y : View). y.steps) p.is in
     let last = ap (λ (y : View). y.last) is in
     let cause : (2 ^ 60 ≤ k) ⊎ ((e.word < 2 ^ 60) × (k ≢ e.word)) =

@@ -13,9 +13,10 @@ use Rattle.homes.specs.Homes.{same_key}
 use Rattle.homes.specs.Laws.{same_key-self}
 use Rattle.wire_form.specs.Words.{number_word}
 use Rattle.tx_sets.specs.declared.reads.ReadEntry.{ReadEntry}
+use Rattle.tx_sets.specs.declared.seen.Seen.{Seen}
 use Rattle.tx_sets.specs.declared.sets.Sets.{Sets}
 use Rattle.tx_sets.specs.declared.writes.Write.{Write}
-use Rattle.tx_sets.specs.Entries.{has_read, has_write, read_keys, writes_at, IsAscending}
+use Rattle.tx_sets.specs.Entries.{has_write, writes_at, IsAscending}
 use Rattle.engine_pages.specs.declared.view.Read.{Read}
 use Rattle.engine_pages.specs.declared.view.RefusalCause.{RefusalCause}
 use Rattle.engine_pages.specs.declared.view.RefusalCause.TheVariants.{Conflict}
@@ -23,7 +24,7 @@ use Rattle.engine_pages.specs.declared.view.Role.{Role}
 use Rattle.engine_pages.specs.declared.view.Role.TheVariants.{Worker}
 use Rattle.engine_pages.specs.declared.view.View.{View}
 use Rattle.page_records.specs.Attempts.{CanDraw, HasDrawn, HasChosen}
-use Rattle.page_records.specs.Ends.{worker_of}
+use Rattle.page_records.specs.Ends.{worker_of, IsTreeWordAt}
 use Rattle.engine_pages.specs.Words.{IsSmall}
 use Rattle.engine_pages.specs.Touches.{touch}
 use Rattle.engine_pages.specs.declared.view.Touch.{Touch}
@@ -148,7 +149,8 @@ pub stopped_places : (sets : Sets) (ws all : List Write) (found : List ℕ) (v w
     → HasLocked ws found v w
     → all ≡ sets.writes → AllByRecursion (IsWriteOf (ground w)) all
 stopped_places sets ws all found v w live h is =
-    writes_stay all v w (ap (λ (y : View). y.layout) h.is) (ap (λ (y : View). y.ways) h.is) (sets_places sets all v live is)
+    writes_stay all v w (ap (λ (y : View). y.layout) h.is) (ap (λ (y : View). y.ways) h.is)
+    (ap (λ (y : View). y.known) h.is) (ap (λ (y : View). y.inners) h.is) (sets_places sets all v live is)
 
 pub stopped_locks : (sets : Sets) (ws : List Write) (found : List ℕ) (v w : View) → IsLive sets v
     → HasLocked ws found v w
@@ -189,6 +191,16 @@ told_none ws why sp at expected seen v w x blamed same place g =
     ap (λ (y : View). y.blamed) g.left.is
     ∙ (ap (λ (y : View). y.blamed) g.forgot
     ∙ (ap (λ l. l ++ g.met) blamed ∙ (ap (λ l. v.blamed ++ l) (tells.1 sp place) ∙ append-nil v.blamed)))
+
+-- nor of one at a word of a tree
+pub told_tree : (ws : List Write) (why : RefusalCause) (t i at expected seen : ℕ) (v w x : View)
+    → w.blamed ≡ v.blamed → why ≡ Conflict at expected seen → IsTreeWordAt w t i at → HasGivenUp ws why w x
+    → x.blamed ≡ v.blamed
+told_tree ws why t i at expected seen v w x blamed same place g =
+    let tells : TellsOf (Conflict at expected seen) g.met w = subst (λ (r : RefusalCause). TellsOf r g.met w) same g.of in
+    ap (λ (y : View). y.blamed) g.left.is
+    ∙ (ap (λ (y : View). y.blamed) g.forgot
+    ∙ (ap (λ l. l ++ g.met) blamed ∙ (ap (λ l. v.blamed ++ l) (tells.3 t i place) ∙ append-nil v.blamed)))
 
 -- what was met of other words is still so
 pub kept_others : (ws : List Write) (why : RefusalCause) (w x : View) → HasGivenUp ws why w x → KeepOthers ws w.reads x.reads
@@ -254,7 +266,9 @@ stopped_met sets ws all found at expected seen v w live is h c =
 pub checked_met : (sets : Sets) (at expected seen : ℕ) (x y : View) → CheckConflict sets at expected seen x y
     → HasMet at expected seen y
 checked_met sets at expected seen x y (inl c) = inl (c.0.key, c.4)
-checked_met sets at expected seen x y (inr c) = inr c.2
+checked_met sets at expected seen x y (inr (inl c)) = inr (inl c.2)
+checked_met sets at expected seen x y (inr (inr c)) =
+    inr (inr (Rattle.page_commit.specs.Places.slot_of x.layout.slots at, 0, c.2))
 
 -- ---- the commit of what is locked
 
@@ -292,7 +306,7 @@ chosen_active m y z active c = subst IsActive (sym (ap (λ (u : View). u.role) c
 -- the places of the writes, in each of the views
 pub places_then : (ws : List Write) (x y : View) → SamePages x y → AllByRecursion (IsWriteOf (ground x)) ws
     → AllByRecursion (IsWriteOf (ground y)) ws
-places_then ws x y same all = writes_stay ws x y same.layout same.ways all
+places_then ws x y same all = writes_stay ws x y same.layout same.ways same.known same.branches all
 
 pub drawn_same : (sets : Sets) (found : List ℕ) (changes : List Change) (n : ℕ) (v w x : View)
     → CanCommit sets found v w → HasDrawn changes w n x → SamePages v x
@@ -440,10 +454,25 @@ check_cause sets found ws changes n at expected seen why v w x y z can d f is ap
     blamed = ap (λ (u : View). u.blamed) f.is
         ∙ (ap (λ (u : View). u.blamed) d.is ∙ ap (λ (u : View). u.blamed) can.locked.is)
 
+    on_word : (l : List Seen) → IsPointerConflict l at expected seen x y → IsPointerConflict l at expected seen v z
+    on_word l m = record {
+      step = m.step;
+      last = last_same sets.writes why y z g' ∙ m.last;
+      since = let low = m.since in let low' = since in omega (arith, low, low');
+      was = m.was;
+      kept = m.kept;
+      stands = kept_others sets.writes why y z g'
+          (record { word = at; seen = seen; was = m.was; kept = m.kept }) m.stands apart;
+      known = m.known;
+      cause = m.cause;
+    }
+
     by_conflict : CheckConflict sets at expected seen x y
         → ((k : Key) × IsRecordOf sets.reads sets.writes k at × IsConflictAt sets.reads k at expected seen v z)
-        ⊎ ((Rattle.tx_sets.specs.Entries.has_word at sets.pointers ≡ true)
+        ⊎ (((Rattle.tx_sets.specs.Entries.has_word at sets.pointers ≡ true)
         × IsPointerConflict sets.pointers at expected seen v z × (z.blamed ≡ v.blamed))
+        ⊎ ((Rattle.tx_sets.specs.Entries.has_word at sets.headers ≡ true)
+        × IsPointerConflict sets.headers at expected seen v z × (z.blamed ≡ v.blamed)))
     by_conflict (inl m) = inl (
       m.0.key,
       inl (m.0, m.1, refl, m.2),
@@ -453,18 +482,14 @@ check_cause sets found ws changes n at expected seen why v w x y z can d f is ap
         blamed = told_key sets.writes why m.0.key at expected seen v y z role blamed same m.4.place g';
       },
     )
-    by_conflict (inr m) = inr (
+    by_conflict (inr (inl m)) = inr (inl (
       m.0,
-      record {
-        step = m.1.step;
-        last = last_same sets.writes why y z g' ∙ m.1.last;
-        since = let low = m.1.since in let low' = since in omega (arith, low, low');
-        was = m.1.was;
-        kept = m.1.kept;
-        stands = kept_others sets.writes why y z g'
-            (record { word = at; seen = seen; was = m.1.was; kept = m.1.kept }) m.1.stands apart;
-        known = m.1.known;
-        cause = m.1.cause;
-      },
+      on_word sets.pointers m.1,
       told_none sets.writes why m.2.span at expected seen v y z blamed same m.2.place g',
-    )
+    ))
+    by_conflict (inr (inr m)) = inr (inr (
+      m.0,
+      on_word sets.headers m.1,
+      told_tree sets.writes why (Rattle.page_commit.specs.Places.slot_of x.layout.slots at) 0 at expected seen v y z
+          blamed same m.2.place.word g',
+    ))

@@ -11,13 +11,15 @@ use Rattle.serial_model.specs.declared.number.Number.{Number}
 use Rattle.tx_sets.specs.declared.reads.ReadEntry.{ReadEntry}
 use Rattle.tx_sets.specs.declared.sets.Sets.{Sets}
 use Rattle.tx_sets.specs.declared.writes.Write.{Write}
-use Rattle.tx_sets.specs.Entries.{has_read, has_write, places_of, IsAscending}
+use Rattle.tx_sets.specs.Entries.{places_of, IsAscending}
 use Rattle.engine_pages.specs.declared.view.RefusalCause.{RefusalCause}
 use Rattle.engine_pages.specs.declared.view.RefusalCause.TheVariants.{Conflict, Full, NumberLimit, Wide}
 use Rattle.engine_pages.specs.declared.view.View.{View}
-use Rattle.page_commit.specs.Committing.{changes_of, commit_steps, kept_writes, AreChangesOf, HasCommitted}
+use Rattle.page_commit.specs.Committing.{changes_of, checks_of, commit_steps, kept_writes, AreChangesOf, HasCommitted}
 use Rattle.page_commit.specs.Committing.{RefusesCommit, TookOnly, IsRecordOf, IsDropped}
-use Rattle.page_commit.specs.Live.{AreParts, AreMet, IsWriteOf, IsLive, entry_places, ArePointersKept, ArePointersMet, HasHolds}
+use Rattle.page_commit.specs.HeaderParts.{AreHeaders}
+use Rattle.page_commit.specs.Live.{AreParts, AreMet, IsWriteOf, IsLive, entry_places, ArePointersKept, ArePointersMet}
+use Rattle.page_commit.specs.Live.{HasHolds, KeepsOnly}
 use Rattle.page_commit.specs.Refusing.{HasRefused, IsConflictAt, IsPointerConflict}
 use Rattle.page_commit.specs.Steps.{CanCommit}
 use Rattle.page_commit.proofs.StepLaws.{all_steps, all_most}
@@ -34,16 +36,28 @@ kept_all g true ws all = all
 kept_all g false ws all = tt
 
 pub parts_dropped : (sets new : Sets) (v : View) (kept : List Part) → new.reads ≡ sets.reads → new.pointers ≡ sets.pointers
-    → AreParts sets v kept → AreParts new v kept
-parts_dropped sets new v kept reads pointers are = record {
+    → new.headers ≡ sets.headers → AreParts sets v kept → AreParts new v kept
+parts_dropped sets new v kept reads pointers headers are = record {
   known = λ part has. elim (are.known part has) [
     | inl r ↦ inl (r.0, subst (λ (l : List ReadEntry). Contains l r.0) (sym reads) r.1, r.2)
-    | inr r ↦ inr (r.0, subst (λ (l : List Seen). Contains l r.0) (sym pointers) r.1, r.2)
+    | inr o ↦ inr (elim o [
+      | inl r ↦ inl (r.0, subst (λ (l : List Seen). Contains l r.0) (sym pointers) r.1, r.2)
+      | inr r ↦ inr (r.0, subst (λ (l : List Seen). Contains l r.0) (sym headers) r.1, r.2)
+    ])
   ];
   reads = λ e has. are.reads e (subst (λ (l : List ReadEntry). Contains l e) reads has);
   pointers = λ p has. are.pointers p (subst (λ (l : List Seen). Contains l p) pointers has);
+  headers = λ h has. are.headers h (subst (λ (l : List Seen). Contains l h) headers has);
   once = are.once;
 }
+
+-- no more words are kept, where the pointers and headers are the same
+pub keeps_only : (sets new : Sets) (v : View) → new.pointers ≡ sets.pointers → new.headers ≡ sets.headers
+    → KeepsOnly sets v → KeepsOnly new v
+keeps_only sets new v pointers headers only at n is = elim (only at n is) [
+  | inl p ↦ inl (subst (λ (l : List Seen). Rattle.tx_sets.specs.Entries.has_word at l ≡ true) (sym pointers) p)
+  | inr h ↦ inr (subst (λ (l : List Seen). Rattle.tx_sets.specs.Entries.has_word at l ≡ true) (sym headers) h)
+]
 
 pub live_dropped : (sets new : Sets) (keep : Bool) (v : View) → IsLive sets v → IsDropped keep sets new → IsLive new v
 live_dropped sets new keep v live d = record {
@@ -55,21 +69,24 @@ live_dropped sets new keep v live d = record {
   stage = live.stage;
   gone = live.gone;
   agree = live.agree;
+  trees = live.trees;
   holds = subst (λ l. HasHolds l v) (sym d.holds) live.holds;
-  parts = parts_dropped sets new v v.seat.kept d.reads d.pointers live.parts;
+  parts = parts_dropped sets new v v.seat.kept d.reads d.pointers d.headers live.parts;
   places = subst (λ (l : List ReadEntry). AreDistinct (entry_places l)) (sym d.reads) live.places;
   once = subst (λ (l : List Seen). AreDistinct (places_of l)) (sym d.pointers) live.once;
   writes = subst (AllByRecursion (IsWriteOf (ground v))) (sym d.writes) (kept_all (ground v) keep sets.writes live.writes);
   met = subst (λ (l : List ReadEntry). AreMet l [] v) (sym d.reads) live.met;
   points = subst (λ (l : List Seen). ArePointersMet l v) (sym d.pointers) live.points;
   kept = subst (λ (l : List Seen). ArePointersKept l v) (sym d.pointers) live.kept;
+  headers = subst (λ (l : List Seen). AreHeaders l v) (sym d.headers) live.headers;
+  only = keeps_only sets new v d.pointers d.headers live.only;
   inside = live.inside;
 }
 
 pub refuses_dropped : (sets new : Sets) (ws : List Write) (why : RefusalCause) (v w : View) → new.reads ≡ sets.reads
-    → new.pointers ≡ sets.pointers
+    → new.pointers ≡ sets.pointers → new.headers ≡ sets.headers
     → new.writes ≡ ws → RefusesCommit new new.writes why v w → RefusesCommit sets ws why v w
-refuses_dropped sets new ws (Conflict at expected seen) v w reads pointers writes r = (
+refuses_dropped sets new ws (Conflict at expected seen) v w reads pointers headers writes r = (
   elim r.0 [
     | inl m ↦ inl (
       m.0,
@@ -77,17 +94,24 @@ refuses_dropped sets new ws (Conflict at expected seen) v w reads pointers write
           (subst (λ (l : List ReadEntry). IsRecordOf l new.writes m.0 at) reads m.1),
       subst (λ (l : List ReadEntry). IsConflictAt l m.0 at expected seen v w) reads m.2,
     )
-    | inr m ↦ inr (
-      subst (λ (l : List Seen). Rattle.tx_sets.specs.Entries.has_word at l ≡ true) pointers m.0,
-      subst (λ (l : List Seen). IsPointerConflict l at expected seen v w) pointers m.1,
-      m.2,
-    )
+    | inr o ↦ inr (elim o [
+      | inl m ↦ inl (
+        subst (λ (l : List Seen). Rattle.tx_sets.specs.Entries.has_word at l ≡ true) pointers m.0,
+        subst (λ (l : List Seen). IsPointerConflict l at expected seen v w) pointers m.1,
+        m.2,
+      )
+      | inr m ↦ inr (
+        subst (λ (l : List Seen). Rattle.tx_sets.specs.Entries.has_word at l ≡ true) headers m.0,
+        subst (λ (l : List Seen). IsPointerConflict l at expected seen v w) headers m.1,
+        m.2,
+      )
+    ])
   ],
   subst (λ (l : List Write). TookOnly l v w) writes r.1,
 )
-refuses_dropped sets new ws (Full held) v w reads pointers writes r = r
-refuses_dropped sets new ws (Wide set) v w reads pointers writes r = r
-refuses_dropped sets new ws (NumberLimit clock) v w reads pointers writes r = r
+refuses_dropped sets new ws (Full held) v w reads pointers headers writes r = r
+refuses_dropped sets new ws (Wide set) v w reads pointers headers writes r = r
+refuses_dropped sets new ws (NumberLimit clock) v w reads pointers headers writes r = r
 
 -- ---- results that are handed on
 
@@ -143,28 +167,29 @@ changes_told changes ws kept is same rises few = record {
 }
 
 pub dropped_for : (r : Result Number RefusalCause) (sets new : Sets) (ws : List Write) (v w : View)
-    → new.reads ≡ sets.reads → new.pointers ≡ sets.pointers
+    → new.reads ≡ sets.reads → new.pointers ≡ sets.pointers → new.headers ≡ sets.headers
     → new.writes ≡ ws → IfErr r (λ why. RefusesCommit new new.writes why v w)
     → IfErr r (λ why. RefusesCommit sets ws why v w)
-dropped_for (Ok k) sets new ws v w reads pointers writes is = tt
-dropped_for (Err why) sets new ws v w reads pointers writes is = refuses_dropped sets new ws why v w reads pointers writes is
+dropped_for (Ok k) sets new ws v w reads pointers headers writes is = tt
+dropped_for (Err why) sets new ws v w reads pointers headers writes is =
+    refuses_dropped sets new ws why v w reads pointers headers writes is
 
 pub steps_for : (r : Result Number RefusalCause) (sets : Sets) (ws : List Write) (holds : List ℕ) (v w x : View)
     → ws ≡ sets.writes → holds ≡ sets.holds → w.steps ≡ v.steps + 2 * length ws
-    → OnOk r (x.steps ≡ w.steps + 2 * length ws + (length sets.reads + length sets.pointers) + length holds + 2)
+    → OnOk r (x.steps ≡ w.steps + 2 * length ws + checks_of sets + length holds + 2)
     → OnOk r (x.steps ≡ v.steps + commit_steps sets sets.writes)
 steps_for (Ok k) sets ws holds v w x same same' locks rest =
-    all_steps (length sets.reads + length sets.pointers) (length ws) (length sets.writes) (length holds)
+    all_steps (checks_of sets) (length ws) (length sets.writes) (length holds)
     (length sets.holds) v w x (ap (λ (l : List Write). length l) same) (ap (λ (l : List ℕ). length l) same') locks rest
 steps_for (Err why) sets ws holds v w x same same' locks rest = tt
 
 pub most_for : (r : Result Number RefusalCause) (sets : Sets) (ws : List Write) (holds : List ℕ) (v w x : View)
     → ws ≡ sets.writes → holds ≡ sets.holds → w.steps ≡ v.steps + 2 * length ws
-    → OnErr r (x.steps ≤ w.steps + length ws + (length sets.reads + length sets.pointers) + length holds + 2)
+    → OnErr r (x.steps ≤ w.steps + length ws + checks_of sets + length holds + 2)
     → OnErr r (x.steps ≤ v.steps + commit_steps sets sets.writes)
 most_for (Ok k) sets ws holds v w x same same' locks rest = tt
 most_for (Err why) sets ws holds v w x same same' locks rest =
-    all_most (length sets.reads + length sets.pointers) (length ws) (length sets.writes) (length holds)
+    all_most (checks_of sets) (length ws) (length sets.writes) (length holds)
     (length sets.holds) v w x (ap (λ (l : List Write). length l) same) (ap (λ (l : List ℕ). length l) same') locks rest
 
 counts_kept : (keep : Bool) (sets new : Sets) → IsDropped keep sets new
@@ -173,7 +198,8 @@ counts_kept keep sets new d =
     let reads = ap (λ (l : List ReadEntry). length l) d.reads in
     let writes = ap (λ (l : List Write). length l) d.writes in
     let pointers = ap (λ (l : List Seen). length l) d.pointers in
-    let holds = ap (λ (l : List ℕ). length l) d.holds in omega (arith, reads, writes, pointers, holds)
+    let headers = ap (λ (l : List Seen). length l) d.headers in
+    let holds = ap (λ (l : List ℕ). length l) d.holds in omega (arith, reads, writes, pointers, headers, holds)
 
 pub kept_steps : (r : Result Number RefusalCause) (keep : Bool) (sets new : Sets) (v x : View) → IsDropped keep sets new
     → OnOk r (x.steps ≡ v.steps + commit_steps new new.writes)

@@ -31,6 +31,7 @@ use Rattle.page_commit.specs.Steps.{keys_of, HasLocked, HasChecked, HasDecided, 
 use Rattle.page_commit.proofs.Settling.{settled_locks, settled_marks, settled_open, settled_last}
 use Rattle.engine_pages.specs.Pointers.{WaysAgree}
 use Rattle.page_commit.proofs.LeaveLaws.{holds_stay, left_agree, left_holds, same_then, SamePages}
+use Rattle.page_commit.proofs.LeaveLaws.{left_trees, trees_stay}
 use Rattle.page_commit.proofs.PageLaws.{checked_pages, chosen_pages, drawn_pages, locked_pages, published_pages}
 
 -- ---- the decision
@@ -194,6 +195,7 @@ committed sets found changes n number v w x z u t live h d is c p l =
           stage = p.stage;
         });
         agree = left_agree u t (subst WaysAgree (sym pages.ways) live.agree) l;
+        trees = left_trees u t (trees_stay v u pages live.trees) l;
         holds = left_holds sets.holds u t (holds_stay sets.holds v u pages live.holds) l;
       };
       layout = layout';

@@ -17,6 +17,8 @@ use Rattle.tx_sets.specs.declared.reads.ReadEntry.{ReadEntry}
 use Rattle.tx_sets.specs.declared.sets.Sets.{Sets}
 use Rattle.tx_sets.specs.declared.writes.Write.{Write}
 use Rattle.tx_sets.specs.Entries.{writes_at}
+use Rattle.page_commit.proofs.LeaveLaws.{same_then, trees_stay}
+use Rattle.page_commit.proofs.PageLaws.{drawn_pages, locked_pages}
 use Rattle.engine_pages.specs.declared.layout.Layout.{Layout}
 use Rattle.engine_pages.specs.declared.view.Role.{Role}
 use Rattle.engine_pages.specs.declared.view.Role.TheVariants.{Worker}
@@ -27,11 +29,13 @@ use Rattle.engine_pages.specs.Views.{IsActive}
 use Rattle.page_commit.specs.Committing.{changes_of}
 use Rattle.homes.specs.declared.places.Span.{Span}
 use Rattle.engine_pages.specs.Pointers.{WaysAgree}
-use Rattle.engine_pages.specs.Steps.{seen_at}
-use Rattle.page_commit.specs.Places.{ground, Ground, IsKeyIn, IsPointerIn}
+use Rattle.engine_pages.specs.Steps.{kept_at, seen_at}
+use Rattle.page_commit.specs.Places.{ground, Ground, IsKeyIn, IsPointerIn, IsTreeKeyIn}
 use Rattle.page_commit.specs.Live.{read_word, AreMet, ArePointersMet, IsLive, IsMetPointer, IsWriteOf}
 use Rattle.page_commit.specs.Steps.{keys_of, tooks_of, AreAsRead, AreSmall, HasLocked, HasTried, IsFree, StaysAside}
 use Rattle.page_commit.proofs.CheckLaws.{number_small}
+use Rattle.page_commit.specs.HeaderParts.{AreHeaders}
+use Rattle.page_commit.proofs.HeaderLaws.{head_clear, headers_aside}
 use Rattle.page_commit.proofs.PlaceLaws.{no_pointer}
 use Rattle.page_commit.proofs.StayLaws.{grounds, parts_stay, writes_stay}
 
@@ -150,10 +154,19 @@ active_locked ws found v w active h = subst IsActive (sym (ap (λ (y : View). y.
 -- ---- the draw
 
 -- what is known of the words of records and pointers, behind the locks
-still_met : (sets : Sets) (v w : View) → IsLive sets v → w.layout ≡ v.layout → w.ways ≡ v.ways
+still_met : (sets : Sets) (v w : View) → IsLive sets v → w.layout ≡ v.layout → w.ways ≡ v.ways → w.known ≡ v.known
+    → w.inners ≡ v.inners
     → StaysAside sets.writes v w → AreMet sets.reads sets.writes w
-still_met sets v w live layout ways aside k at place clear =
-    aside at clear ∙ live.met k at (subst (λ (g : Ground). IsKeyIn g k at) (grounds w v layout ways) place) refl
+still_met sets v w live layout ways known inners aside = record {
+  arrays = λ k at place clear.
+      aside at clear
+      ∙ live.met.arrays k at
+      (subst (λ (g : Ground). IsKeyIn g k at) (grounds w v layout ways known inners) place) refl;
+  trees = λ k at n place clear read.
+      aside at clear
+      ∙ live.met.trees k at n
+      (subst (λ (g : Ground). IsTreeKeyIn g k at) (grounds w v layout ways known inners) place) refl read;
+}
 
 still_points : (sets : Sets) (v w : View) → IsLive sets v → StaysAside sets.writes v w → ArePointersMet sets.pointers w
 still_points sets v w live aside p in' =
@@ -171,6 +184,15 @@ still_points sets v w live aside p in' =
     clear_of : (part : Part) × Contains v.seat.kept part × IsMetPointer v p part → writes_at p.at sets.writes ≡ false
     clear_of r = all_clear r.2.span sets.writes live.writes r.2.place
 
+still_heads : (sets : Sets) (v w : View) → IsLive sets v → StaysAside sets.writes v w
+    → ((at : ℕ) → kept_at w.reads at ≡ kept_at v.reads at) → AreHeaders sets.headers w
+still_heads sets v w live aside kept =
+    headers_aside sets.headers v w (λ h has.
+    let r = live.parts.headers h has in (
+      aside h.at (head_clear (ground v) h r.0 sets.writes live.agree r.2 live.writes),
+      kept h.at,
+    )) live.headers
+
 pub is_tried : (sets : Sets) (found : List ℕ) (changes : List Change) (n : ℕ) (v w x : View) → IsLive sets v
     → HasLocked sets.writes found v w → AreAsRead sets.reads sets.writes found → StaysAside sets.writes v w
     → HasDrawn changes w n x → HasTried sets x
@@ -178,6 +200,8 @@ is_tried sets found changes n v w x live h are aside d =
     let a : Attempt = attempt_of w d.number changes in
     let layout : x.layout ≡ v.layout = ap (λ (y : View). y.layout) d.is ∙ ap (λ (y : View). y.layout) h.is in
     let ways : x.ways ≡ v.ways = ap (λ (y : View). y.ways) d.is ∙ ap (λ (y : View). y.ways) h.is in
+    let known : x.known ≡ v.known = ap (λ (y : View). y.known) d.is ∙ ap (λ (y : View). y.known) h.is in
+    let inners : x.inners ≡ v.inners = ap (λ (y : View). y.inners) d.is ∙ ap (λ (y : View). y.inners) h.is in
     let leads : x.leads ≡ v.leads = ap (λ (y : View). y.leads) d.is ∙ ap (λ (y : View). y.leads) h.is in
     let pages : x.pages ≡ v.pages = ap (λ (y : View). y.pages) d.is ∙ ap (λ (y : View). y.pages) h.is in
     let reads : x.reads ≡ w.reads = ap (λ (y : View). y.reads) d.is in
@@ -190,15 +214,19 @@ is_tried sets found changes n v w x live h are aside d =
       stage = ap (λ (y : View). y.seat.stage) d.is;
       at = ap (λ (y : View). slice_get y.history (length d.all)) d.is ∙ at_push_new d.all a;
       gone = ap (λ (y : View). y.gone) d.is ∙ (ap (λ (y : View). y.gone) h.is ∙ live.gone);
+      unheld = ap (λ (y : View). y.heads) d.is ∙ (ap (λ (y : View). y.heads) h.is ∙ live.holds.heads);
       agree = subst WaysAgree (sym ways) live.agree;
-      parts = parts_stay sets v x a.parts kept layout ways leads pages live.parts;
+      trees = trees_stay v x (same_then v w x (locked_pages sets.writes found v w h) (drawn_pages changes n w x d)) live.trees;
+      parts = parts_stay sets v x a.parts kept layout ways known inners leads pages live.parts;
       checked = ap (λ (y : View). y.checked) d.is;
-      places = writes_stay sets.writes v x layout ways live.writes;
+      places = writes_stay sets.writes v x layout ways known inners live.writes;
       found = found;
       count = h.count;
       took = ap (λ (y : View). y.took) d.is ∙ (ap (λ (y : View). y.took) h.is
           ∙ ap (λ (l : Layout). tooks_of l.slots sets.writes found) (sym layout));
       read = are;
-      met = still_met sets v x live layout ways aside';
+      met = still_met sets v x live layout ways known inners aside';
       points = still_points sets v x live aside';
+      heads = still_heads sets v x live aside' (λ at. ap (λ l. kept_at l at) reads
+          ∙ (ap (λ (y : View). kept_at y.reads at) h.is ∙ h.kept at));
     }

@@ -6,7 +6,7 @@ use Rattle.std.specs.List.{find}
 use Rattle.std.proofs.lemmas.Bool.{and_from, cases_Bool, eqb-true, eq-eqb, or_parts}
 use Rattle.std.proofs.lemmas.Bool.Decides.{nat_tests}
 use Rattle.lists.specs.Each.{AreDistinct}
-use Rattle.lists.specs.Elements.{in_head, in_tail}
+use Rattle.lists.specs.Elements.{any_is, in_head, in_tail}
 use Rattle.serial_model.specs.declared.key.Key.{Key}
 use Rattle.serial_model.specs.Decls.{AreDecls}
 use Rattle.homes.specs.declared.places.Content.{Content}
@@ -34,19 +34,23 @@ use Rattle.array_pages.specs.declared.finding.Found.TheVariants as places
 use Rattle.array_pages.specs.Finding.{IsFound, IsFoundBelow, IsFoundIn}
 use Rattle.array_pages.specs.Spans.{IsArrayKey}
 use Rattle.array_pages.specs.Walks.{AreLedTo, CanWalk, HasWalked, IsWayPlace, KeepsMet, MeetsSo, OnlyWaysTo}
-use Rattle.page_commit.specs.Places.{ground, spot_at, IsKeyAt}
-use Rattle.page_commit.specs.Live.{ArePointersKept, ArePointersMet, IsLive, IsMetPointer, IsReadPart}
+use Rattle.page_commit.specs.Places.{ground, spot_at, IsKeyAt, IsPointerIn}
+use Rattle.page_commit.specs.Live.{ArePointersKept, ArePointersMet, IsLive, IsMetPointer, IsReadPart, KeepsOnly}
 use Rattle.page_commit.specs.Calls.{RefusesRead}
+use Rattle.page_commit.specs.HeaderParts.{AreHeaders}
 use Rattle.page_commit.specs.Steps.{HasGivenUp}
 use Rattle.page_commit.proofs.DueLaws.{entry_cause, Walked}
 use Rattle.page_commit.specs.Keeping.{lacks_entry, HasRoomFor, HasValue, KeepsFound, MeetsFound, MeetsPointer}
 use Rattle.page_commit.specs.Turning.{OnlyWalked}
 use Rattle.page_commit.proofs.GrowLaws.{key_grown, key_here, knows_more, no_entry, place_of_word, pointer_here, spot_of_word}
-use Rattle.page_commit.proofs.KeepLaws.{entry_parts, entry_stays, kept_new, pointer_cases, pointer_parts, pointer_stays}
+use Rattle.page_commit.proofs.KeepLaws.{entry_parts, entry_stays, kept_new, pointer_cases, pointer_has, pointer_old}
+use Rattle.page_commit.proofs.KeepLaws.{pointer_parts, pointer_stays}
 use Rattle.page_commit.proofs.KeepLaws.{same_pointer}
 use Rattle.page_commit.proofs.WalkedLaws.{held_same, held_to, inside_entry, inside_only, kept_walked, live_walked}
-use Rattle.page_commit.proofs.WalkedLaws.{met_entry, met_only}
-use Rattle.page_commit.proofs.WalkedLaws.{only_walked, places_push, pointers_push, points_walked}
+use Rattle.page_commit.proofs.WalkedLaws.{headers_beside, headers_walked, met_entry, met_only}
+use Rattle.page_commit.proofs.HeaderLaws.{header_grown, no_head_pointer}
+use Rattle.page_commit.proofs.WalkedLaws.{beside_arrays, beside_but}
+use Rattle.page_commit.proofs.WalkedLaws.{only_walked, only_walked_same, places_push, pointers_push, points_walked}
 
 -- ---- keys that were read, or not
 
@@ -122,6 +126,7 @@ value_again sets v k e live is = record {
   reads = inl refl;
   pointers = inl refl;
   writes = refl;
+  headers = refl;
   content = part.2.content.value;
   value_is = part.2.value;
   vouched = subst (λ (q : Key). Vouched v.seat.kept q part.2.content.value) there.1
@@ -148,7 +153,8 @@ module _ (sets new : Sets) (v w : View) (k : Key) (at word value : ℕ) (live : 
     (f : IsFoundIn k at word value v w)
     (none : has_read k sets.reads ≡ false)
     (reads : new.reads ≡ sets.reads ++ record { key = k; at = at; word = word; value = value } ∷ [])
-    (pointers : new.pointers ≡ sets.pointers) (writes : new.writes ≡ sets.writes) where
+    (pointers : new.pointers ≡ sets.pointers) (writes : new.writes ≡ sets.writes)
+    (headers : new.headers ≡ sets.headers) where
   abbrev e : ReadEntry
   e = record { key = k; at = at; word = word; value = value }
 
@@ -166,16 +172,21 @@ module _ (sets new : Sets) (v w : View) (k : Key) (at word value : ℕ) (live : 
   pub live_entry : IsLive new w
   live_entry = live_walked sets new v w live walk can record {
     parts = entry_parts sets new v w e f.content live.decls (knows_more v w walk) live.parts place other f.shown f.has reads
-        pointers part_is;
+        pointers headers part_is;
     places = subst (λ (l : List ReadEntry). AreDistinct (Rattle.page_commit.specs.Live.entry_places l)) (sym reads)
         (places_push sets.reads e live.places other);
     once = subst (λ (l : List Seen). AreDistinct (places_of l)) (sym pointers) live.once;
     writes = writes;
     met = subst (λ (l : List ReadEntry). Rattle.page_commit.specs.Live.AreMet l [] w) (sym reads)
-        (met_entry sets v w e live (knows_more v w walk) can.agree can.declared place other f.met f.others);
+        (met_entry sets v w e live (knows_more v w walk) can.agree can.trees can.declared (inl place) other f.met
+        (beside_but at v w f.others));
     points = subst (λ (l : List Seen). ArePointersMet l w) (sym pointers) (points_walked sets v w live keeps);
     kept = subst (λ (l : List Seen). ArePointersKept l w) (sym pointers) (kept_walked sets v w live f.words);
-    inside = inside_entry sets v w e live (knows_more v w walk) can.agree can.declared place other f.met f.others;
+    headers = subst (λ (l : List Seen). AreHeaders l w) (sym headers)
+        (headers_beside sets v w k at live (knows_more v w walk) can.agree can.declared place f.others f.words);
+    only = only_walked_same sets new v w live f.words pointers headers;
+    inside = inside_entry sets v w e live (knows_more v w walk) can.agree can.trees can.declared (inl place) other f.met
+        (beside_but at v w f.others);
   }
 
   pub value_in : HasValue k value sets new v w
@@ -191,6 +202,7 @@ module _ (sets new : Sets) (v w : View) (k : Key) (at word value : ℕ) (live : 
     reads = inr (e, refl, reads);
     pointers = inl pointers;
     writes = writes;
+    headers = headers;
     content = f.content.value;
     value_is = f.has;
     vouched = by_record w.seat.kept k (spot_at w.layout.slots at) f.content
@@ -224,6 +236,7 @@ module _ (sets new : Sets) (v w : View) (k : Key) (c : Content) (p : Seen) (answ
     (paths : OnlyWaysTo k v w) (led : AreLedTo k v w) (keeps : KeepsMet sets.pointers v w)
     (f : IsFoundBelow k c sets.pointers p v w)
     (none : has_read k sets.reads ≡ false) (reads : new.reads ≡ sets.reads) (writes : new.writes ≡ sets.writes)
+    (headers : new.headers ≡ sets.headers)
     (meets : MeetsPointer p sets.pointers new.pointers) (is : answer ≡ unwrap_or c.value 0) where
   met : IsMetPointer w p f.part
   met = below_met k c sets.pointers p v w can.declared fits f
@@ -266,19 +279,56 @@ module _ (sets new : Sets) (v w : View) (k : Key) (c : Content) (p : Seen) (answ
       by_test q old false miss =
           f.words q.at (λ same. true≢false (sym (eq-eqb q.at p.at same) ∙ miss)) ∙ live.kept q old
 
+  -- a header's word is another than the pointer's
+  head_other : (h : Seen) → Contains sets.headers h → h.at ≡ p.at → ⊥
+  head_other h has same =
+      let r = live.parts.headers h has in
+      no_head_pointer (ground w) h r.0 met.span can.agree (header_grown v w h r.0 (knows_more v w walk) r.2)
+      (subst (λ (n : ℕ). IsPointerIn (ground w) met.span n) (sym same) met.place)
+
+  -- of the words that are kept, one may be new: the pointer's
+  only_below : KeepsOnly new w
+  only_below a n is = by_test (a == p.at) refl
+    where
+      new_word : a ≡ p.at → has_word a new.pointers ≡ true
+      new_word same =
+          subst (λ (m : ℕ). has_word m new.pointers ≡ true) (sym same)
+          (Rattle.page_commit.proofs.PointerLaws.has_pointer new.pointers p
+          (pointer_has sets new v w p f.part live.decls can.agree (knows_more v w walk) live.parts live.once met meets))
+
+      old_word : has_word a sets.pointers ≡ true → has_word a new.pointers ≡ true
+      old_word has =
+          let q = any_is (λ (s : Seen). s.at == a) sets.pointers has in
+          subst (λ (m : ℕ). has_word m new.pointers ≡ true) (eqb-true q.0.at a q.2)
+          (Rattle.page_commit.proofs.PointerLaws.has_pointer new.pointers q.0
+          (pointer_old sets new v w p f.part live.decls can.agree (knows_more v w walk) live.parts live.once met meets
+          q.0 q.1))
+
+      by_test : (b : Bool) → (a == p.at) ≡ b → (has_word a new.pointers ≡ true) ⊎ (has_word a new.headers ≡ true)
+      by_test true hit = inl (new_word (eqb-true a p.at hit))
+      by_test false miss =
+          elim (live.only a n (sym (f.words a (λ same. true≢false (sym (eq-eqb a p.at same) ∙ miss))) ∙ is)) [
+            | inl old ↦ inl (old_word old)
+            | inr head ↦ inr (subst (λ (l : List Seen). has_word a l ≡ true) (sym headers) head)
+          ]
+
   pub live_below : IsLive new w
   live_below = live_walked sets new v w live walk can record {
     parts = pointer_parts sets new v w p f.part live.decls can.agree (knows_more v w walk) live.parts live.once met meets
-        reads f.kept;
+        reads headers f.kept;
     places = subst (λ (l : List ReadEntry). AreDistinct (Rattle.page_commit.specs.Live.entry_places l)) (sym reads)
         live.places;
     once = once_below;
     writes = writes;
     met = subst (λ (l : List ReadEntry). Rattle.page_commit.specs.Live.AreMet l [] w) (sym reads)
-        (met_only sets v w live (knows_more v w walk) can.agree can.declared f.others);
+        (met_only sets v w live (knows_more v w walk) can.agree can.trees can.declared (beside_arrays v w f.others));
     points = points_below;
     kept = kept_below;
-    inside = inside_only sets v w live (knows_more v w walk) can.declared f.others;
+    headers = subst (λ (l : List Seen). AreHeaders l w) (sym headers)
+        (headers_walked sets v w live (knows_more v w walk) can.agree can.declared f.others (λ h has.
+        f.words h.at (λ same. head_other h has same)));
+    only = only_below;
+    inside = inside_only sets v w live (knows_more v w walk) can.declared (beside_arrays v w f.others);
   }
 
   pub value_below : HasValue k answer sets new v w
@@ -295,6 +345,7 @@ module _ (sets new : Sets) (v w : View) (k : Key) (c : Content) (p : Seen) (answ
     reads = inl reads;
     pointers = elim meets [ inl m ↦ inl m.1 | inr m ↦ inr (p, m.1, on_before) ];
     writes = writes;
+    headers = headers;
     content = c.value;
     value_is = is;
     vouched = record {
@@ -321,23 +372,24 @@ fits_now v w k walk fits =
 
 -- the sets between have what those before have, and the holds behind the walk
 pub value_found : (f : Found) (answer : ℕ) (sets mid new : Sets) (v w : View) (k : Key) → mid.reads ≡ sets.reads
-    → mid.pointers ≡ sets.pointers → mid.writes ≡ sets.writes → IsLive sets v → HasWalked v w → CanWalk mid.holds w
+    → mid.pointers ≡ sets.pointers → mid.writes ≡ sets.writes → mid.headers ≡ sets.headers → IsLive sets v → HasWalked v w → CanWalk mid.holds w
     → IsArrayKey v.layout.decls k → OnlyWaysTo k v w → AreLedTo k v w → KeepsMet sets.pointers v w
     → IsFound k sets.pointers f v w → has_read k sets.reads ≡ false → KeepsFound k f answer mid new
     → HasValue k answer sets new v w
-value_found (places.Volatile at word value) answer sets mid new v w k reads pointers writes live walk can fits paths led keeps f none h =
+value_found (places.Volatile at word value) answer sets mid new v w k reads pointers writes headers live walk can fits paths led keeps f none h =
     subst (λ (n : ℕ). HasValue k n sets new v w) (sym h.0)
     (value_in sets new v w k at word value live walk (subst (λ l. CanWalk l w) (sym h.1.holds) can) paths led keeps f none
     (h.3 ∙ ap (λ l. l ++ record { key = k; at = at; word = word; value = value } ∷ []) reads) (h.2 ∙ pointers)
-    (h.1.writes ∙ writes))
-value_found (places.Snapshot value number p) answer sets mid new v w k reads pointers writes live walk can fits paths led keeps f none h =
+    (h.1.writes ∙ writes) (h.1.headers ∙ headers))
+value_found (places.Snapshot value number p) answer sets mid new v w k reads pointers writes headers live walk can fits paths led keeps f none h =
     value_below sets new v w k (record { number = number_in number; value = Some value }) p answer live walk
     (subst (λ l. CanWalk l w) (sym h.1.holds) can) (fits_now v w k walk fits) paths led keeps f none (h.3 ∙ reads)
-    (h.1.writes ∙ writes) (subst (λ (l : List Seen). MeetsPointer p l new.pointers) pointers h.2) h.0
-value_found (places.Zero p) answer sets mid new v w k reads pointers writes live walk can fits paths led keeps f none h =
+    (h.1.writes ∙ writes) (h.1.headers ∙ headers)
+    (subst (λ (l : List Seen). MeetsPointer p l new.pointers) pointers h.2) h.0
+value_found (places.Zero p) answer sets mid new v w k reads pointers writes headers live walk can fits paths led keeps f none h =
     value_below sets new v w k nothing p answer live walk (subst (λ l. CanWalk l w) (sym h.1.holds) can)
     (fits_now v w k walk fits) paths led keeps f none (h.3 ∙ reads) (h.1.writes ∙ writes)
-    (subst (λ (l : List Seen). MeetsPointer p l new.pointers) pointers h.2) h.0
+    (h.1.headers ∙ headers) (subst (λ (l : List Seen). MeetsPointer p l new.pointers) pointers h.2) h.0
 
 -- what is kept of what was found so
 pub keeps_as : (f g : Found) (k : Key) (answer : ℕ) (sets new : Sets) → f ≡ g → KeepsFound k g answer sets new

@@ -2,6 +2,7 @@
 use Rattle.std.proofs.Common.{◌≡◌, inl, inr, ℕ, ◌+◌, ◌<◌, ◌≤◌, Bool, true, false, cond, List, [], ◌∷◌, ◌++◌, length}
 use Rattle.std.proofs.Common.{Some, refl, sym, ap, ◌∙◌, subst, arith}
 use Rattle.std.specs.Prelude.{Contains}
+use Rattle.lists.specs.Elements.{in_none}
 use Rattle.lists.specs.Fronts.{IsFront, front_then, front_refl, front_append}
 use Rattle.serial_model.specs.declared.number.Change.{Change}
 use Rattle.homes.specs.declared.places.At.{At}
@@ -15,17 +16,24 @@ use Rattle.tx_sets.specs.declared.sets.Sets.{Sets}
 use Rattle.tx_sets.specs.declared.writes.Write.{Write}
 use Rattle.tx_sets.specs.Entries.{writes_at}
 use Rattle.engine_pages.specs.declared.layout.Layout.{Layout}
+use Rattle.engine_pages.specs.declared.view.Head.{Head}
+use Rattle.engine_pages.specs.declared.view.Known.{Known}
 use Rattle.engine_pages.specs.declared.view.Read.{Read}
 use Rattle.engine_pages.specs.declared.view.RefusalCause.{RefusalCause}
 use Rattle.engine_pages.specs.declared.view.Role.{Role}
 use Rattle.engine_pages.specs.declared.view.Role.TheVariants.{Worker}
+use Rattle.engine_pages.specs.declared.view.Took.{Took}
 use Rattle.engine_pages.specs.declared.view.Touch.{Touch}
 use Rattle.engine_pages.specs.declared.view.View.{View}
+use Rattle.engine_pages.specs.declared.view.Way.{Way}
+use Rattle.engine_pages.specs.Layout.{page_at}
+use Rattle.engine_pages.specs.Pages.{is_tree}
 use Rattle.engine_pages.specs.Pointers.{WaysAgree, any_pointer}
 use Rattle.engine_pages.specs.Touches.{has_took, touch}
 use Rattle.engine_pages.specs.Views.{seat_number, IsResting}
 use Rattle.page_records.specs.Attempts.{HasDrawn, attempt_of}
-use Rattle.page_records.specs.Ends.{forgot_for, is_left, worker_of, HasForgotten, IsDue, IsMetFor}
+use Rattle.page_records.specs.Ends.{forgot_for, is_left, worker_of, HasForgotten, IsDue, IsLeafWordAt, IsMetFor}
+use Rattle.page_records.specs.Ends.{IsTreeWordAt}
 use Rattle.page_commit.specs.Places.{ground, pointer_at, spot_at, IsKeyAt, IsPointerIn}
 use Rattle.page_commit.specs.Between.{HasSeen}
 use Rattle.page_commit.specs.Live.{HasHolds, IsLive}
@@ -33,6 +41,7 @@ use Rattle.page_commit.specs.Refusing.{HasRefused, TellsOnly}
 use Rattle.page_commit.specs.Steps.{keys_of, tooks_of, HasLeft, HasLocked, HasLocks, HasUnlocked, HasGivenUp}
 use Rattle.page_commit.specs.Steps.{HasFailed, HasMet, IsFree, TellsOf}
 use Rattle.page_commit.proofs.LeaveLaws.{holds_stay, left_agree, left_holds, same_then, SamePages}
+use Rattle.page_commit.proofs.LeaveLaws.{left_trees, trees_stay}
 use Rattle.page_commit.proofs.PageLaws.{drawn_pages, failed_pages, forgotten_pages, locked_pages, unlocked_pages}
 use Rattle.page_commit.proofs.PlaceLaws.{pointer_there}
 use Rattle.page_commit.proofs.Settling.{settled_locks, settled_marks, settled_begin, settled_ends}
@@ -59,27 +68,54 @@ tells_of (refusals.Conflict at expected seen) met v of = (
       of.pointer (pointer_at v.layout.slots at) sp
       (any_pointer v (pointer_at v.layout.slots at) sp at (pointer_there v sp at place))),
   (λ t low is. of.slot t low is),
+  (λ t i place. of.tree t i place),
 )
 tells_of (refusals.Full held) met v of = of
 tells_of (refusals.Wide set) met v of = of
 tells_of (refusals.NumberLimit clock) met v of = of
 
+-- a word of a tree's page is one where the ways are the same
+pub tree_word : (t i at : ℕ) (v w : View) → w.layout ≡ v.layout → w.ways ≡ v.ways → IsTreeWordAt v t i at
+    → IsTreeWordAt w t i at
+tree_word t i at v w layout ways p = record {
+  way = p.way;
+  has = subst (λ (l : List Way). Contains l p.way) (sym ways) p.has;
+  slot = p.slot;
+  kind = subst (λ (l : Layout). is_tree l.decls p.way.span.storage ≡ true) (sym layout) p.kind;
+  there = subst (λ (l : Layout). t < l.slots) (sym layout) p.there;
+  index = p.index;
+  word = p.word ∙ ap (λ (l : Layout). page_at l.slots t i) (sym layout);
+}
+
+-- and one of a known leaf, where its keys are known
+pub leaf_word : (t i at : ℕ) (v w : View) → w.layout ≡ v.layout → w.ways ≡ v.ways → w.known ≡ v.known
+    → IsLeafWordAt v t i at → IsLeafWordAt w t i at
+leaf_word t i at v w layout ways known p = record {
+  word = tree_word t i at v w layout ways p.word;
+  leaf = p.leaf;
+  knows = subst (λ (l : List Known). Contains l p.leaf) (sym known) p.knows;
+  same = p.same;
+  is = p.is;
+}
+
 -- and it is the same where places are the same
-tells_same : (why : RefusalCause) (met : List Touch) (v w : View) → w.layout ≡ v.layout → w.ways ≡ v.ways → w.role ≡ v.role
+tells_same : (why : RefusalCause) (met : List Touch) (v w : View) → w.layout ≡ v.layout → w.ways ≡ v.ways
+    → w.known ≡ v.known → w.inners ≡ v.inners → w.role ≡ v.role
     → TellsOf why met w → TellsOf why met v
-tells_same (refusals.Conflict at expected seen) met v w layout ways role t' = (
+tells_same (refusals.Conflict at expected seen) met v w layout ways known inners role t' = (
   (λ k place. t'.0 k (subst (λ (l : Layout). Rattle.engine_pages.specs.Records.IsRecordIn l.decls l.slots w.ways k
       (spot_at l.slots at) at) (sym layout)
       (subst (λ z. Rattle.engine_pages.specs.Records.IsRecordIn v.layout.decls v.layout.slots z k
       (spot_at v.layout.slots at) at) (sym ways) place))
       ∙ ap (λ (r : Role). touch (seat_number r) k ∷ []) role),
   (λ sp place. t'.1 sp (subst (λ (g : Rattle.page_commit.specs.Places.Ground). IsPointerIn g sp at)
-      (sym (Rattle.page_commit.proofs.StayLaws.grounds w v layout ways)) place)),
+      (sym (Rattle.page_commit.proofs.StayLaws.grounds w v layout ways known inners)) place)),
   (λ t low is. t'.2 t (subst (λ (l : Layout). t < l.slots) (sym layout) low) is),
+  (λ t i place. t'.3 t i (tree_word t i at v w layout ways place)),
 )
-tells_same (refusals.Full held) met v w layout ways role t = t
-tells_same (refusals.Wide set) met v w layout ways role t = t
-tells_same (refusals.NumberLimit clock) met v w layout ways role t = t
+tells_same (refusals.Full held) met v w layout ways known inners role t = t
+tells_same (refusals.Wide set) met v w layout ways known inners role t = t
+tells_same (refusals.NumberLimit clock) met v w layout ways known inners role t = t
 
 pub given_up : (ws : List Write) (why : RefusalCause) (v w x y : View) → HasUnlocked ws v w → HasForgotten (Some why) w x
     → HasLeft x y → v.steps ≤ y.steps → HasGivenUp ws why v y
@@ -93,6 +129,7 @@ given_up ws why v w x y h is l since =
       others = h.others;
       met = is.met;
       of = tells_same why is.met v w (ap (λ (q : View). q.layout) h.is) (ap (λ (q : View). q.ways) h.is)
+          (ap (λ (q : View). q.known) h.is) (ap (λ (q : View). q.inners) h.is)
           (ap (λ (q : View). q.role) h.is) (tells_of why is.met w is.of);
       mid = x;
       forgot = is.is ∙ ap (forgot_for (Some why) is.met) h.is;
@@ -155,7 +192,7 @@ is_due ws at expected seen v w (inl m) gone apart h =
         cause = r.cause;
       },
     )
-is_due ws at expected seen v w (inr m) gone apart h =
+is_due ws at expected seen v w (inr (inl m)) gone apart h =
     inr (inl (
       pointer_at w.layout.slots at,
       m.span,
@@ -175,6 +212,30 @@ is_due ws at expected seen v w (inr m) gone apart h =
         cause = m.cause;
       },
     ))
+is_due ws at expected seen v w (inr (inr r)) gone apart h =
+    let t : ℕ = r.0 in
+    let m = r.2 in
+    inr (inr (inr (
+      t,
+      r.1,
+      record {
+        place = leaf_word t r.1 at v w (ap (λ (y : View). y.layout) h.is) (ap (λ (y : View). y.ways) h.is)
+            (ap (λ (y : View). y.known) h.is) m.place;
+        free = λ y has. absurd (in_none y (subst (λ (l : List Took). Contains l y) (ap (λ (y : View). y.took) h.is) has));
+        unheld = λ y has. absurd (in_none y (subst (λ (l : List Head). Contains l y)
+            (ap (λ (y : View). y.heads) h.is ∙ m.unheld) has));
+        here = ap (λ (y : View). has_slot y.gone t) h.is ∙ ap (λ l. has_slot l t) gone;
+        step = m.step;
+        last = ap (λ (y : View). y.last) h.is ∙ m.last;
+        was = m.was;
+        kept = m.kept;
+        stands = subst (λ (l : List Read). Contains l (record { word = at; seen = seen; was = m.was; kept = m.kept }))
+            (sym (ap (λ (y : View). y.reads) h.is))
+            (h.others (record { word = at; seen = seen; was = m.was; kept = m.kept }) m.stands apart);
+        known = m.known;
+        cause = m.cause;
+      },
+    )))
 
 -- ---- a refusal
 
@@ -187,8 +248,10 @@ one_told why at expected seen met v same met-so tells =
     by_met : HasMet at expected seen v → TellsOf (refusals.Conflict at expected seen) met v → length met ≤ 1
     by_met (inl m) t =
         let is = ap (λ (l : List Touch). length l) (t.0 m.0 m.1.place) in omega (arith, is)
-    by_met (inr m) t =
+    by_met (inr (inl m)) t =
         let is = ap (λ (l : List Touch). length l) (t.1 m.span m.place) in omega (arith, is)
+    by_met (inr (inr m)) t =
+        let is = ap (λ (l : List Touch). length l) (t.3 m.0 m.1 m.2.place.word) in omega (arith, is)
 
 -- what a given-up transaction leaves, where the pass's view was this before
 pub refused_from : (why : RefusalCause) (drew : Bool) (sets : Sets) (ws : List Write) (v w x : View) → IsLive sets v
@@ -206,6 +269,9 @@ refused_from why drew sets ws v w x live pages role seen since mine draws marks 
       layout = ap (λ (y : View). y.layout) h;
       grip = ap (λ (y : View). y.grip) h;
       ways = ap (λ (y : View). y.ways) h;
+      known = ap (λ (y : View). y.known) h;
+      moved = ap (λ (y : View). y.moved) h;
+      branches = ap (λ (y : View). y.inners) h;
       drafts = ap (λ (y : View). y.drafts) h;
       copies = ap (λ (y : View). y.copies) h;
       blanks = ap (λ (y : View). y.blanks) h;
@@ -221,6 +287,7 @@ refused_from why drew sets ws v w x live pages role seen since mine draws marks 
         took = ap (λ (y : View). y.took) l.is ∙ ap (λ (y : View). y.took) h;
         seat = subst (λ (y : View). IsResting y.seat) (sym l.is) (subst (λ (y : View). IsResting y.seat) (sym h) g.resting);
         agree = left_agree g.mid x (subst WaysAgree (sym all.ways) live.agree) l;
+        trees = left_trees g.mid x (trees_stay v g.mid all live.trees) l;
         holds = left_holds sets.holds g.mid x (holds_stay sets.holds v g.mid all live.holds) l;
       };
       layout = layout';

@@ -1,5 +1,5 @@
 -- What a pass knows of words stays where it learns of more ways and pages.
-use Rattle.std.proofs.Common.{◌≡◌, ◌≢◌, inl, inr, ℕ, ◌+◌, ◌-◌, ◌*◌, ◌/◌, ◌%◌, ◌<◌, Bool, true, false, true≢false}
+use Rattle.std.proofs.Common.{◌⊎◌, ◌≡◌, ◌≢◌, inl, inr, ℕ, ◌+◌, ◌-◌, ◌*◌, ◌/◌, ◌%◌, ◌<◌, Bool, true, false, true≢false}
 use Rattle.std.proofs.Common.{List, [], ◌∷◌, ◌++◌, refl, sym, ap, ◌∙◌, subst, arith, cond, Option, Some, None}
 use Rattle.std.specs.Prelude.{Contains, ◌==◌, nat_lt}
 use Rattle.std.specs.List.{find, AllByRecursion}
@@ -23,9 +23,12 @@ use Rattle.tx_sets.specs.declared.sets.Sets.{Sets}
 use Rattle.tx_sets.specs.declared.writes.Write.{Write}
 use Rattle.tx_sets.specs.Entries.{has_read}
 use Rattle.engine_pages.specs.declared.layout.Layout.{Layout}
+use Rattle.engine_pages.specs.declared.view.Inner.{Inner}
+use Rattle.engine_pages.specs.declared.view.Known.{Known}
 use Rattle.engine_pages.specs.declared.view.Lead.{Lead}
 use Rattle.engine_pages.specs.declared.view.View.{View}
 use Rattle.engine_pages.specs.declared.view.Way.{Way}
+use Rattle.wire_form.specs.Leaves.{tree_leaf}
 use Rattle.engine_pages.specs.Layout.{page_at, words_of}
 use Rattle.engine_pages.specs.Pages.{child_span, is_array, root_span}
 use Rattle.engine_pages.specs.Pointers.{IsArrayPointerAt, StandsFor, WaysAgree}
@@ -34,15 +37,17 @@ use Rattle.engine_pages.specs.Steps.{seen_at}
 use Rattle.dual_pointer.specs.Parts.{IsPointerPart, part_stays}
 use Rattle.array_pages.specs.Walks.{HasWalked, IsPointersWord}
 use Rattle.page_commit.specs.Places.{ground, pointer_at, slot_of, spot_at, word_of, Ground, IsChildIn, IsKeyAt}
-use Rattle.page_commit.specs.Places.{IsPointerIn, IsRootIn}
-use Rattle.page_commit.specs.Live.{read_word, IsLive, IsMetPointer, IsReadPart, IsWriteOf, StandsIn}
+use Rattle.page_commit.specs.Places.{IsPointerIn, IsRootIn, IsTreeKeyIn}
+use Rattle.page_commit.specs.Live.{read_word, IsLive, IsMetPointer, IsReadPart, IsTreeWordIn, IsWriteOf, StandsIn}
 use Rattle.page_commit.proofs.BelowLaws.{content_longer, stands_longer}
 use Rattle.page_commit.proofs.PlaceLaws.{one_key, pointer_there}
 
--- the pass knows of more ways, leads and pages
+-- the pass knows of more ways, pages of trees, leads and pages
 pub record KnowsMore (v w : View) : Type 0 where
   pub layout : w.layout ≡ v.layout
   pub ways : (x : Way) → Contains v.ways x → Contains w.ways x
+  pub known : (x : Known) → Contains v.known x → Contains w.known x
+  pub inners : (x : Inner) → Contains v.inners x → Contains w.inners x
   pub leads : (x : Lead) → Contains v.leads x → Contains w.leads x
   pub pages : IsFront v.pages w.pages
 
@@ -50,6 +55,8 @@ pub knows_more : (v w : View) → HasWalked v w → KnowsMore v w
 knows_more v w walk = record {
   layout = ap (λ (y : View). y.layout) walk.is;
   ways = walk.ways;
+  known = λ x has. subst (λ (y : View). Contains y.known x) (sym walk.is) has;
+  inners = λ x has. subst (λ (y : View). Contains y.inners x) (sym walk.is) has;
   leads = walk.leads;
   pages = walk.pages;
 }
@@ -70,14 +77,32 @@ key_grown v w k at more p =
       word = p.word;
     }
 
--- the ground with these ways
-abbrev with_ways : List Way → Layout → Ground
-with_ways ways l = record { layout = l; ways = ways }
+-- the ground of the view with this layout
+abbrev with_layout : View → Layout → Ground
+with_layout v l = record { layout = l; ways = v.ways; known = v.known; inners = v.inners }
+
+pub tree_key_grown : (v w : View) (k : Key) (at : ℕ) → KnowsMore v w → IsTreeKeyIn (ground v) k at
+    → IsTreeKeyIn (ground w) k at
+tree_key_grown v w k at more p =
+    subst (λ (l : Layout). IsTreeKeyIn (with_layout w l) k at) (sym more.layout) record {
+      way = p.way;
+      has = more.ways p.way p.has;
+      slot = p.slot;
+      leaf = p.leaf;
+      knows = more.known p.leaf p.knows;
+      same = p.same;
+      there = p.there;
+      index = p.index;
+      kind = p.kind;
+      key = p.key;
+      word = p.word;
+      over = p.over;
+    }
 
 pub pointer_grown : (v w : View) (sp : Span) (at : ℕ) → KnowsMore v w → IsPointerIn (ground v) sp at
     → IsPointerIn (ground w) sp at
 pointer_grown v w sp at more (inl r) =
-    inl (subst (λ (l : Layout). IsRootIn (with_ways w.ways l) sp at) (sym more.layout) record {
+    inl (subst (λ (l : Layout). IsRootIn (with_layout w l) sp at) (sym more.layout) record {
       root = r.root;
       few = r.few;
       there = r.there;
@@ -85,7 +110,7 @@ pointer_grown v w sp at more (inl r) =
       word = r.word;
     })
 pointer_grown v w sp at more (inr c) =
-    inr (subst (λ (l : Layout). IsChildIn (with_ways w.ways l) sp at) (sym more.layout) record {
+    inr (subst (λ (l : Layout). IsChildIn (with_layout w l) sp at) (sym more.layout) record {
       way = c.way;
       has = more.ways c.way c.has;
       slot = c.slot;
@@ -335,12 +360,12 @@ met_before sets v w k at live more agree place = by_read (read_word at sets.read
         let word : at
         ≡ ((32 + w.layout.slots) + 64 * ((at - (32 + w.layout.slots)) / 64)) + 2 * (((at - (32 + w.layout.slots)) % 64) / 2) =
         place.word in absurd (omega (arith, low, word))
-    by_side (inr way) = live.met k at (by_way way.0 way.1 way.2) refl
+    by_side (inr way) = live.met.arrays k at (by_way way.0 way.1 way.2) refl
 
     by_entry : (e : ReadEntry) → Contains sets.reads e → e.at ≡ at → seen_at v.reads at ≡ read_word at sets.reads
     by_entry e has same =
         let r = live.parts.reads e has in
-        live.met e.key at (subst (IsKeyAt v e.key) same r.2.place) refl
+        live.met.arrays e.key at (subst (IsKeyAt v e.key) same r.2.place) refl
 
     by_seen : (o : Option ℕ) → seen_at v.reads at ≡ o → read_word at sets.reads ≡ None
         → seen_at v.reads at ≡ read_word at sets.reads
@@ -366,17 +391,30 @@ no_entry sets v w k at live more agree place unread e has same =
 pub stands_grown : (v w : View) (at : ℕ) → KnowsMore v w → StandsIn (ground v) at → StandsIn (ground w) at
 stands_grown v w at more (inl low) = inl low
 stands_grown v w at more (inr way) =
-    inr (way.0, more.ways way.0 way.1, ap (λ (l : Layout). slot_of l.slots at) more.layout ∙ way.2)
+    inr (
+      way.0,
+      more.ways way.0 way.1,
+      ap (λ (l : Layout). slot_of l.slots at) more.layout ∙ way.2,
+      by_kind way.3,
+    )
+  where
+    by_kind : (is_array v.layout.decls way.0.span.storage ≡ true) ⊎ IsTreeWordIn (ground v) way.0 at
+        → (is_array w.layout.decls way.0.span.storage ≡ true) ⊎ IsTreeWordIn (ground w) way.0 at
+    by_kind (inl array) = inl (subst (λ (l : Layout). is_array l.decls way.0.span.storage ≡ true) (sym more.layout) array)
+    by_kind (inr (inl first)) =
+        inr (inl (subst (λ (l : Layout). word_of l.slots at < tree_leaf.first) (sym more.layout) first))
+    by_kind (inr (inr (inl inner))) = inr (inr (inl (inner.0, more.inners inner.0 inner.1, inner.2)))
+    by_kind (inr (inr (inr r))) = inr (inr (inr (r.0, r.1, tree_key_grown v w r.0 r.1 more r.2, r.3)))
 
 pub pointer_stands : (v : View) (at : ℕ) → AreDecls v.layout.decls → IsPointersWord v at → StandsIn (ground v) at
 pointer_stands v at are p = by_side (pointer_here v p.place p.span at are p.is)
   where
     by_side : IsPointerIn (ground v) p.span at → StandsIn (ground v) at
     by_side (inl r) = let few = r.few in let word : at ≡ 10 + r.root = r.word in inl (omega (arith, few, word))
-    by_side (inr c) = inr (c.way, c.has, sym c.slot)
+    by_side (inr c) = inr (c.way, c.has, sym c.slot, inl c.kind)
 
 pub record_stands : (v : View) (k : Key) (at : ℕ) → IsKeyAt v k at → StandsIn (ground v) at
-record_stands v k at p = inr (p.way, p.has, sym p.slot)
+record_stands v k at p = inr (p.way, p.has, sym p.slot, inl p.kind)
 
 -- the value's word, too
 pub value_stands : (v : View) (k : Key) (at : ℕ) → IsKeyAt v k at → StandsIn (ground v) (at + 1)
@@ -385,7 +423,7 @@ value_stands v k at p =
     ≡ ((32 + v.layout.slots) + 64 * ((at - (32 + v.layout.slots)) / 64)) + 2 * (((at - (32 + v.layout.slots)) % 64) / 2) =
     p.word in
     let same : (at + 1 - (32 + v.layout.slots)) / 64 ≡ (at - (32 + v.layout.slots)) / 64 = omega (arith, word) in
-    inr (p.way, p.has, same ∙ sym p.slot)
+    inr (p.way, p.has, same ∙ sym p.slot, inl p.kind)
 
 -- no record's word is another one's value
 pub no_value : (v : View) (k q : Key) (at other : ℕ) → IsKeyAt v k at → IsKeyAt v q other → other ≢ at + 1

@@ -15,7 +15,7 @@ use Rattle.homes.specs.Homes.{in_span, same_at, same_spot}
 use Rattle.homes.specs.Laws.{same_at-true, same_spot-true}
 use Rattle.commit_core.specs.declared.part.Part.{Part}
 use Rattle.commit_core.specs.declared.part.Word.{Word}
-use Rattle.commit_core.specs.declared.part.Word.TheVariants.{Pointer, Record}
+use Rattle.commit_core.specs.declared.part.Word.TheVariants.{Header, Pointer, Record}
 use Rattle.commit_core.specs.Lemmas.Keys.{same_word-self, same_word-true}
 use Rattle.commit_core.specs.Parts.{covers, found, record_part, same_word, with_part}
 use Rattle.serial_bridge.specs.Transaction.{Vouched}
@@ -26,8 +26,10 @@ use Rattle.tx_sets.specs.Entries.{places_of, word_at}
 use Rattle.engine_pages.specs.declared.view.View.{View}
 use Rattle.engine_pages.specs.Pointers.{WaysAgree}
 use Rattle.dual_pointer.specs.Parts.{content_below}
-use Rattle.page_commit.specs.Places.{ground, pointer_at, spot_at, IsKeyAt}
+use Rattle.page_commit.specs.Places.{ground, pointer_at, spot_at, IsKeyAt, slot_of}
+use Rattle.page_commit.specs.HeaderParts.{IsMetHeader}
 use Rattle.page_commit.specs.Live.{AreParts, IsMetPointer, IsReadPart, IsWordFor}
+use Rattle.page_commit.proofs.HeaderLaws.{header_grown}
 use Rattle.page_commit.specs.Keeping.{MeetsPointer}
 use Rattle.page_commit.specs.Turning.{PartsStay}
 use Rattle.page_commit.proofs.GrowLaws.{met_pointer_grown, one_span, read_grown, KnowsMore}
@@ -107,7 +109,8 @@ module _ (sets new : Sets) (v w : View) (e : ReadEntry) (c : Content) (are : Are
   entry_apart q has = by_side (parts.known q has)
     where
       by_side : ((f : ReadEntry) × Contains sets.reads f × IsReadPart (ground v) f q)
-          ⊎ ((p : Seen) × Contains sets.pointers p × IsMetPointer v p q)
+          ⊎ (((p : Seen) × Contains sets.pointers p × IsMetPointer v p q)
+          ⊎ ((h : Seen) × Contains sets.headers h × IsMetHeader (ground v) h q))
           → same_word q.word (Record (spot_at w.layout.slots e.at)) ≡ false
       by_side (inl r) =
           let f : ReadEntry = r.0 in
@@ -117,19 +120,24 @@ module _ (sets new : Sets) (v w : View) (e : ReadEntry) (c : Content) (are : Are
           other f r.1 (one_place (ground w) f.key e.key f.at e.at now.place place
           (same_spot-true (spot_at w.layout.slots f.at) (spot_at w.layout.slots e.at) test))) in
           ap (λ (z : Part). same_word z.word (Record (spot_at w.layout.slots e.at))) now.is ∙ miss
-      by_side (inr r) = ap (λ (z : Word). same_word z (Record (spot_at w.layout.slots e.at))) r.2.of.word
+      by_side (inr (inl r)) = ap (λ (z : Word). same_word z (Record (spot_at w.layout.slots e.at))) r.2.of.word
+      by_side (inr (inr r)) = ap (λ (z : Part). same_word z.word (Record (spot_at w.layout.slots e.at))) r.2.is
 
   pub entry_part : IsWordFor c e.word → e.value ≡ unwrap_or c.value 0 → IsReadPart (ground w) e read_part
   entry_part shown value = record { place = place; content = c; shown = shown; value = value; is = refl }
 
   pub entry_parts : IsWordFor c e.word → e.value ≡ unwrap_or c.value 0 → new.reads ≡ sets.reads ++ e ∷ []
-      → new.pointers ≡ sets.pointers → w.seat.kept ≡ with_part v.seat.kept read_part → AreParts new w w.seat.kept
-  entry_parts shown value reads pointers kept = subst (AreParts new w) (sym kept) record {
+      → new.pointers ≡ sets.pointers → new.headers ≡ sets.headers → w.seat.kept ≡ with_part v.seat.kept read_part
+      → AreParts new w w.seat.kept
+  entry_parts shown value reads pointers headers kept = subst (AreParts new w) (sym kept) record {
     known = λ q has. by_case q (kept_cases v.seat.kept read_part q has);
     reads = λ f has. by_entry f (in_push_cases f e sets.reads (subst (λ (l : List ReadEntry). Contains l f) reads has));
     pointers = λ p has.
         let r = parts.pointers p (subst (λ (l : List Seen). Contains l p) pointers has) in
         (r.0, stays r.0 r.1, met_pointer_grown v w p r.0 are more r.2);
+    headers = λ h has.
+        let r = parts.headers h (subst (λ (l : List Seen). Contains l h) headers has) in
+        (r.0, stays r.0 r.1, header_grown v w h r.0 more r.2);
     once = kept_once v.seat.kept read_part parts.once;
   }
     where
@@ -137,23 +145,31 @@ module _ (sets new : Sets) (v w : View) (e : ReadEntry) (c : Content) (are : Are
       stays q has = kept_old v.seat.kept read_part q has (entry_apart q has)
 
       by_known : (q : Part) → ((f : ReadEntry) × Contains sets.reads f × IsReadPart (ground v) f q)
-          ⊎ ((p : Seen) × Contains sets.pointers p × IsMetPointer v p q)
+          ⊎ (((p : Seen) × Contains sets.pointers p × IsMetPointer v p q)
+          ⊎ ((h : Seen) × Contains sets.headers h × IsMetHeader (ground v) h q))
           → ((f : ReadEntry) × Contains new.reads f × IsReadPart (ground w) f q)
-          ⊎ ((p : Seen) × Contains new.pointers p × IsMetPointer w p q)
+          ⊎ (((p : Seen) × Contains new.pointers p × IsMetPointer w p q)
+          ⊎ ((h : Seen) × Contains new.headers h × IsMetHeader (ground w) h q))
       by_known q (inl r) = inl (
         r.0,
         subst (λ (l : List ReadEntry). Contains l r.0) (sym reads) (in_push_old r.0 e sets.reads r.1),
         read_grown v w r.0 q more r.2,
       )
-      by_known q (inr r) = inr (
+      by_known q (inr (inl r)) = inr (inl (
         r.0,
         subst (λ (l : List Seen). Contains l r.0) (sym pointers) r.1,
         met_pointer_grown v w r.0 q are more r.2,
-      )
+      ))
+      by_known q (inr (inr r)) = inr (inr (
+        r.0,
+        subst (λ (l : List Seen). Contains l r.0) (sym headers) r.1,
+        header_grown v w r.0 q more r.2,
+      ))
 
       by_case : (q : Part) → (Contains v.seat.kept q × (same_word q.word read_part.word ≡ false)) ⊎ (read_part ≡ q)
           → ((f : ReadEntry) × Contains new.reads f × IsReadPart (ground w) f q)
-          ⊎ ((p : Seen) × Contains new.pointers p × IsMetPointer w p q)
+          ⊎ (((p : Seen) × Contains new.pointers p × IsMetPointer w p q)
+          ⊎ ((h : Seen) × Contains new.headers h × IsMetHeader (ground w) h q))
       by_case q (inl old) = by_known q (parts.known q old.0)
       by_case q (inr is) = inl (
         e,
@@ -257,33 +273,52 @@ module _ (sets new : Sets) (v w : View) (p : Seen) (part : Part) (are : AreDecls
       ap (λ (z : Part). same_word z.word part.word) r.is
       ∙ ap (λ (z : Word). same_word (Record (spot_at w.layout.slots f.at)) z) met.of.word
 
-  pub pointer_parts : new.reads ≡ sets.reads → w.seat.kept ≡ with_part v.seat.kept part → AreParts new w w.seat.kept
-  pointer_parts reads kept = subst (AreParts new w) (sym kept) record {
+  -- and that of a header
+  header_other : (h : Seen) (old : Part) → IsMetHeader (ground w) h old → same_word old.word part.word ≡ false
+  header_other h old r =
+      ap (λ (z : Part). same_word z.word part.word) r.is
+      ∙ ap (λ (z : Word). same_word (Header (slot_of w.layout.slots h.at)) z) met.of.word
+
+  pub pointer_parts : new.reads ≡ sets.reads → new.headers ≡ sets.headers → w.seat.kept ≡ with_part v.seat.kept part
+      → AreParts new w w.seat.kept
+  pointer_parts reads headers kept = subst (AreParts new w) (sym kept) record {
     known = λ q has. by_case q (kept_cases v.seat.kept part q has);
     reads = λ f has.
         let r = parts.reads f (subst (λ (l : List ReadEntry). Contains l f) reads has) in
         let now = read_grown v w f r.0 more r.2 in
         (r.0, kept_old v.seat.kept part r.0 r.1 (entry_other f r.0 now), now);
     pointers = λ q has. by_pointer q (pointer_cases q has);
+    headers = λ h has.
+        let r = parts.headers h (subst (λ (l : List Seen). Contains l h) headers has) in
+        let now = header_grown v w h r.0 more r.2 in
+        (r.0, kept_old v.seat.kept part r.0 r.1 (header_other h r.0 now), now);
     once = kept_once v.seat.kept part parts.once;
   }
     where
       by_known : (q : Part) → ((f : ReadEntry) × Contains sets.reads f × IsReadPart (ground v) f q)
-          ⊎ ((s : Seen) × Contains sets.pointers s × IsMetPointer v s q)
+          ⊎ (((s : Seen) × Contains sets.pointers s × IsMetPointer v s q)
+          ⊎ ((h : Seen) × Contains sets.headers h × IsMetHeader (ground v) h q))
           → ((f : ReadEntry) × Contains new.reads f × IsReadPart (ground w) f q)
-          ⊎ ((s : Seen) × Contains new.pointers s × IsMetPointer w s q)
+          ⊎ (((s : Seen) × Contains new.pointers s × IsMetPointer w s q)
+          ⊎ ((h : Seen) × Contains new.headers h × IsMetHeader (ground w) h q))
       by_known q (inl r) = inl (
         r.0,
         subst (λ (l : List ReadEntry). Contains l r.0) (sym reads) r.1,
         read_grown v w r.0 q more r.2,
       )
-      by_known q (inr r) = inr (r.0, pointer_old r.0 r.1, met_pointer_grown v w r.0 q are more r.2)
+      by_known q (inr (inl r)) = inr (inl (r.0, pointer_old r.0 r.1, met_pointer_grown v w r.0 q are more r.2))
+      by_known q (inr (inr r)) = inr (inr (
+        r.0,
+        subst (λ (l : List Seen). Contains l r.0) (sym headers) r.1,
+        header_grown v w r.0 q more r.2,
+      ))
 
       by_case : (q : Part) → (Contains v.seat.kept q × (same_word q.word part.word ≡ false)) ⊎ (part ≡ q)
           → ((f : ReadEntry) × Contains new.reads f × IsReadPart (ground w) f q)
-          ⊎ ((s : Seen) × Contains new.pointers s × IsMetPointer w s q)
+          ⊎ (((s : Seen) × Contains new.pointers s × IsMetPointer w s q)
+          ⊎ ((h : Seen) × Contains new.headers h × IsMetHeader (ground w) h q))
       by_case q (inl old) = by_known q (parts.known q old.0)
-      by_case q (inr is) = inr (p, pointer_has, subst (IsMetPointer w p) is met)
+      by_case q (inr is) = inr (inl (p, pointer_has, subst (IsMetPointer w p) is met))
 
       by_pointer : (q : Seen) → Contains sets.pointers q ⊎ (p ≡ q)
           → (x : Part) × Contains (with_part v.seat.kept part) x × IsMetPointer w q x
@@ -330,7 +365,8 @@ module _ (sets new : Sets) (v w : View) (p : Seen) (part : Part) (are : AreDecls
 
       by_known : (k : Key) (value : Option ℕ) (x : Vouched v.seat.kept k value)
           → ((f : ReadEntry) × Contains sets.reads f × IsReadPart (ground v) f x.part)
-          ⊎ ((s : Seen) × Contains sets.pointers s × IsMetPointer v s x.part)
+          ⊎ (((s : Seen) × Contains sets.pointers s × IsMetPointer v s x.part)
+          ⊎ ((h : Seen) × Contains sets.headers h × IsMetHeader (ground v) h x.part))
           → Vouched (with_part v.seat.kept part) k value
       by_known k value x (inl r) = record {
         part = x.part;
@@ -338,7 +374,14 @@ module _ (sets new : Sets) (v w : View) (p : Seen) (part : Part) (are : AreDecls
         over = x.over;
         has = x.has;
       }
-      by_known k value x (inr r) = by_test (r.0.at == p.at) refl
+      by_known k value x (inr (inr r)) = record {
+        part = x.part;
+        among = kept_old v.seat.kept part x.part x.among
+            (header_other r.0 x.part (header_grown v w r.0 x.part more r.2));
+        over = x.over;
+        has = x.has;
+      }
+      by_known k value x (inr (inl r)) = by_test (r.0.at == p.at) refl
         where
           by_test : (b : Bool) → (r.0.at == p.at) ≡ b → Vouched (with_part v.seat.kept part) k value
           by_test true hit =

@@ -1,7 +1,7 @@
 -- What the slots that a transaction holds are until it ends, and that all are left then.
 use Rattle.std.proofs.Common.{◌≡◌, ◌≢◌, ℕ, zero, suc, ◌+◌, ◌<◌, ◌≤◌, Bool, true, false, true≢false, List, [], ◌∷◌, length, drop, get_or}
 use Rattle.std.proofs.Common.{refl, sym, ap, ◌∙◌, subst, arith, cond}
-use Rattle.std.specs.Prelude.{not, ◌==◌, ◌||◌}
+use Rattle.std.specs.Prelude.{not, ◌==◌, ◌||◌, Contains}
 use Rattle.std.specs.List.{AllByRecursion}
 use Rattle.std.proofs.lemmas.Bool.{eq-eqb, ne_eqb, eqb-true, or_from, or_left, or_right}
 use Rattle.lists.specs.Each.{AreDistinct}
@@ -10,6 +10,8 @@ use Rattle.drop_core.specs.Event.{without}
 use Rattle.drop_core.specs.Table.{has_slot}
 use Rattle.drop_core.specs.declared.grip.Grip.{Grip}
 use Rattle.engine_rule.specs.JointState.{keeps_word}
+use Rattle.engine_pages.specs.Pages.{is_tree}
+use Rattle.engine_pages.specs.Agreement.{KnownAgree, TreesAgree}
 use Rattle.engine_pages.specs.declared.layout.Layout.{Layout}
 use Rattle.engine_pages.specs.declared.view.Inner.{Inner}
 use Rattle.engine_pages.specs.declared.view.Known.{Known}
@@ -31,6 +33,9 @@ pub record SamePages (v w : View) : Type 0 where
   pub layout : w.layout ≡ v.layout
   pub grip : w.grip ≡ v.grip
   pub ways : w.ways ≡ v.ways
+  pub known : w.known ≡ v.known
+  pub moved : w.moved ≡ v.moved
+  pub branches : w.inners ≡ v.inners
   pub drafts : w.drafts ≡ v.drafts
   pub copies : w.copies ≡ v.copies
   pub blanks : w.blanks ≡ v.blanks
@@ -43,6 +48,9 @@ same_then u v w a b = record {
   layout = b.layout ∙ a.layout;
   grip = b.grip ∙ a.grip;
   ways = b.ways ∙ a.ways;
+  known = b.known ∙ a.known;
+  moved = b.moved ∙ a.moved;
+  branches = b.branches ∙ a.branches;
   drafts = b.drafts ∙ a.drafts;
   copies = b.copies ∙ a.copies;
   blanks = b.blanks ∙ a.blanks;
@@ -65,6 +73,33 @@ holds_stay slots v w same h = record {
   heads = same.heads ∙ h.heads;
 }
 
+-- what it knows of pages of trees agrees still
+pub trees_stay : (v w : View) → SamePages v w → TreesAgree v → TreesAgree w
+trees_stay v w same a = record {
+  known = subst KnownAgree (sym same.known) a.known;
+  inners = λ x y hx hy. a.inners x y (inner x hx) (inner y hy);
+  apart = λ x y hx hy. a.apart x y (subst (λ (l : List Known). Contains l x) same.known hx) (inner y hy);
+  spans = λ x y hx hy one tree. a.spans x y (subst (λ (l : List Way). Contains l x) same.ways hx)
+      (subst (λ (l : List Way). Contains l y) same.ways hy) one
+      (subst (λ (l : Layout). is_tree l.decls x.span.storage ≡ true) same.layout tree);
+}
+  where
+    inner : (x : Inner) → Contains w.inners x → Contains v.inners x
+    inner x has = subst (λ (l : List Inner). Contains l x) same.branches has
+
+-- and with a slot less
+trees_left : (t : ℕ) (v : View) → TreesAgree v → TreesAgree (left t v)
+trees_left t v a = record {
+  known = λ x y hx hy. a.known x y (in_filter (λ (z : Known). not (z.slot == t)) x v.known hx)
+      (in_filter (λ (z : Known). not (z.slot == t)) y v.known hy);
+  inners = λ x y hx hy. a.inners x y (in_filter (λ (z : Inner). not (z.slot == t)) x v.inners hx)
+      (in_filter (λ (z : Inner). not (z.slot == t)) y v.inners hy);
+  apart = λ x y hx hy. a.apart x y (in_filter (λ (z : Known). not (z.slot == t)) x v.known hx)
+      (in_filter (λ (z : Inner). not (z.slot == t)) y v.inners hy);
+  spans = λ x y hx hy. a.spans x y (in_filter (λ (z : Way). not (z.slot == t)) x v.ways hx)
+      (in_filter (λ (z : Way). not (z.slot == t)) y v.ways hy);
+}
+
 -- ---- leaving
 
 -- the first of these slots are left
@@ -78,6 +113,7 @@ pub record IsLeaving (slots : List ℕ) (v w : View) (done : ℕ) : Type 0 where
   pub shuts : List Shut
   pub gone : List ℕ
   pub agree : WaysAgree v.ways → WaysAgree ways
+  pub trees : TreesAgree v → TreesAgree w
   pub are : (s : ℕ) → has_slot (drop done slots) s ≡ has_slot holds s
   pub is : w ≡ record v {
     steps = steps;
@@ -101,6 +137,7 @@ starts_leaving slots v h = record {
   shuts = v.shuts;
   gone = v.gone;
   agree = λ are. are;
+  trees = λ are. are;
   are = λ s. by_list slots s (h.holds s);
   is = refl;
 }
@@ -203,6 +240,7 @@ left_one slots v w x done d apart p lt is =
       shuts = y.shuts;
       gone = y.gone;
       agree = λ are. agree_fewer t p.ways (p.agree are);
+      trees = λ are. subst TreesAgree (sym is) (trees_left t w (p.trees are));
       are = λ s. by_slot s (t == s) refl behind
           (sym (ap (λ l. has_slot l s) (drop_one slots done d lt)) ∙ p.are s);
       is = is ∙ ap (left t) p.is;
@@ -235,6 +273,7 @@ left_all slots v w done p le =
       shuts = p.shuts;
       gone = p.gone;
       agree = p.agree;
+      trees = p.trees;
       is = p.is ∙ ap (λ l. with_holds l) none;
     }
   where
@@ -265,6 +304,9 @@ left_holds slots v w h l = record {
   inners = ap (λ (y : View). y.new_inners) l.is ∙ h.inners;
   heads = ap (λ (y : View). y.heads) l.is ∙ h.heads;
 }
+
+pub left_trees : (v w : View) → TreesAgree v → HasLeft v w → TreesAgree w
+left_trees v w are l = l.trees are
 
 pub left_agree : (v w : View) → WaysAgree v.ways → HasLeft v w → WaysAgree w.ways
 left_agree v w are l = subst WaysAgree (sym (ap (λ (y : View). y.ways) l.is)) (l.agree are)

@@ -19,6 +19,7 @@ pub mod CommitResults
 pub mod BeginLaws
 pub mod BelowLaws
 pub mod GrowLaws
+pub mod AnyPlaces
 pub mod KeepLaws
 pub mod WalkedLaws
 pub mod FoundLaws
@@ -28,3 +29,5 @@ pub mod WriteLaws
 pub mod TurnLaws
 pub mod Handing
 pub mod BroughtLaws
+pub mod HeaderLaws
+pub mod HeadChecks

@@ -20,6 +20,7 @@ use Rattle.engine_pages.specs.declared.view.Took.{Took}
 use Rattle.engine_pages.specs.declared.view.View.{View}
 use Rattle.page_records.specs.Locks.{lock_bit, took_at, locked, Locked}
 use Rattle.page_commit.specs.Places.{ground, spot_at, IsKeyAt}
+use Rattle.array_pages.proofs.ReadLaws.{kept_with}
 use Rattle.page_commit.proofs.ReadLaws.{seen_at-same, seen_at-other}
 use Rattle.engine_pages.specs.Steps.{kept_at, read_at, seen_at, with_read}
 use Rattle.engine_pages.specs.Touches.{touch}
@@ -45,6 +46,7 @@ glanced_once v w at n is =
       last = x.last;
       loaded = x.loaded;
       reads = x.reads;
+      kept = λ a. kept_with v.reads at n a;
       is = is;
     }
 
@@ -55,6 +57,7 @@ glanced_twice v w x h g = record {
   last = g.last;
   loaded = g.loaded;
   reads = g.reads;
+  kept = λ a. g.kept a ∙ (ap (λ (y : View). kept_at y.reads a) h.is ∙ h.kept a);
   is = g.is ∙ ap (λ (y : View). let z : View = record y {
     steps = g.steps;
     last = g.last;
@@ -149,6 +152,7 @@ taken k p at word expected seen v w x there is same l =
       reads = z.reads;
       others = λ other apart. seen_at-other (with_read v.reads at word) at (seen + lock_bit) other apart
           ∙ seen_at-other v.reads at word other apart;
+      kept = λ a. kept_with (with_read v.reads at word) at (seen + lock_bit) a ∙ kept_with v.reads at word a;
       is = is2 ∙ (ap (locked k p at seen) is ∙ ap (λ (q : Spot). locked k q at seen (read_at at word v)) there);
     }
 
@@ -229,6 +233,7 @@ locked_none v free = record {
   last = v.last;
   loaded = v.loaded;
   reads = v.reads;
+  kept = λ a. refl;
   is = ap (λ l. with_locks v l v.took v.touched v) free.locks ∙ (ap (λ l. with_locks v [] l v.touched v) free.took
       ∙ ap (λ l. with_locks v [] [] l v) (sym (append-nil v.touched)));
 }
@@ -258,6 +263,7 @@ locked_one ws found one n v w x h t =
       last = t.last;
       loaded = t.loaded;
       reads = t.reads;
+      kept = λ a. t.kept a ∙ (ap (λ (z : View). kept_at z.reads a) h.is ∙ h.kept a);
       is = t.is ∙ (ap more h.is
           ∙ (ap (λ l. with_locks v l (tooks_of v.layout.slots ws found ++ took_at one.key (spot_at v.layout.slots one.at) n ∷ []) touched y)
           (sym (map_push (λ (z : Write). z.key) ws one))
@@ -277,6 +283,7 @@ locked_then ws found v w x h g =
       last = g.last;
       loaded = g.loaded;
       reads = g.reads;
+      kept = λ a. g.kept a ∙ (ap (λ (z : View). kept_at z.reads a) h.is ∙ h.kept a);
       is = g.is ∙ ap (λ (z : View). with_locks z z.seat.locks z.took z.touched y) h.is;
     }
 
@@ -343,7 +350,7 @@ pub met_at : (reads : List ReadEntry) (ws : List Write) (done : ℕ) (d : Write)
 met_at reads ws done d v w all apart met aside lt =
     let one : Write = get_or ws done d in
     aside one.at (not_before_at ws done d apart lt)
-    ∙ met one.key one.at (all_get (IsWriteOf (ground v)) ws done d lt all).place refl
+    ∙ met.arrays one.key one.at (all_get (IsWriteOf (ground v)) ws done d lt all).place refl
 
 pub locked_so_far : (ws : List Write) (found more : List ℕ) (done : ℕ) (d : Write) (n : ℕ) (v w x : View)
     → done < length ws

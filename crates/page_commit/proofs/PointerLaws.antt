@@ -1,8 +1,8 @@
 -- Checks of the pointers that were met, behind those of the records.
-use Rattle.std.proofs.Common.{◌≡◌, ◌≢◌, ◌⊎◌, inl, inr, ℕ, zero, suc, ◌+◌, ◌<◌, ◌≤◌, ◌^◌, Bool, true, false, eqb, List}
-use Rattle.std.proofs.Common.{[], ◌∷◌, ◌++◌, length, take, get_or, Some, None, Option, refl, sym, ap, ◌∙◌, subst}
+use Rattle.std.proofs.Common.{◌≡◌, ◌≢◌, inl, inr, ℕ, zero, suc, ◌+◌, ◌<◌, ◌≤◌, Bool, true, false, eqb, List}
+use Rattle.std.proofs.Common.{[], ◌∷◌, ◌++◌, length, take, get_or, Some, refl, sym, ap, ◌∙◌, subst}
 use Rattle.std.proofs.Common.{arith, true≢false}
-use Rattle.std.specs.Prelude.{MatchBool, Contains, filter, not, ◌==◌, ◌||◌, unwrap_or, cond, Result, Ok, Err, OnOk}
+use Rattle.std.specs.Prelude.{MatchBool, Contains, filter, not, ◌==◌, unwrap_or, cond, Result, Ok, Err, OnOk}
 use Rattle.std.specs.Prelude.{OnErr, IfErr}
 use Rattle.std.specs.List.{list_any, list_all, find, AllByRecursion}
 use Rattle.std.specs.Option.{option_map}
@@ -40,12 +40,13 @@ use Rattle.engine_pages.specs.Views.{IsActive}
 use Rattle.page_records.specs.Attempts.{failed_at}
 use Rattle.page_commit.specs.declared.locking.Conflict.{Conflict}
 use Rattle.page_commit.specs.Places.{ground, pointer_at, Ground, IsKeyIn, IsPointerIn}
-use Rattle.page_commit.specs.Live.{reads_at, IsMetPointer, IsReadPart, IsWriteOf}
+use Rattle.page_commit.specs.Live.{reads_at, IsMetPointer, IsWriteOf}
 use Rattle.page_commit.specs.Steps.{entry_words, pointer_words, CheckConflict, HasChecked, HasCheckedSome, HasFailed}
 use Rattle.page_commit.specs.Steps.{HasTried}
-use Rattle.page_commit.proofs.CheckLaws.{some_first, some_second, word_of_entry, there}
+use Rattle.page_commit.proofs.CheckLaws.{there}
 use Rattle.page_commit.proofs.Lists.{in_at, map_push, take_all}
 use Rattle.page_commit.proofs.PlaceLaws.{no_pointer, one_pointer, pointer_there}
+use Rattle.array_pages.proofs.ReadLaws.{kept_with}
 use Rattle.page_commit.proofs.ReadLaws.{seen_at-other}
 use Rattle.tx_sets.specs.Entries as sets_of
 
@@ -60,7 +61,7 @@ all_other at (y ∷ l) p all in' =
     ]
 
 -- a pointer's word isn't among those before it
-not_before_pointer : (ps : List Seen) (i : ℕ) (d : Seen) → AreDistinct (places_of ps) → i < length ps
+pub not_before_pointer : (ps : List Seen) (i : ℕ) (d : Seen) → AreDistinct (places_of ps) → i < length ps
     → sets_of.has_word (get_or ps i d).at (take i ps) ≡ false
 not_before_pointer [] i d are lt = absurd (omega arith)
 not_before_pointer (x ∷ xs) zero d are lt = refl
@@ -92,7 +93,7 @@ has_pointer (f ∷ ps) p in' =
       | inr later ↦ or_right (f.at == p.at) (sets_of.has_word p.at ps) (has_pointer ps p later)
     ]
 
-in_take : (xs : List Seen) (n : ℕ) (x : Seen) → Contains (take n xs) x → Contains xs x
+pub in_take : (xs : List Seen) (n : ℕ) (x : Seen) → Contains (take n xs) x → Contains xs x
 in_take [] zero x in' = in'
 in_take [] (suc n) x in' = in'
 in_take (y ∷ xs) zero x in' = absurd (in_none x in')
@@ -125,14 +126,14 @@ no_records : (slots : ℕ) (es : List ReadEntry) (x : At) → has_word (entry_wo
 no_records slots [] x = refl
 no_records slots (e ∷ es) x = no_records slots es x
 
-none_behind : (p : Word → Bool) (xs ys : List Word) → list_any p xs ≡ false → list_any p ys ≡ false
+pub none_behind : (p : Word → Bool) (xs ys : List Word) → list_any p xs ≡ false → list_any p ys ≡ false
     → list_any p (xs ++ ys) ≡ false
 none_behind p [] ys first second = second
 none_behind p (x ∷ xs) ys first second =
     let parts = or_parts (p x) (list_any p xs) first in
     or_from (p x) (list_any p (xs ++ ys)) parts.0 (none_behind p xs ys parts.1 second)
 
-word_of_pointer : (slots : ℕ) (ps : List Seen) (p : Seen) → Contains ps p
+pub word_of_pointer : (slots : ℕ) (ps : List Seen) (p : Seen) → Contains ps p
     → has_word (pointer_words slots ps) (Pointer (pointer_at slots p.at)) ≡ true
 word_of_pointer slots [] p in' = absurd (in_none p in')
 word_of_pointer slots (f ∷ ps) p in' =
@@ -237,7 +238,7 @@ is_as x y z b c hit = subst (λ t. MatchBool t (x ≡ y) (x ≡ z)) hit c
 is_else : (x y z : View) (b : Bool) → MatchBool b (x ≡ y) (x ≡ z) → b ≡ false → x ≡ z
 is_else x y z b c miss = subst (λ t. MatchBool t (x ≡ y) (x ≡ z)) miss c
 
-any_split : (p : Seen → Bool) (l : List Seen) (y : Seen) → list_any p (l ++ y ∷ []) ≡ false
+pub any_split : (p : Seen → Bool) (l : List Seen) (y : Seen) → list_any p (l ++ y ∷ []) ≡ false
     → (list_any p l ≡ false) × (p y ≡ false)
 any_split p [] y none = (refl, (or_parts (p y) false none).0)
 any_split p (z ∷ l) y none =
@@ -275,6 +276,7 @@ pointer_one ps sets done d k v w x same p lt seen c =
           (subst (λ (l : List Seen). sets_of.has_word at l ≡ false) more none) in
           seen_at-other p.reads q.at k at (λ hit. true≢false (sym (eq-eqb q.at at hit) ∙ parts.1))
           ∙ p.aside at clear parts.0;
+      kept = λ at. kept_with p.reads q.at k at ∙ p.kept at;
       is = is ∙ (ap (λ (z : View). pointer_checked (pointer_at z.layout.slots q.at) q.at k z) p.is
           ∙ ap (λ l. with_checked v l y) words);
     }
@@ -344,7 +346,7 @@ pointer_conflict ps sets done d k v w x h apart same p lt other c = by_part (h.p
         let stands : Contains x.reads r =
         subst (λ (y : View). Contains y.reads r) (sym is)
         (in_push_new r (filter (λ (z : Read). not (z.word == q.at)) w.reads)) in
-        inr (
+        inr (inl (
           has_pointer sets.pointers q in',
           record {
             step = w.steps;
@@ -368,7 +370,7 @@ pointer_conflict ps sets done d k v w x h apart same p lt other c = by_part (h.p
             known = inl (sym (ap (λ o. unwrap_or o k) was));
             cause = inr other;
           },
-        )
+        ))
       where
         in_taken : (xs : List ReadEntry) (n : ℕ) (y : ReadEntry) → Contains (take n xs) y → Contains xs y
         in_taken [] zero y has = has
@@ -394,55 +396,31 @@ pointer_conflict ps sets done d k v w x h apart same p lt other c = by_part (h.p
 
 -- ---- all parts are checked
 
-all_from : (f : Part → Bool) (parts : List Part) → ((x : Part) → Contains parts x → f x ≡ true) → list_all f parts
+pub all_from : (f : Part → Bool) (parts : List Part) → ((x : Part) → Contains parts x → f x ≡ true) → list_all f parts
     ≡ true
 all_from f [] h = refl
 all_from f (x ∷ xs) h = and_from (f x) (list_all f xs) (h x (in_head x xs))
     (all_from f xs (λ y m. h y (in_tail y x xs m)))
 
-pub all_checked : (ps : List Seen) (sets : Sets) (done : ℕ) (v w : View) → HasTried sets v → ps ≡ sets.pointers
-    → HasCheckedSome sets (length sets.reads) done v w → length ps ≤ done → HasChecked v w
-all_checked ps sets done v w h same p le =
-    let slots : ℕ = v.layout.slots in
-    let front : List Word = entry_words slots sets.reads in
-    let back : List Word = pointer_words slots sets.pointers in
+-- all pointers are checked
+pub pointers_checked : (ps : List Seen) (sets : Sets) (done : ℕ) (v w : View) → ps ≡ sets.pointers
+    → HasCheckedSome sets (length sets.reads) done v w → length ps ≤ done
+    → HasCheckedSome sets (length sets.reads) (length sets.pointers) v w
+pointers_checked ps sets done v w same p le =
     let len : length sets.pointers ≤ done = subst (λ (l : List Seen). length l ≤ done) same le in
-    let checked : w.checked ≡ front ++ back =
-    ap (λ (y : View). y.checked) p.is
-    ∙ (ap (λ l. entry_words slots l ++ pointer_words slots (take done sets.pointers))
-    (take_all sets.reads (length sets.reads) (omega arith))
-    ∙ ap (λ l. front ++ pointer_words slots l) (take_all sets.pointers done len)) in record {
-      checked = entry_words slots (take (length sets.reads) sets.reads) ++ pointer_words slots (take done sets.pointers);
+    let all : take done sets.pointers ≡ take (length sets.pointers) sets.pointers =
+    take_all sets.pointers done len ∙ sym (take_all sets.pointers (length sets.pointers) (omega arith)) in record {
       steps = p.steps;
       since = p.since;
       last = p.last;
       loaded = p.loaded;
       reads = p.reads;
-      is = p.is;
-      can = record {
-        index = h.index;
-        attempt = h.attempt;
-        stage = ap (λ (y : View). y.seat.stage) p.is ∙ h.stage;
-        at = ap (λ (y : View). Rattle.std.specs.Prelude.slice_get y.history h.index) p.is ∙ h.at;
-        all = all_from (λ part. has_word w.checked part.word) h.attempt.parts (λ part in'.
-            ap (λ l. has_word l part.word) checked ∙ by_known part (h.parts.known part in'));
-      };
+      aside = λ at clear none. p.aside at clear (subst (λ (l : List Seen). sets_of.has_word at l ≡ false) (sym all) none);
+      kept = p.kept;
+      is = p.is ∙ ap (λ (l : List Seen). with_checked v
+          (entry_words v.layout.slots (take (length sets.reads) sets.reads) ++ pointer_words v.layout.slots l)
+          (record v { steps = p.steps; last = p.last; loaded = p.loaded; reads = p.reads })) all;
     }
-  where
-    by_known : (part : Part)
-        → ((e : ReadEntry) × Contains sets.reads e × IsReadPart (ground v) e part)
-        ⊎ ((q : Seen) × Contains sets.pointers q × IsMetPointer v q part)
-        → has_word (entry_words v.layout.slots sets.reads ++ pointer_words v.layout.slots sets.pointers) part.word ≡ true
-    by_known part (inl r) =
-        some_first (λ z. same_word z part.word) (entry_words v.layout.slots sets.reads)
-        (pointer_words v.layout.slots sets.pointers)
-        (subst (λ (z : Part). has_word (entry_words v.layout.slots sets.reads) z.word ≡ true) (sym r.2.is)
-        (word_of_entry v.layout.slots sets.reads r.0 r.1))
-    by_known part (inr r) =
-        some_second (λ z. same_word z part.word) (entry_words v.layout.slots sets.reads)
-        (pointer_words v.layout.slots sets.pointers)
-        (subst (λ (z : Word). has_word (pointer_words v.layout.slots sets.pointers) z ≡ true) (sym r.2.of.word)
-        (word_of_pointer v.layout.slots sets.pointers r.0 r.1))
 
 -- ---- at the place that a call computes
 
@@ -465,7 +443,42 @@ place_checked e p at word n w x of is c =
 pub tried_worker : (sets : Sets) (n : ℕ) (v w : View) → IsActive w.role → HasCheckedSome sets n 0 v w → IsActive v.role
 tried_worker sets n v w active p = subst IsActive (ap (λ (y : View). y.role) p.is) active
 
+pub pointers_active : (sets : Sets) (v w x : View) → IsActive w.role → HasCheckedSome sets (length sets.reads) 0 v w
+    → HasCheckedSome sets (length sets.reads) (length sets.pointers) v x → IsActive x.role
+pointers_active sets v w x active p q =
+    subst IsActive (sym (ap (λ (y : View). y.role) q.is)) (tried_worker sets (length sets.reads) v w active p)
+
 -- ---- results that are handed on
+
+-- headers are checked behind the pointers
+pub heads_for : (r : Result (Unit {0}) Conflict) (sets : Sets) (w x y : View)
+    → ((u : View) → HasTried sets u → HasCheckedSome sets (length sets.reads) 0 u w
+    → HasCheckedSome sets (length sets.reads) (length sets.pointers) u x)
+    → OnOk r ((u : View) → HasTried sets u → HasCheckedSome sets (length sets.reads) (length sets.pointers) u x
+    → HasChecked u y)
+    → OnOk r ((u : View) → HasTried sets u → HasCheckedSome sets (length sets.reads) 0 u w → HasChecked u y)
+heads_for (Ok k) sets w x y first all = λ u h p. all u h (first u h p)
+heads_for (Err e) sets w x y first all = tt
+
+pub heads_failed : (r : Result (Unit {0}) Conflict) (sets : Sets) (w x y : View)
+    → ((u : View) → HasTried sets u → HasCheckedSome sets (length sets.reads) 0 u w
+    → HasCheckedSome sets (length sets.reads) (length sets.pointers) u x)
+    → OnErr r ((u : View) → HasTried sets u → HasCheckedSome sets (length sets.reads) (length sets.pointers) u x
+    → HasFailed u y)
+    → OnErr r ((u : View) → HasTried sets u → HasCheckedSome sets (length sets.reads) 0 u w → HasFailed u y)
+heads_failed (Ok k) sets w x y first all = tt
+heads_failed (Err e) sets w x y first all = λ u h p. all u h (first u h p)
+
+pub heads_caused : (r : Result (Unit {0}) Conflict) (sets : Sets) (w x y : View)
+    → ((u : View) → HasTried sets u → HasCheckedSome sets (length sets.reads) 0 u w
+    → HasCheckedSome sets (length sets.reads) (length sets.pointers) u x)
+    → IfErr r (λ e. (u : View) → HasTried sets u
+    → HasCheckedSome sets (length sets.reads) (length sets.pointers) u x
+    → CheckConflict sets e.word e.expected e.seen u y)
+    → IfErr r (λ e. (u : View) → HasTried sets u → HasCheckedSome sets (length sets.reads) 0 u w
+    → CheckConflict sets e.word e.expected e.seen u y)
+heads_caused (Ok k) sets w x y first all = tt
+heads_caused (Err e) sets w x y first all = λ u h p. all u h (first u h p)
 
 pub checked_for : (r : Result (Unit {0}) Conflict) (sets : Sets) (v w x : View) → HasTried sets v
     → HasCheckedSome sets (length sets.reads) 0 v w

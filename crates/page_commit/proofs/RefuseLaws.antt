@@ -8,6 +8,7 @@ use Rattle.tx_sets.specs.declared.reads.ReadEntry.{ReadEntry}
 use Rattle.tx_sets.specs.declared.seen.Seen.{Seen}
 use Rattle.tx_sets.specs.declared.sets.Sets.{Sets}
 use Rattle.tx_sets.specs.Entries.{has_read, has_write}
+use Rattle.engine_pages.specs.Agreement.{TreesAgree}
 use Rattle.engine_pages.specs.declared.layout.Layout.{Layout}
 use Rattle.engine_pages.specs.declared.view.RefusalCause.{RefusalCause}
 use Rattle.engine_pages.specs.declared.view.RefusalCause.TheVariants as refusals
@@ -28,6 +29,7 @@ use Rattle.page_commit.specs.Steps.{CanRefuse, HasGivenUp, HasLeft, HasUnlocked,
 use Rattle.page_commit.specs.Turning.{OnlyWalked}
 use Rattle.page_commit.proofs.GiveUpLaws.{given_up}
 use Rattle.page_commit.proofs.LeaveLaws.{holds_stay, left_agree, left_holds, SamePages}
+use Rattle.page_commit.proofs.LeaveLaws.{left_trees, trees_stay}
 
 -- without locks nothing is to be opened
 unlocked_none : (slots : List ℕ) (v : View) → CanRefuse slots v → HasUnlocked [] v v
@@ -60,9 +62,9 @@ can_refuse sets slots v w live only holds = record {
 
 -- the refusal of an operation
 pub walked_refused : (why : RefusalCause) (sets : Sets) (slots : List ℕ) (v w x : View) → IsLive sets v → OnlyWalked v w
-    → HasHolds slots w → WaysAgree w.ways → ((met : List Touch) → TellsOf why met w → TellsOnly why met)
+    → HasHolds slots w → WaysAgree w.ways → TreesAgree w → ((met : List Touch) → TellsOf why met w → TellsOnly why met)
     → HasGivenUp [] why w x → HasRefused why v x
-walked_refused why sets slots v w x live only holds agree told g =
+walked_refused why sets slots v w x live only holds agree trees told g =
     let o = only.is in
     let h = g.forgot in
     let l = g.left in
@@ -74,6 +76,9 @@ walked_refused why sets slots v w x live only holds agree told g =
       layout = ap (λ (y : View). y.layout) h;
       grip = ap (λ (y : View). y.grip) h;
       ways = ap (λ (y : View). y.ways) h;
+      known = ap (λ (y : View). y.known) h;
+      moved = ap (λ (y : View). y.moved) h;
+      branches = ap (λ (y : View). y.inners) h;
       drafts = ap (λ (y : View). y.drafts) h;
       copies = ap (λ (y : View). y.copies) h;
       blanks = ap (λ (y : View). y.blanks) h;
@@ -88,6 +93,7 @@ walked_refused why sets slots v w x live only holds agree told g =
         took = ap (λ (y : View). y.took) l.is ∙ ap (λ (y : View). y.took) h;
         seat = subst (λ (y : View). IsResting y.seat) (sym l.is) (subst (λ (y : View). IsResting y.seat) (sym h) g.resting);
         agree = left_agree g.mid x (subst WaysAgree (sym mid.ways) agree) l;
+        trees = left_trees g.mid x (trees_stay w g.mid mid trees) l;
         holds = left_holds slots g.mid x (holds_stay slots w g.mid mid holds) l;
       };
       layout = layout';

@@ -7,6 +7,8 @@ use Rattle.tx_sets.specs.declared.reads.ReadEntry.{ReadEntry}
 use Rattle.tx_sets.specs.declared.seen.Seen.{Seen}
 use Rattle.tx_sets.specs.declared.sets.Sets.{Sets}
 use Rattle.tx_sets.specs.declared.writes.Write.{Write}
+use Rattle.engine_pages.specs.declared.view.Inner.{Inner}
+use Rattle.engine_pages.specs.declared.view.Known.{Known}
 use Rattle.engine_pages.specs.declared.layout.Layout.{Layout}
 use Rattle.engine_pages.specs.declared.view.Lead.{Lead}
 use Rattle.engine_pages.specs.declared.view.View.{View}
@@ -16,24 +18,33 @@ use Rattle.engine_pages.specs.Pages.{is_array}
 use Rattle.engine_pages.specs.Pointers.{StandsFor}
 use Rattle.dual_pointer.specs.Parts.{content_below, IsPointerPart, part_stays}
 use Rattle.page_commit.specs.Places.{ground, pointer_at, Ground, IsPointerIn}
+use Rattle.page_commit.specs.HeaderParts.{IsMetHeader}
 use Rattle.page_commit.specs.Live.{AreParts, IsMetPointer, IsReadPart, IsWriteOf}
 
 -- ---- the same ways
 
-pub grounds : (v w : View) → v.layout ≡ w.layout → v.ways ≡ w.ways → ground v ≡ ground w
-grounds v w layout ways =
-    ap (λ (l : Layout). let g : Ground = record { layout = l; ways = v.ways } in g) layout
-    ∙ ap (λ (l : List Way). let g : Ground = record { layout = w.layout; ways = l } in g) ways
+-- such a ground
+abbrev ground_of : Layout → List Way → List Known → List Inner → Ground
+ground_of layout ways known inners = record { layout = layout; ways = ways; known = known; inners = inners }
 
-pub writes_stay : (ws : List Write) (v w : View) → w.layout ≡ v.layout → w.ways ≡ v.ways
+pub grounds : (v w : View) → v.layout ≡ w.layout → v.ways ≡ w.ways → v.known ≡ w.known → v.inners ≡ w.inners
+    → ground v ≡ ground w
+grounds v w layout ways known inners =
+    ap (λ (l : Layout). ground_of l v.ways v.known v.inners) layout
+    ∙ (ap (λ (l : List Way). ground_of w.layout l v.known v.inners) ways
+    ∙ (ap (λ (l : List Known). ground_of w.layout w.ways l v.inners) known
+    ∙ ap (λ (l : List Inner). ground_of w.layout w.ways w.known l) inners))
+
+pub writes_stay : (ws : List Write) (v w : View) → w.layout ≡ v.layout → w.ways ≡ v.ways → w.known ≡ v.known → w.inners ≡ v.inners
     → AllByRecursion (IsWriteOf (ground v)) ws → AllByRecursion (IsWriteOf (ground w)) ws
-writes_stay ws v w layout ways all = subst (λ (g : Ground). AllByRecursion (IsWriteOf g) ws) (sym (grounds w v layout ways)) all
+writes_stay ws v w layout ways known inners all =
+    subst (λ (g : Ground). AllByRecursion (IsWriteOf g) ws) (sym (grounds w v layout ways known inners)) all
 
-pointer_stays : (v w : View) (p : Seen) (part : Part) → w.layout ≡ v.layout → w.ways ≡ v.ways → w.leads ≡ v.leads
-    → w.pages ≡ v.pages → IsMetPointer v p part → IsMetPointer w p part
-pointer_stays v w p part layout ways leads pages m = record {
+pointer_stays : (v w : View) (p : Seen) (part : Part) → w.layout ≡ v.layout → w.ways ≡ v.ways → w.known ≡ v.known → w.inners ≡ v.inners
+    → w.leads ≡ v.leads → w.pages ≡ v.pages → IsMetPointer v p part → IsMetPointer w p part
+pointer_stays v w p part layout ways known inners leads pages m = record {
   span = m.span;
-  place = subst (λ (g : Ground). IsPointerIn g m.span p.at) (sym (grounds w v layout ways)) m.place;
+  place = subst (λ (g : Ground). IsPointerIn g m.span p.at) (sym (grounds w v layout ways known inners)) m.place;
   within = subst (λ (l : Layout). p.at < words_of l) (sym layout) m.within;
   bare = m.bare;
   of = subst (λ (l : Layout). IsPointerPart w (pointer_at l.slots p.at) m.span p.word part) (sym layout)
@@ -49,22 +60,29 @@ pointer_stays v w p part layout ways leads pages m = record {
 }
 
 pub parts_stay : (sets : Sets) (v w : View) (parts : List Part) → parts ≡ v.seat.kept → w.layout ≡ v.layout
-    → w.ways ≡ v.ways → w.leads ≡ v.leads → w.pages ≡ v.pages → AreParts sets v v.seat.kept → AreParts sets w parts
-parts_stay sets v w parts same layout ways leads pages are = subst (AreParts sets w) (sym same) record {
+    → w.ways ≡ v.ways → w.known ≡ v.known → w.inners ≡ v.inners → w.leads ≡ v.leads → w.pages ≡ v.pages → AreParts sets v v.seat.kept → AreParts sets w parts
+parts_stay sets v w parts same layout ways known inners leads pages are = subst (AreParts sets w) (sym same) record {
   known = λ part has. by_known part (are.known part has);
   reads = λ e has. let r = are.reads e has in (r.0, r.1, read_stays e r.0 r.2);
-  pointers = λ p has. let r = are.pointers p has in (r.0, r.1, pointer_stays v w p r.0 layout ways leads pages r.2);
+  pointers = λ p has. let r = are.pointers p has in (r.0, r.1, pointer_stays v w p r.0 layout ways known inners leads pages r.2);
+  headers = λ h has. let r = are.headers h has in (r.0, r.1, header_stays h r.0 r.2);
   once = are.once;
 }
   where
     read_stays : (e : ReadEntry) (part : Part) → IsReadPart (ground v) e part → IsReadPart (ground w) e part
-    read_stays e part r = subst (λ (g : Ground). IsReadPart g e part) (sym (grounds w v layout ways)) r
+    read_stays e part r = subst (λ (g : Ground). IsReadPart g e part) (sym (grounds w v layout ways known inners)) r
+
+    header_stays : (h : Seen) (part : Part) → IsMetHeader (ground v) h part → IsMetHeader (ground w) h part
+    header_stays h part r = subst (λ (g : Ground). IsMetHeader g h part) (sym (grounds w v layout ways known inners)) r
 
     by_known : (part : Part)
         → ((e : ReadEntry) × Contains sets.reads e × IsReadPart (ground v) e part)
-        ⊎ ((p : Seen) × Contains sets.pointers p × IsMetPointer v p part)
+        ⊎ (((p : Seen) × Contains sets.pointers p × IsMetPointer v p part)
+        ⊎ ((h : Seen) × Contains sets.headers h × IsMetHeader (ground v) h part))
         → ((e : ReadEntry) × Contains sets.reads e × IsReadPart (ground w) e part)
-        ⊎ ((p : Seen) × Contains sets.pointers p × IsMetPointer w p part)
+        ⊎ (((p : Seen) × Contains sets.pointers p × IsMetPointer w p part)
+        ⊎ ((h : Seen) × Contains sets.headers h × IsMetHeader (ground w) h part))
     by_known part (inl r) =
-        inl (r.0, r.1, subst (λ (g : Ground). IsReadPart g r.0 part) (sym (grounds w v layout ways)) r.2)
-    by_known part (inr r) = inr (r.0, r.1, pointer_stays v w r.0 part layout ways leads pages r.2)
+        inl (r.0, r.1, subst (λ (g : Ground). IsReadPart g r.0 part) (sym (grounds w v layout ways known inners)) r.2)
+    by_known part (inr (inl r)) = inr (inl (r.0, r.1, pointer_stays v w r.0 part layout ways known inners leads pages r.2))
+    by_known part (inr (inr r)) = inr (inr (r.0, r.1, header_stays r.0 part r.2))

@@ -13,6 +13,7 @@ use Rattle.engine_pages.specs.Steps.{read_at}
 use Rattle.page_records.specs.Ends.{HasForgotten}
 use Rattle.homes.specs.declared.places.At.{At}
 use Rattle.pointer_checks.specs.Checks.{pointer_checked, CheckedPointer}
+use Rattle.tree_heads.specs.Checks.{header_checked, CheckedHeader}
 
 either : (b : Bool) (x p q : View) (n : ℕ) → p.steps ≡ n → q.steps ≡ n → MatchBool b (x ≡ p) (x ≡ q) → x.steps ≡ n
 either true x p q n there other is = ap (λ (y : View). y.steps) is ∙ there
@@ -92,6 +93,20 @@ pub stops_pointers : (v w z : View) (x : At) (at word done most n : ℕ) → w.s
     → done < most → CheckedPointer x at word w n z → z.steps ≤ v.steps + most
 stops_pointers v w z x at word done most n was less c =
     let now = pointer_steps x at word n w z c in omega (arith, was, now, less)
+
+header_steps : (t at word n : ℕ) (v w : View) → CheckedHeader t at word v n w → w.steps ≡ v.steps + 1
+header_steps t at word n v w c =
+    either (eqb n word) w (header_checked t at n v) (failed_at at n v) (v.steps + 1) refl refl c
+
+pub more_headers : (v w z : View) (t at word done n : ℕ) → w.steps ≡ v.steps + done
+    → CheckedHeader t at word w n z → z.steps ≡ v.steps + (done + 1)
+more_headers v w z t at word done n was c =
+    let now = header_steps t at word n w z c in omega (arith, was, now)
+
+pub stops_headers : (v w z : View) (t at word done most n : ℕ) → w.steps ≡ v.steps + done
+    → done < most → CheckedHeader t at word w n z → z.steps ≤ v.steps + most
+stops_headers v w z t at word done most n was less c =
+    let now = header_steps t at word n w z c in omega (arith, was, now, less)
 
 pub counts_same : {A : Type 0} (xs ys : List A) → xs ≡ ys → length xs ≡ length ys
 counts_same xs ys same = ap (λ l. length l) same

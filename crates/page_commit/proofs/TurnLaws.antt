@@ -39,11 +39,12 @@ use Rattle.page_commit.specs.declared.writing.By.{By}
 use Rattle.page_commit.specs.declared.writing.By.TheVariants as ways
 use Rattle.page_commit.specs.Places.{ground, IsKeyAt}
 use Rattle.page_commit.specs.Live.{entry_places, AreMet, ArePointersKept, ArePointersMet, HasHolds, IsLive, IsWriteOf}
+use Rattle.page_commit.specs.HeaderParts.{AreHeaders}
 use Rattle.page_commit.specs.Altering.{altered, ended_by, op_of, Alters}
 use Rattle.page_commit.specs.Keeping.{HasBrought, HasValue, KeepsSets}
 use Rattle.page_commit.specs.Turning.{as_walked, AreWritesOf, HasDone, HasStopped, IsValueRead, MayRead, MayWrite, MeetsOnly}
 use Rattle.page_commit.specs.Turning.{HoldsWaysOf, HoldsWaysTo, OnlyWalked, OnlyWaysOf, PartsStay, ReadsOnly}
-use Rattle.page_commit.proofs.CommitResults.{parts_dropped}
+use Rattle.page_commit.proofs.CommitResults.{keeps_only, parts_dropped}
 use Rattle.page_commit.proofs.FoundLaws.{nothing_walked}
 use Rattle.page_commit.proofs.WriteLaws.{value_none, value_there, word_apart, writes_more, writes_only, HasWritten}
 use Rattle.page_commit.proofs.WriteLaws.{inserted_all, inserted_writes}
@@ -70,8 +71,9 @@ array_reply None = refl
 
 -- the reads, pointers and holds are these
 pub same_live : (sets new : Sets) (v : View) → IsLive sets v → new.reads ≡ sets.reads → new.pointers ≡ sets.pointers
-    → new.holds ≡ sets.holds → AllByRecursion (IsWriteOf (ground v)) new.writes → IsLive new v
-same_live sets new v live reads pointers holds all = record {
+    → new.holds ≡ sets.holds → new.headers ≡ sets.headers → AllByRecursion (IsWriteOf (ground v)) new.writes
+    → IsLive new v
+same_live sets new v live reads pointers holds headers all = record {
   decls = live.decls;
   worker = live.worker;
   due = live.due;
@@ -80,14 +82,17 @@ same_live sets new v live reads pointers holds all = record {
   stage = live.stage;
   gone = live.gone;
   agree = live.agree;
+  trees = live.trees;
   holds = subst (λ l. HasHolds l v) (sym holds) live.holds;
-  parts = parts_dropped sets new v v.seat.kept reads pointers live.parts;
+  parts = parts_dropped sets new v v.seat.kept reads pointers headers live.parts;
   places = subst (λ (l : List ReadEntry). AreDistinct (entry_places l)) (sym reads) live.places;
   once = subst (λ (l : List Seen). AreDistinct (places_of l)) (sym pointers) live.once;
   writes = all;
   met = subst (λ (l : List ReadEntry). AreMet l [] v) (sym reads) live.met;
   points = subst (λ (l : List Seen). ArePointersMet l v) (sym pointers) live.points;
   kept = subst (λ (l : List Seen). ArePointersKept l v) (sym pointers) live.kept;
+  headers = subst (λ (l : List Seen). AreHeaders l v) (sym headers) live.headers;
+  only = keeps_only sets new v pointers headers live.only;
   inside = live.inside;
 }
 
@@ -103,6 +108,10 @@ walks_then u v w a b = record {
     | inr new ↦ inr (last_since part new)
   ];
   ways = λ x has. b.ways x (a.ways x has);
+  known = λ x has. b.known x (a.known x has);
+  moved = λ x has. b.moved x (a.moved x has);
+  inners = λ x has. b.inners x (a.inners x has);
+  versions = λ x has. b.versions x (a.versions x has);
   is = b.is ∙ ap (λ (y : View). as_walked y w) a.is;
 }
   where
@@ -222,6 +231,7 @@ own_read sets v k value live is = record {
   held = none_held (Read k) sets.holds sets.holds v refl;
   reads = inl refl;
   pointers = inl refl;
+  headers = refl;
   joined = inl refl;
   writes = λ q has. inl has;
   grows = omega arith;
@@ -261,6 +271,7 @@ value_read sets new v w k value live fits none h = record {
   held = held_of (Read k) k sets.holds new.holds w (inl refl) h.held;
   reads = reads_key (Read k) k value sets new v w refl h;
   pointers = meets_key (Read k) k value sets new v w refl h;
+  headers = h.headers;
   joined = inr (k, refl);
   writes = λ q has. inl (subst (λ (l : List written_of.Write). has_write q l ≡ true) h.writes has);
   grows = omega (arith, ap (λ (l : List written_of.Write). length l) h.writes);
@@ -281,15 +292,17 @@ value_read sets new v w k value live fits none h = record {
 
 -- of a key that was written
 pub value_rewritten : (sets new : Sets) (v : View) (k : Key) (value : ℕ) → IsLive sets v → new.reads ≡ sets.reads
-    → new.pointers ≡ sets.pointers → new.holds ≡ sets.holds → HasWritten k value sets.writes new.writes
+    → new.pointers ≡ sets.pointers → new.holds ≡ sets.holds → new.headers ≡ sets.headers
+    → HasWritten k value sets.writes new.writes
     → AllByRecursion (IsWriteOf (ground v)) new.writes → HasDone (Write k value) None sets new v v
-value_rewritten sets new v k value live reads pointers holds is all = record {
-  live = same_live sets new v live reads pointers holds all;
+value_rewritten sets new v k value live reads pointers holds headers is all = record {
+  live = same_live sets new v live reads pointers holds headers all;
   only = nothing_walked v;
   paths = λ x has. inl has;
   held = none_held (Write k value) sets.holds new.holds v holds;
   reads = inl reads;
   pointers = inl pointers;
+  headers = headers;
   joined = inl refl;
   writes = λ q has. writes_only k value sets.writes new.writes q is has;
   grows = is.grows;
@@ -306,7 +319,7 @@ value_brought sets mid new v w k value at none h same is =
     let now : HasWritten k value mid.writes new.writes =
     inserted_writes k value at mid.writes new.writes is (subst (λ l. has_write k l ≡ false) (sym h.writes) none) in
     record {
-      live = same_live mid new w h.live same.reads same.pointers same.holds
+      live = same_live mid new w h.live same.reads same.pointers same.holds same.headers
           (inserted_all (ground w) (record { key = k; value = Some value; at = at }) mid.writes new.writes is
           record { place = h.place; value = refl } h.live.writes);
       only = h.only;
@@ -315,6 +328,7 @@ value_brought sets mid new v w k value at none h same is =
           (held_of (Write k value) k sets.holds mid.holds w (inr refl) h.held);
       reads = inl (same.reads ∙ h.reads);
       pointers = inl (same.pointers ∙ h.pointers);
+      headers = same.headers ∙ h.headers;
       joined = inl h.kept;
       writes = λ q has. subst (λ (l : List written_of.Write). (has_write q l ≡ true) ⊎ (k ≡ q)) h.writes
           (writes_only k value mid.writes new.writes q now has);
@@ -389,16 +403,17 @@ stops_so (ways.Take amount) op sets new v w h = h
 -- of a key that was written
 pub own_altered : (by : By) (sets new : Sets) (v : View) (k : Key) (before : Option ℕ) (value : ℕ) → IsLive sets v
     → value_of k sets.writes ≡ Some before → altered by (unwrap_or before 0) ≡ Some value → new.reads ≡ sets.reads
-    → new.pointers ≡ sets.pointers → new.holds ≡ sets.holds
+    → new.pointers ≡ sets.pointers → new.holds ≡ sets.holds → new.headers ≡ sets.headers
     → HasWritten k value sets.writes new.writes → AllByRecursion (IsWriteOf (ground v)) new.writes
     → Alters (op_of k by) Done sets new v v
-own_altered by sets new v k before value live is after reads pointers holds now all = record {
-  live = same_live sets new v live reads pointers holds all;
+own_altered by sets new v k before value live is after reads pointers holds headers now all = record {
+  live = same_live sets new v live reads pointers holds headers all;
   only = nothing_walked v;
   paths = λ x has. inl has;
   held = none_held (op_of k by) sets.holds new.holds v holds;
   reads = inl reads;
   pointers = inl pointers;
+  headers = headers;
   joined = inl refl;
   writes = λ q has. may_write by k q (has_write q sets.writes ≡ true)
       (writes_only k value sets.writes new.writes q now has);
@@ -423,6 +438,7 @@ own_ends by sets v k before live is after = stops_so by (op_of k by) sets sets v
   held = none_held (op_of k by) sets.holds sets.holds v refl;
   reads = inl refl;
   pointers = inl refl;
+  headers = refl;
   joined = inl refl;
   writes = λ q has. inl has;
   grows = omega arith;
@@ -468,6 +484,9 @@ module _ (by : By) (sets mid late : Sets) (u v w : View) (k : Key) (at before : 
       (subst (λ (l : List Seen). MeetsOnly v.layout (op_of k by) l late.pointers) b.pointers
       (meets_key (op_of k by) k before mid late v w (may_read by k) h))
 
+  headers_both : late.headers ≡ sets.headers
+  headers_both = h.headers ∙ b.headers
+
   seen_both : (own : List Change) → AreWritesOf sets.writes own → Sees w.seat.kept own k h.content
   seen_both own same =
       part_seen w.seat.kept own sets.writes k h.content same (value_none k sets.writes none) h.vouched
@@ -487,7 +506,7 @@ module _ (by : By) (sets mid late : Sets) (u v w : View) (k : Key) (at before : 
       let now : HasWritten k value late.writes new.writes =
       inserted_writes k value at late.writes new.writes is (subst (λ l. has_write k l ≡ false) (sym writes_same) none) in
       record {
-        live = same_live late new w h.live same.reads same.pointers same.holds
+        live = same_live late new w h.live same.reads same.pointers same.holds same.headers
             (inserted_all (ground w) (record { key = k; value = Some value; at = at }) late.writes new.writes is
             record { place = place_both; value = refl } h.live.writes);
         only = only_both;
@@ -496,6 +515,7 @@ module _ (by : By) (sets mid late : Sets) (u v w : View) (k : Key) (at before : 
         reads = subst (λ (l : List ReadEntry). ReadsOnly (op_of k by) sets.reads l) (sym same.reads) reads_both;
         pointers = subst (λ (l : List Seen). MeetsOnly u.layout (op_of k by) sets.pointers l) (sym same.pointers)
             meets_both;
+        headers = same.headers ∙ headers_both;
         joined = inr (k, may_read by k);
         writes = λ q has. may_write by k q (has_write q sets.writes ≡ true)
             (subst (λ (l : List written_of.Write). (has_write q l ≡ true) ⊎ (k ≡ q)) writes_same
@@ -519,6 +539,7 @@ module _ (by : By) (sets mid late : Sets) (u v w : View) (k : Key) (at before : 
     held = held_both;
     reads = reads_both;
     pointers = meets_both;
+    headers = headers_both;
     joined = inr (k, may_read by k);
     writes = λ q has. inl (subst (λ (l : List written_of.Write). has_write q l ≡ true) writes_same has);
     grows = omega (arith, ap (λ (l : List written_of.Write). length l) writes_same);

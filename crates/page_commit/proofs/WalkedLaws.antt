@@ -13,24 +13,27 @@ use Rattle.drop_core.specs.Table.{has_slot}
 use Rattle.tx_sets.specs.declared.reads.ReadEntry.{ReadEntry}
 use Rattle.tx_sets.specs.declared.seen.Seen.{Seen}
 use Rattle.tx_sets.specs.declared.sets.Sets.{Sets}
-use Rattle.tx_sets.specs.Entries.{places_of}
+use Rattle.tx_sets.specs.Entries.{has_word, places_of}
 use Rattle.engine_pages.specs.declared.view.Role.{Role}
 use Rattle.engine_pages.specs.declared.view.Role.TheVariants.{Keeper, Worker}
 use Rattle.engine_pages.specs.declared.view.View.{View}
+use Rattle.engine_pages.specs.Agreement.{TreesAgree}
 use Rattle.engine_pages.specs.Pointers.{WaysAgree}
 use Rattle.engine_pages.specs.Steps.{kept_at, seen_at}
 use Rattle.page_records.specs.Ends.{worker_of}
 use Rattle.array_pages.specs.Making.{CanMake}
 use Rattle.array_pages.specs.Walks.{AreLedTo, CanWalk, HasWalked, HoldsAre, IsPointersWord, KeepsMet, OnlyMet}
-use Rattle.array_pages.proofs.WalkLaws.{pointer_apart}
-use Rattle.page_commit.specs.Places.{ground, spot_at, IsKeyAt}
+use Rattle.page_commit.specs.Places.{ground, IsAnyKeyIn, IsKeyAt, IsKeyIn, IsTreeKeyIn}
 use Rattle.page_commit.specs.Live.{entry_places, read_word, AreInside, AreMet, AreParts, ArePointersKept, ArePointersMet}
-use Rattle.page_commit.specs.Live.{HasHolds, IsLive, IsWriteOf, StandsIn}
-use Rattle.page_commit.specs.Turning.{HoldsWaysTo, OnlyWalked}
+use Rattle.page_commit.specs.Live.{HasHolds, IsHeadIn, IsLive, IsWriteOf, KeepsOnly, StandsIn}
+use Rattle.page_commit.specs.HeaderParts.{AreHeaders}
+use Rattle.page_commit.specs.Turning.{as_walked, HoldsWaysTo, OnlyWalked}
 use Rattle.page_commit.proofs.DrawLaws.{active_worker}
-use Rattle.page_commit.proofs.GrowLaws.{knows_more, met_before, no_value, none_read, pointer_stands, points_here}
-use Rattle.page_commit.proofs.GrowLaws.{record_stands}
-use Rattle.page_commit.proofs.GrowLaws.{stands_grown, value_stands, word_push_new, word_push_old, writes_grown, KnowsMore}
+use Rattle.page_commit.proofs.AnyPlaces.{any_no_pointer, any_no_value, any_stands, any_value_stands, head_apart, head_stands}
+use Rattle.page_commit.proofs.AnyPlaces.{met_tree}
+use Rattle.page_commit.proofs.GrowLaws.{knows_more, met_before, none_read, pointer_here, pointer_stands, points_here}
+use Rattle.page_commit.proofs.GrowLaws.{stands_grown, word_push_new, word_push_old, writes_grown, KnowsMore}
+use Rattle.page_commit.proofs.HeaderLaws.{head_only, header_grown, headers_aside, no_head_key, no_head_value}
 use Rattle.page_commit.proofs.Lists.{map_push}
 use Rattle.page_commit.proofs.PointerLaws.{pointer_word}
 
@@ -43,6 +46,7 @@ can_walk sets v live = record {
   holds = live.holds.holds;
   within = live.holds.within;
   agree = live.agree;
+  trees = live.trees;
   declared = live.decls;
 }
 
@@ -74,12 +78,16 @@ only_walked v w walk = record {
   since = walk.since;
   parts = walk.parts;
   ways = walk.ways;
-  is = walk.is;
+  known = λ x has. subst (λ (y : View). Contains y.known x) (sym walk.is) has;
+  moved = λ x has. subst (λ (y : View). Contains y.moved x) (sym walk.is) has;
+  inners = λ x has. subst (λ (y : View). Contains y.inners x) (sym walk.is) has;
+  versions = λ x has. subst (λ (y : View). Contains y.versions x) (sym walk.is) has;
+  is = subst (λ (y : View). y ≡ as_walked v y) (sym walk.is) refl;
 }
 
-pub walked_holds : (slots late : List ℕ) (v w : View) → HasHolds slots v → HasWalked v w → CanWalk late w
+pub holds_walked : (slots late : List ℕ) (v w : View) → HasHolds slots v → OnlyWalked v w → CanWalk late w
     → HasHolds late w
-walked_holds slots late v w h walk can = record {
+holds_walked slots late v w h walk can = record {
   holds = can.holds;
   within = can.within;
   made = ap (λ (y : View). y.grip.made) walk.is ∙ h.made;
@@ -91,6 +99,10 @@ walked_holds slots late v w h walk can = record {
   inners = ap (λ (y : View). y.new_inners) walk.is ∙ h.inners;
   heads = ap (λ (y : View). y.heads) walk.is ∙ h.heads;
 }
+
+pub walked_holds : (slots late : List ℕ) (v w : View) → HasHolds slots v → HasWalked v w → CanWalk late w
+    → HasHolds late w
+walked_holds slots late v w h walk can = holds_walked slots late v w h (only_walked v w walk) can
 
 -- the slots that are held newly, by the sets
 pub held_to : (k : Key) (old new : List ℕ) (v w : View) → HasHolds old v → HoldsAre new w → AreLedTo k v w
@@ -111,11 +123,14 @@ pub record HasGrown (sets new : Sets) (w : View) : Type 0 where
   pub met : AreMet new.reads [] w
   pub points : ArePointersMet new.pointers w
   pub kept : ArePointersKept new.pointers w
+  pub headers : AreHeaders new.headers w
+  pub only : KeepsOnly new w
   pub inside : AreInside w
 
-pub live_walked : (sets new : Sets) (v w : View) → IsLive sets v → HasWalked v w → CanWalk new.holds w
-    → HasGrown sets new w → IsLive new w
-live_walked sets new v w live walk can g = record {
+-- so it is behind a walk of either kind
+pub live_grown : (sets new : Sets) (v w : View) → IsLive sets v → OnlyWalked v w → KnowsMore v w
+    → CanWalk new.holds w → HasGrown sets new w → IsLive new w
+live_grown sets new v w live walk more can g = record {
   decls = can.declared;
   worker = subst (λ (r : Role). r ≡ Worker (worker_of r)) (sym (ap (λ (y : View). y.role) walk.is)) live.worker;
   due = ap (λ (y : View). y.due) walk.is ∙ live.due;
@@ -124,83 +139,149 @@ live_walked sets new v w live walk can g = record {
   stage = ap (λ (y : View). y.seat.stage) walk.is ∙ live.stage;
   gone = ap (λ (y : View). y.gone) walk.is ∙ live.gone;
   agree = can.agree;
-  holds = walked_holds sets.holds new.holds v w live.holds walk can;
+  trees = can.trees;
+  holds = holds_walked sets.holds new.holds v w live.holds walk can;
   parts = g.parts;
   places = g.places;
   once = g.once;
   writes = subst (AllByRecursion (IsWriteOf (ground w))) (sym g.writes)
-      (writes_grown sets.writes v w (knows_more v w walk) live.writes);
+      (writes_grown sets.writes v w more live.writes);
   met = g.met;
   points = g.points;
   kept = g.kept;
+  headers = g.headers;
+  only = g.only;
   inside = g.inside;
 }
 
--- ---- words, where none but those of pointers were met
+pub live_walked : (sets new : Sets) (v w : View) → IsLive sets v → HasWalked v w → CanWalk new.holds w
+    → HasGrown sets new w → IsLive new w
+live_walked sets new v w live walk can g =
+    live_grown sets new v w live (only_walked v w walk) (knows_more v w walk) can g
 
-pub met_only : (sets : Sets) (v w : View) → IsLive sets v → KnowsMore v w → WaysAgree w.ways → AreDecls w.layout.decls
-    → OnlyMet v w → AreMet sets.reads [] w
-met_only sets v w live more agree are only k at place clear = by_side (only at)
+-- ---- words, where none of records were met
+
+-- the word is that of an array's pointer, or stands beside the records of trees
+abbrev pub IsBeside : View → ℕ → Type 0
+IsBeside w a = IsPointersWord w a ⊎ IsHeadIn (ground w) a
+
+-- no words but such were met
+abbrev pub OnlyBeside : View → View → Type 0
+OnlyBeside v w = (a : ℕ) → (seen_at w.reads a ≡ seen_at v.reads a) ⊎ IsBeside w a
+
+pub beside_arrays : (v w : View) → OnlyMet v w → OnlyBeside v w
+beside_arrays v w only a = elim (only a) [ inl same ↦ inl same | inr p ↦ inr (inl p) ]
+
+beside_apart : (w : View) (k : Key) (at : ℕ) → WaysAgree w.ways → TreesAgree w → AreDecls w.layout.decls
+    → IsAnyKeyIn (ground w) k at → IsBeside w at → ⊥
+beside_apart w k at agree trees are place (inl p) =
+    any_no_pointer (ground w) k p.span at agree place (pointer_here w p.place p.span at are p.is)
+beside_apart w k at agree trees are place (inr h) = head_apart w k at agree trees place h
+
+beside_stands : (w : View) (at : ℕ) → AreDecls w.layout.decls → IsBeside w at → StandsIn (ground w) at
+beside_stands w at are (inl p) = pointer_stands w at are p
+beside_stands w at are (inr h) = head_stands w at h
+
+pub met_only : (sets : Sets) (v w : View) → IsLive sets v → KnowsMore v w → WaysAgree w.ways → TreesAgree w
+    → AreDecls w.layout.decls → OnlyBeside v w → AreMet sets.reads [] w
+met_only sets v w live more agree trees are only = record {
+  arrays = λ k at place clear. by_array k at place (only at);
+  trees = λ k at n place clear read. by_tree k at n place read (only at);
+}
   where
-    by_side : (seen_at w.reads at ≡ seen_at v.reads at) ⊎ IsPointersWord w at → seen_at w.reads at ≡ read_word at sets.reads
-    by_side (inl same) = same ∙ met_before sets v w k at live more agree place
-    by_side (inr p) =
-        absurd ((pointer_apart w p.place p.span at k (spot_at w.layout.slots at) at agree are p.is place).0 refl)
+    by_array : (k : Key) (at : ℕ) → IsKeyIn (ground w) k at → (seen_at w.reads at ≡ seen_at v.reads at) ⊎ IsBeside w at
+        → seen_at w.reads at ≡ read_word at sets.reads
+    by_array k at place (inl same) = same ∙ met_before sets v w k at live more agree place
+    by_array k at place (inr p) = absurd (beside_apart w k at agree trees are (inl place) p)
 
-pub inside_only : (sets : Sets) (v w : View) → IsLive sets v → KnowsMore v w → AreDecls w.layout.decls → OnlyMet v w
+    by_tree : (k : Key) (at n : ℕ) → IsTreeKeyIn (ground w) k at → read_word at sets.reads ≡ Some n
+        → (seen_at w.reads at ≡ seen_at v.reads at) ⊎ IsBeside w at → seen_at w.reads at ≡ Some n
+    by_tree k at n place read (inl same) = same ∙ met_tree sets v w k at n live more agree place read
+    by_tree k at n place read (inr p) = absurd (beside_apart w k at agree trees are (inr place) p)
+
+pub inside_only : (sets : Sets) (v w : View) → IsLive sets v → KnowsMore v w → AreDecls w.layout.decls → OnlyBeside v w
     → AreInside w
 inside_only sets v w live more are only at n seen = by_side (only at)
   where
-    by_side : (seen_at w.reads at ≡ seen_at v.reads at) ⊎ IsPointersWord w at → StandsIn (ground w) at
+    by_side : (seen_at w.reads at ≡ seen_at v.reads at) ⊎ IsBeside w at → StandsIn (ground w) at
     by_side (inl same) = stands_grown v w at more (live.inside at n (sym same ∙ seen))
-    by_side (inr p) = pointer_stands w at are p
+    by_side (inr p) = beside_stands w at are p
 
 -- ---- and where a record was read besides
 
--- no words were met but those of pointers, of this record, and of its value
+-- no words were met but such, of this record, and of its value
 abbrev pub OnlyMetBut : ℕ → View → View → Type 0
-OnlyMetBut at v w = (a : ℕ) → a ≢ at → a ≢ at + 1 → (seen_at w.reads a ≡ seen_at v.reads a) ⊎ IsPointersWord w a
+OnlyMetBut at v w = (a : ℕ) → a ≢ at → a ≢ at + 1 → (seen_at w.reads a ≡ seen_at v.reads a) ⊎ IsBeside w a
+
+pub beside_but : (at : ℕ) (v w : View)
+    → ((a : ℕ) → a ≢ at → a ≢ at + 1 → (seen_at w.reads a ≡ seen_at v.reads a) ⊎ IsPointersWord w a)
+    → OnlyMetBut at v w
+beside_but at v w only a one two = elim (only a one two) [ inl same ↦ inl same | inr p ↦ inr (inl p) ]
 
 module _ (sets : Sets) (v w : View) (e : ReadEntry) (live : IsLive sets v) (more : KnowsMore v w)
-    (agree : WaysAgree w.ways) (are : AreDecls w.layout.decls) (place : IsKeyAt w e.key e.at)
+    (agree : WaysAgree w.ways) (trees : TreesAgree w) (are : AreDecls w.layout.decls)
+    (place : IsAnyKeyIn (ground w) e.key e.at)
     (other : (f : ReadEntry) → Contains sets.reads f → f.at ≡ e.at → ⊥)
     (seen : seen_at w.reads e.at ≡ Some e.word) (only : OnlyMetBut e.at v w) where
   pub met_entry : AreMet (sets.reads ++ e ∷ []) [] w
-  met_entry k at there clear = by_test (e.at == at) refl
+  met_entry = record {
+    arrays = λ k at there clear. by_array k at there (e.at == at) refl;
+    trees = λ k at n there clear read. by_tree k at n there read (e.at == at) refl;
+  }
     where
-      by_side : e.at ≢ at → (seen_at w.reads at ≡ seen_at v.reads at) ⊎ IsPointersWord w at
-          → seen_at w.reads at ≡ read_word at (sets.reads ++ e ∷ [])
-      by_side apart (inl same) =
-          same ∙ (met_before sets v w k at live more agree there ∙ sym (word_push_old sets.reads e at apart))
-      by_side apart (inr p) =
-          absurd ((pointer_apart w p.place p.span at k (spot_at w.layout.slots at) at agree are p.is there).0 refl)
+      apart_of : (at : ℕ) → (e.at == at) ≡ false → e.at ≢ at
+      apart_of at miss same = true≢false (sym (eq-eqb e.at at same) ∙ miss)
 
-      by_test : (b : Bool) → (e.at == at) ≡ b → seen_at w.reads at ≡ read_word at (sets.reads ++ e ∷ [])
-      by_test true hit =
-          let same : e.at ≡ at = eqb-true e.at at hit in
+      by_hit : (at : ℕ) → e.at ≡ at → seen_at w.reads at ≡ read_word at (sets.reads ++ e ∷ [])
+      by_hit at same =
           ap (λ (n : ℕ). seen_at w.reads n) (sym same)
           ∙ (seen ∙ sym (word_push_new sets.reads e at
           (none_read sets.reads at (λ f has is. other f has (is ∙ sym same))) same))
-      by_test false miss =
-          let apart : e.at ≢ at = λ same. true≢false (sym (eq-eqb e.at at same) ∙ miss) in
-          by_side apart (only at (λ same. apart (sym same)) (no_value w e.key k e.at at place there))
+
+      array_side : (k : Key) (at : ℕ) → IsKeyIn (ground w) k at → e.at ≢ at
+          → (seen_at w.reads at ≡ seen_at v.reads at) ⊎ IsBeside w at
+          → seen_at w.reads at ≡ read_word at (sets.reads ++ e ∷ [])
+      array_side k at there apart (inl same) =
+          same ∙ (met_before sets v w k at live more agree there ∙ sym (word_push_old sets.reads e at apart))
+      array_side k at there apart (inr p) = absurd (beside_apart w k at agree trees are (inl there) p)
+
+      by_array : (k : Key) (at : ℕ) → IsKeyIn (ground w) k at → (b : Bool) → (e.at == at) ≡ b
+          → seen_at w.reads at ≡ read_word at (sets.reads ++ e ∷ [])
+      by_array k at there true hit = by_hit at (eqb-true e.at at hit)
+      by_array k at there false miss =
+          array_side k at there (apart_of at miss) (only at (λ same. apart_of at miss (sym same))
+          (any_no_value w e.key k e.at at agree place (inl there)))
+
+      tree_side : (k : Key) (at n : ℕ) → IsTreeKeyIn (ground w) k at
+          → read_word at (sets.reads ++ e ∷ []) ≡ Some n → e.at ≢ at
+          → (seen_at w.reads at ≡ seen_at v.reads at) ⊎ IsBeside w at → seen_at w.reads at ≡ Some n
+      tree_side k at n there read apart (inl same) =
+          same ∙ met_tree sets v w k at n live more agree there (sym (word_push_old sets.reads e at apart) ∙ read)
+      tree_side k at n there read apart (inr p) = absurd (beside_apart w k at agree trees are (inr there) p)
+
+      by_tree : (k : Key) (at n : ℕ) → IsTreeKeyIn (ground w) k at → read_word at (sets.reads ++ e ∷ []) ≡ Some n
+          → (b : Bool) → (e.at == at) ≡ b → seen_at w.reads at ≡ Some n
+      by_tree k at n there read true hit = by_hit at (eqb-true e.at at hit) ∙ read
+      by_tree k at n there read false miss =
+          tree_side k at n there read (apart_of at miss) (only at (λ same. apart_of at miss (sym same))
+          (any_no_value w e.key k e.at at agree place (inr there)))
 
   pub inside_entry : AreInside w
   inside_entry at n found = by_test (e.at == at) refl
     where
-      by_side : (seen_at w.reads at ≡ seen_at v.reads at) ⊎ IsPointersWord w at → StandsIn (ground w) at
+      by_side : (seen_at w.reads at ≡ seen_at v.reads at) ⊎ IsBeside w at → StandsIn (ground w) at
       by_side (inl same) = stands_grown v w at more (live.inside at n (sym same ∙ found))
-      by_side (inr p) = pointer_stands w at are p
+      by_side (inr p) = beside_stands w at are p
 
       by_value : (b : Bool) → (e.at + 1 == at) ≡ b → e.at ≢ at → StandsIn (ground w) at
       by_value true hit apart =
-          subst (λ (m : ℕ). StandsIn (ground w) m) (eqb-true (e.at + 1) at hit) (value_stands w e.key e.at place)
+          subst (λ (m : ℕ). StandsIn (ground w) m) (eqb-true (e.at + 1) at hit) (any_value_stands w e.key e.at place)
       by_value false miss apart =
           by_side (only at (λ same. apart (sym same)) (λ same. true≢false (sym (eq-eqb (e.at + 1) at (sym same)) ∙ miss)))
 
       by_test : (b : Bool) → (e.at == at) ≡ b → StandsIn (ground w) at
       by_test true hit =
-          subst (λ (m : ℕ). StandsIn (ground w) m) (eqb-true e.at at hit) (record_stands w e.key e.at place)
+          subst (λ (m : ℕ). StandsIn (ground w) m) (eqb-true e.at at hit) (any_stands w e.key e.at place)
       by_test false miss = by_value (e.at + 1 == at) refl (λ same. true≢false (sym (eq-eqb e.at at same) ∙ miss))
 
 -- ---- pointers of the set
@@ -217,6 +298,40 @@ points_walked sets v w live keeps p has =
 pub kept_walked : (sets : Sets) (v w : View) → IsLive sets v → ((a : ℕ) → kept_at w.reads a ≡ kept_at v.reads a)
     → ArePointersKept sets.pointers w
 kept_walked sets v w live same p has = same p.at ∙ live.kept p has
+
+-- no more words are kept
+pub only_walked_same : (sets new : Sets) (v w : View) → IsLive sets v → ((a : ℕ) → kept_at w.reads a ≡ kept_at v.reads a)
+    → new.pointers ≡ sets.pointers → new.headers ≡ sets.headers → KeepsOnly new w
+only_walked_same sets new v w live same pointers headers a n is =
+    elim (live.only a n (sym (same a) ∙ is)) [
+      | inl p ↦ inl (subst (λ (l : List Seen). has_word a l ≡ true) (sym pointers) p)
+      | inr h ↦ inr (subst (λ (l : List Seen). has_word a l ≡ true) (sym headers) h)
+    ]
+
+-- ---- headers of the set
+
+-- they stand, where only words of pointers of arrays were met, and each is known as a part as it was
+pub headers_walked : (sets : Sets) (v w : View) → IsLive sets v → KnowsMore v w → WaysAgree w.ways → AreDecls w.layout.decls
+    → OnlyMet v w → ((h : Seen) → Contains sets.headers h → kept_at w.reads h.at ≡ kept_at v.reads h.at)
+    → AreHeaders sets.headers w
+headers_walked sets v w live more agree are only kept =
+    headers_aside sets.headers v w (λ h has.
+    let r = live.parts.headers h has in (head_only v w h r.0 more agree are r.2 (only h.at), kept h has)) live.headers
+
+-- and where a record of an array was read besides
+pub headers_beside : (sets : Sets) (v w : View) (k : Key) (at : ℕ) → IsLive sets v → KnowsMore v w → WaysAgree w.ways
+    → AreDecls w.layout.decls → IsKeyAt w k at
+    → ((a : ℕ) → a ≢ at → a ≢ at + 1 → (seen_at w.reads a ≡ seen_at v.reads a) ⊎ IsPointersWord w a)
+    → ((a : ℕ) → kept_at w.reads a ≡ kept_at v.reads a) → AreHeaders sets.headers w
+headers_beside sets v w k at live more agree are place only kept =
+    headers_aside sets.headers v w (λ h has.
+    let r = live.parts.headers h has in
+    let m = header_grown v w h r.0 more r.2 in (
+      head_only v w h r.0 more agree are r.2 (only h.at
+          (λ same. no_head_key (ground w) h r.0 k agree m (subst (IsKeyAt w k) (sym same) place))
+          (λ same. no_head_value (ground w) h r.0 k at agree m place same)),
+      kept h.at,
+    )) live.headers
 
 -- ---- lists of places with one more
 

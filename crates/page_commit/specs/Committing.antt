@@ -71,12 +71,14 @@ pub record AreChangesOf (writes : List Write) (changes : List Change) : Type 0 w
 abbrev pub touches_of : ℕ → List Change → List Touch
 touches_of q changes = map (λ c. touch q c.key) changes
 
--- The steps of a commit that counts: of each write a load, a compare_exchange, a put and an opening, of each record
--- that was read and each pointer that was met a check, of each slot that is held its leaving, and the draw and the
--- decision. So each lock is tried once, and nothing is waited for.
+-- how many words a commit checks: of each record that was read, each pointer that was met, and each header
+abbrev pub checks_of : Sets → ℕ
+checks_of sets = length sets.reads + (length sets.pointers + length sets.headers)
+
+-- The steps of a commit that counts: of each write a load, a compare_exchange, a put and an opening, the checks, of each
+-- slot that is held its leaving, and the draw and the decision. So each lock is tried once, and nothing is waited for.
 abbrev pub commit_steps : Sets → List Write → ℕ
-commit_steps sets writes =
-    4 * length writes + (length sets.reads + length sets.pointers) + length sets.holds + 2
+commit_steps sets writes = 4 * length writes + checks_of sets + length sets.holds + 2
 
 -- what is written by a commit that keeps the writes, or drops them
 abbrev pub kept_writes : Bool → List Write → List Write
@@ -89,6 +91,7 @@ pub record IsDropped (keep : Bool) (sets new : Sets) : Type 0 where
   pub writes : new.writes ≡ kept_writes keep sets.writes
   pub pointers : new.pointers ≡ sets.pointers
   pub holds : new.holds ≡ sets.holds
+  pub headers : new.headers ≡ sets.headers
 
 -- The transaction is over, and one attempt more counts, which is the last of the pass's own commits. Its parts are just
 -- what was kept, its writes these changes; its number, the one that the call drew, is above each that the pass had
@@ -132,13 +135,15 @@ IsRecordOf reads writes k at =
     ((e : ReadEntry) × Contains reads e × (e.key ≡ k) × (e.at ≡ at))
     ⊎ ((w : Write) × Contains writes w × (w.key ≡ k) × (w.at ≡ at))
 
--- A commit is refused only for a conflict at a record or a pointer of its sets, and has locked keys of its writes
--- alone.
+-- A commit is refused only for a conflict at a record, a pointer or a header of its sets, and has locked keys of its
+-- writes alone.
 abbrev pub RefusesCommit : Sets → List Write → RefusalCause → View → View → Type 0
 RefusesCommit sets writes (refusals.Conflict at expected seen) v w =
     (((k : Key) × IsRecordOf sets.reads writes k at × IsConflictAt sets.reads k at expected seen v w)
-    ⊎ ((has_word at sets.pointers ≡ true) × IsPointerConflict sets.pointers at expected seen v w
-    × (w.blamed ≡ v.blamed)))
+    ⊎ (((has_word at sets.pointers ≡ true) × IsPointerConflict sets.pointers at expected seen v w
+    × (w.blamed ≡ v.blamed))
+    ⊎ ((has_word at sets.headers ≡ true) × IsPointerConflict sets.headers at expected seen v w
+    × (w.blamed ≡ v.blamed))))
     × TookOnly writes v w
 RefusesCommit sets writes (refusals.Full held) v w = ⊥
 RefusesCommit sets writes (refusals.Wide set) v w = ⊥

@@ -44,6 +44,7 @@ lacks_entry reads (places.Zero p) = false
 pub record KeepsRest (sets new : Sets) : Type 0 where
   pub writes : new.writes ≡ sets.writes
   pub holds : new.holds ≡ sets.holds
+  pub headers : new.headers ≡ sets.headers
 
 -- The record that was found is the newest entry, or the pointer under which the key was found is in the set; this is
 -- the value.
@@ -74,6 +75,7 @@ pub record HasValue (k : Key) (value : ℕ) (sets new : Sets) (v w : View) : Typ
   pub pointers : (new.pointers ≡ sets.pointers)
       ⊎ ((p : Seen) × (new.pointers ≡ sets.pointers ++ p ∷ []) × IsWayPlace v.layout k p.at)
   pub writes : new.writes ≡ sets.writes
+  pub headers : new.headers ≡ sets.headers
   pub content : Option ℕ
   pub value_is : value ≡ unwrap_or content 0
   pub vouched : Vouched w.seat.kept k content
@@ -89,6 +91,7 @@ pub record HasBrought (k : Key) (at : ℕ) (sets new : Sets) (v w : View) : Type
   pub reads : new.reads ≡ sets.reads
   pub pointers : new.pointers ≡ sets.pointers
   pub writes : new.writes ≡ sets.writes
+  pub headers : new.headers ≡ sets.headers
   pub place : IsKeyAt w k at
   pub index : (spot_at w.layout.slots at).index ≡ k.key % array_leaf.room
 
@@ -99,3 +102,4 @@ pub record KeepsSets (sets new : Sets) : Type 0 where
   pub reads : new.reads ≡ sets.reads
   pub pointers : new.pointers ≡ sets.pointers
   pub holds : new.holds ≡ sets.holds
+  pub headers : new.headers ≡ sets.headers

@@ -1,4 +1,5 @@
 pub mod Places
+pub mod HeaderParts
 pub mod Live
 pub mod Between
 pub mod Refusing

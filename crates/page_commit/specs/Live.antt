@@ -1,5 +1,5 @@
 -- A transaction and its pass: what the sets have, and what the view knows of it.
-use Rattle.std.specs.Prelude.{◌≡◌, ◌⊎◌, ℕ, ◌<◌, ◌^◌, ◌==◌, Bool, true, false, is_some, Some, Option}
+use Rattle.std.specs.Prelude.{◌≡◌, ◌⊎◌, ℕ, ◌+◌, ◌<◌, ◌^◌, ◌==◌, Bool, true, false, is_some, Some, Option}
 use Rattle.std.specs.Prelude.{List, [], unwrap_or, Contains, map}
 use Rattle.std.specs.List.{AllByRecursion, find, list_any}
 use Rattle.std.specs.Option.{option_map}
@@ -9,6 +9,7 @@ use Rattle.homes.specs.declared.places.Content.{Content}
 use Rattle.homes.specs.declared.places.Span.{Span}
 use Rattle.homes.specs.Homes.{in_span}
 use Rattle.serial_model.specs.declared.key.Key.{Key}
+use Rattle.wire_form.specs.Leaves.{tree_leaf}
 use Rattle.commit_core.specs.declared.part.Part.{Part}
 use Rattle.commit_core.specs.declared.seat.Stage.TheVariants.{Idle}
 use Rattle.commit_core.specs.Parts.{covers, found, record_part, same_word}
@@ -17,8 +18,10 @@ use Rattle.tx_sets.specs.declared.reads.ReadEntry.{ReadEntry}
 use Rattle.tx_sets.specs.declared.seen.Seen.{Seen}
 use Rattle.tx_sets.specs.declared.sets.Sets.{Sets}
 use Rattle.tx_sets.specs.declared.writes.Write.{Write}
-use Rattle.tx_sets.specs.Entries.{places_of, writes_at}
+use Rattle.tx_sets.specs.Entries.{has_word, places_of, writes_at}
+use Rattle.engine_pages.specs.Agreement.{TreesAgree}
 use Rattle.engine_pages.specs.declared.view.Role.TheVariants.{Worker}
+use Rattle.engine_pages.specs.declared.view.Inner.{Inner}
 use Rattle.engine_pages.specs.declared.view.View.{View}
 use Rattle.engine_pages.specs.declared.view.Way.{Way}
 use Rattle.engine_pages.specs.Views.{IsResting}
@@ -26,9 +29,11 @@ use Rattle.engine_pages.specs.Steps.{kept_at, seen_at}
 use Rattle.page_records.specs.Ends.{worker_of}
 use Rattle.dual_pointer.specs.Parts.{content_below, IsPointerPart}
 pub use Rattle.array_pages.specs.Finding.{IsWordFor}
-use Rattle.page_commit.specs.Places.{ground, pointer_at, slot_of, spot_at, Ground, IsKeyAt, IsKeyIn, IsPointerIn}
+use Rattle.page_commit.specs.HeaderParts.{AreHeaders, IsMetHeader}
+use Rattle.page_commit.specs.Places.{ground, pointer_at, slot_of, spot_at, word_of, Ground, IsKeyIn}
+use Rattle.page_commit.specs.Places.{IsPointerIn, IsTreeKeyIn}
 use Rattle.engine_pages.specs.Layout.{words_of}
-use Rattle.engine_pages.specs.Pages.{is_array}
+use Rattle.engine_pages.specs.Pages.{is_array, is_tree}
 use Rattle.engine_pages.specs.Pointers.{StandsFor, WaysAgree}
 
 -- ---- records that were read, by the places of their words
@@ -69,15 +74,18 @@ pub record IsMetPointer (v : View) (p : Seen) (part : Part) : Type 0 where
   pub all : (k : Key) → in_span span k ≡ true → covers part k ≡ true
   pub says : (k : Key) → in_span span k ≡ true → found part k ≡ content_below v.pages span p.word k
 
--- Each part is of an entry, and each entry has its part; so who checks the words of the sets checks all parts. Each
--- part is of another word.
+-- Each part is of an entry, of a pointer or of a header, and each of these has its part; so who checks the words of the
+-- sets checks all parts. Each part is of another word.
 pub record AreParts (sets : Sets) (v : View) (kept : List Part) : Type 0 where
   pub known : (part : Part) → Contains kept part
       → ((e : ReadEntry) × Contains sets.reads e × IsReadPart (ground v) e part)
-      ⊎ ((p : Seen) × Contains sets.pointers p × IsMetPointer v p part)
+      ⊎ (((p : Seen) × Contains sets.pointers p × IsMetPointer v p part)
+      ⊎ ((h : Seen) × Contains sets.headers h × IsMetHeader (ground v) h part))
   pub reads : (e : ReadEntry) → Contains sets.reads e
       → (part : Part) × Contains kept part × IsReadPart (ground v) e part
   pub pointers : (p : Seen) → Contains sets.pointers p → (part : Part) × Contains kept part × IsMetPointer v p part
+  pub headers : (h : Seen) → Contains sets.headers h
+      → (part : Part) × Contains kept part × IsMetHeader (ground v) h part
   pub once : (a b : Part) → Contains kept a → Contains kept b → same_word a.word b.word ≡ true → a ≡ b
 
 -- a value is written at the key of an array, whose record's word stands there, in a page that is held
@@ -87,10 +95,13 @@ pub record IsWriteOf (g : Ground) (w : Write) : Type 0 where
 
 -- ---- what was met
 
--- Of a record that is none of these the transaction saw last what it read, and nothing where it wasn't read.
-abbrev pub AreMet : List ReadEntry → List Write → View → Type 0
-AreMet reads ws v = (k : Key) (at : ℕ) → IsKeyAt v k at → writes_at at ws ≡ false
-    → seen_at v.reads at ≡ read_word at reads
+-- Of a record that isn't to be written the transaction saw last what it read. Of an array's it saw nothing where it
+-- wasn't read; the word of a tree's may be known as it was left behind an own lock.
+pub record AreMet (reads : List ReadEntry) (ws : List Write) (v : View) : Type 0 where
+  pub arrays : (k : Key) (at : ℕ) → IsKeyIn (ground v) k at → writes_at at ws ≡ false
+      → seen_at v.reads at ≡ read_word at reads
+  pub trees : (k : Key) (at n : ℕ) → IsTreeKeyIn (ground v) k at → writes_at at ws ≡ false
+      → read_word at reads ≡ Some n → seen_at v.reads at ≡ Some n
 
 -- each pointer of the set was last seen as the set has it
 abbrev pub ArePointersMet : List Seen → View → Type 0
@@ -100,9 +111,30 @@ ArePointersMet pointers v = (p : Seen) → Contains pointers p → seen_at v.rea
 abbrev pub ArePointersKept : List Seen → View → Type 0
 ArePointersKept pointers v = (p : Seen) → Contains pointers p → kept_at v.reads p.at ≡ Some p.word
 
--- the word is a root's, or stands in the page of a slot that the pass holds
+-- No words are kept as parts but those of the pointers and the headers of the sets.
+abbrev pub KeepsOnly : Sets → View → Type 0
+KeepsOnly sets v = (at n : ℕ) → kept_at v.reads at ≡ Some n
+    → (has_word at sets.pointers ≡ true) ⊎ (has_word at sets.headers ≡ true)
+
+-- In the page of a tree the word stands before the records of a leaf, or in an interior page; or it is of a record whose
+-- key is known, or its value.
+abbrev pub IsTreeWordIn : Ground → Way → ℕ → Type 0
+IsTreeWordIn g way at = (word_of g.layout.slots at < tree_leaf.first)
+    ⊎ (((x : Inner) × Contains g.inners x × (x.slot ≡ way.slot))
+    ⊎ ((k : Key) × (other : ℕ) × IsTreeKeyIn g k other × ((at ≡ other) ⊎ (at ≡ other + 1))))
+
+-- the word is a root's, or stands in the page of a slot that the pass holds, of an array, or so of a tree
 abbrev pub StandsIn : Ground → ℕ → Type 0
-StandsIn g at = (at < 32) ⊎ ((way : Way) × Contains g.ways way × (slot_of g.layout.slots at ≡ way.slot))
+StandsIn g at = (at < 32)
+    ⊎ ((way : Way) × Contains g.ways way × (slot_of g.layout.slots at ≡ way.slot)
+    × ((is_array g.layout.decls way.span.storage ≡ true) ⊎ IsTreeWordIn g way at))
+
+-- The word is a root's, or stands in the page of a tree: before the records of a leaf, or in an interior page.
+abbrev pub IsHeadIn : Ground → ℕ → Type 0
+IsHeadIn g at = (at < 32)
+    ⊎ ((way : Way) × Contains g.ways way × (slot_of g.layout.slots at ≡ way.slot)
+    × (is_tree g.layout.decls way.span.storage ≡ true)
+    × ((word_of g.layout.slots at < tree_leaf.first) ⊎ ((x : Inner) × Contains g.inners x × (x.slot ≡ way.slot))))
 
 -- what was met stands where the pass knows of it
 abbrev pub AreInside : View → Type 0
@@ -136,6 +168,7 @@ pub record IsLive (sets : Sets) (v : View) : Type 0 where
   pub stage : v.seat.stage ≡ Idle
   pub gone : v.gone ≡ []
   pub agree : WaysAgree v.ways
+  pub trees : TreesAgree v
   pub holds : HasHolds sets.holds v
   pub parts : AreParts sets v v.seat.kept
   pub places : AreDistinct (entry_places sets.reads)
@@ -144,6 +177,8 @@ pub record IsLive (sets : Sets) (v : View) : Type 0 where
   pub met : AreMet sets.reads [] v
   pub points : ArePointersMet sets.pointers v
   pub kept : ArePointersKept sets.pointers v
+  pub headers : AreHeaders sets.headers v
+  pub only : KeepsOnly sets v
   pub inside : AreInside v
 
 -- The pass of a worker without a transaction: it holds no slot, and each that it was given leads on or was given up.
@@ -154,4 +189,5 @@ pub record IsOver (v : View) : Type 0 where
   pub took : v.took ≡ []
   pub seat : IsResting v.seat
   pub agree : WaysAgree v.ways
+  pub trees : TreesAgree v
   pub holds : HasHolds [] v

@@ -1,25 +1,32 @@
 -- Where the words of records and pointers stand, as a transaction finds them.
 use Rattle.std.specs.Prelude.{◌≡◌, ◌⊎◌, ℕ, ◌+◌, ◌-◌, ◌/◌, ◌%◌, ◌<◌, true, false, List, Contains, length, cond, nat_lt}
+use Rattle.std.specs.Prelude.{Some, slice_get}
 use Rattle.serial_model.specs.declared.key.Key.{Key}
 use Rattle.homes.specs.declared.places.At.{At}
 use Rattle.homes.specs.declared.places.At.TheVariants.{Root, In}
 use Rattle.homes.specs.declared.places.Span.{Span}
 use Rattle.homes.specs.declared.places.Spot.{Spot}
+use Rattle.homes.specs.Homes.{in_span}
+use Rattle.wire_form.specs.Leaves.{tree_leaf, word_in}
 use Rattle.engine_pages.specs.declared.layout.Layout.{Layout}
+use Rattle.engine_pages.specs.declared.view.Inner.{Inner}
+use Rattle.engine_pages.specs.declared.view.Known.{Known}
 use Rattle.engine_pages.specs.declared.view.View.{View}
 use Rattle.engine_pages.specs.declared.view.Way.{Way}
 use Rattle.engine_pages.specs.Layout.{page_at, root_at, slots_at}
 use Rattle.engine_pages.specs.Records.{IsRecordIn}
-use Rattle.engine_pages.specs.Pages.{child_span, is_array, is_leaf_span, root_span}
+use Rattle.engine_pages.specs.Pages.{child_span, is_array, is_leaf_span, is_tree, root_span}
 
 -- What a pass knows of where words stand in the pages that it holds: it stays until the pass leaves a slot.
 pub record Ground : Type 0 where
   pub layout : Layout
   pub ways : List Way
+  pub known : List Known
+  pub inners : List Inner
 
 -- that of a view
 abbrev pub ground : View → Ground
-ground v = record { layout = v.layout; ways = v.ways }
+ground v = record { layout = v.layout; ways = v.ways; known = v.known; inners = v.inners }
 
 -- the slot in whose page the word with this place stands, where there are so many slots
 abbrev pub slot_of : ℕ → ℕ → ℕ
@@ -29,9 +36,17 @@ slot_of slots at = (at - (32 + slots)) / 64
 abbrev pub word_of : ℕ → ℕ → ℕ
 word_of slots at = (at - (32 + slots)) % 64
 
--- the place of the record whose word stands here
+-- the place of the record of an array whose word stands here
 abbrev pub spot_at : ℕ → ℕ → Spot
 spot_at slots at = record { slot = slot_of slots at; index = word_of slots at / 2 }
+
+-- and that of a tree
+abbrev pub tree_spot : ℕ → ℕ → Spot
+tree_spot slots at = record { slot = slot_of slots at; index = (word_of slots at - 17) / 3 }
+
+-- the place of the key's record whose word stands here, by the kind of its storage
+abbrev pub spot_for : Layout → Key → ℕ → Spot
+spot_for l k at = cond (is_array l.decls k.storage) (spot_at l.slots at) (tree_spot l.slots at)
 
 -- the place of the pointer whose word stands here
 abbrev pub pointer_at : ℕ → ℕ → At
@@ -45,6 +60,27 @@ IsKeyIn g k at = IsRecordIn g.layout.decls g.layout.slots g.ways k (spot_at g.la
 -- the record's word of the key stands here, in a page that the pass holds
 abbrev pub IsKeyAt : View → Key → ℕ → Type 0
 IsKeyAt v k at = IsKeyIn (ground v) k at
+
+-- The record's word of the key stands here, in the leaf of a tree to which a way is known, over keys that the key is one
+-- of, and of which the key is known.
+pub record IsTreeKeyIn (g : Ground) (k : Key) (at : ℕ) : Type 0 where
+  pub way : Way
+  pub has : Contains g.ways way
+  pub slot : way.slot ≡ slot_of g.layout.slots at
+  pub leaf : Known
+  pub knows : Contains g.known leaf
+  pub same : leaf.slot ≡ slot_of g.layout.slots at
+  pub there : slot_of g.layout.slots at < g.layout.slots
+  pub index : (tree_spot g.layout.slots at).index < tree_leaf.room
+  pub kind : is_tree g.layout.decls k.storage ≡ true
+  pub key : slice_get leaf.keys (tree_spot g.layout.slots at).index ≡ Some k
+  pub word : at ≡ page_at g.layout.slots (slot_of g.layout.slots at)
+      (word_in tree_leaf (tree_spot g.layout.slots at).index)
+  pub over : in_span way.span k ≡ true
+
+-- the record's word of the key stands here, in the leaf of an array or of a tree
+abbrev pub IsAnyKeyIn : Ground → Key → ℕ → Type 0
+IsAnyKeyIn g k at = IsKeyIn g k at ⊎ IsTreeKeyIn g k at
 
 -- The word is that of a storage's root.
 pub record IsRootIn (g : Ground) (sp : Span) (at : ℕ) : Type 0 where

@@ -80,9 +80,9 @@ pub record IsConflictAt (reads : List ReadEntry) (k : Key) (at expected seen : �
   pub conflict : IsConflict reads at expected seen v w
   pub blamed : w.blamed ≡ v.blamed ++ touch (seat_number v.role) k ∷ []
 
--- The last load or compare_exchange is one of this call, of the word of a pointer, and found it shut or not the
--- expected one. That is the pointer set's word, and where the set has none, what the transaction saw there before
--- this step.
+-- The last load or compare_exchange is one of this call, of the word of a pointer or a header, and found it shut or not
+-- the expected one. That is the word of the set of pointers or headers, and where the set has none, what the transaction
+-- saw there before this step.
 pub record IsPointerConflict (pointers : List Seen) (at expected seen : ℕ) (v w : View) : Type 0 where
   pub step : ℕ
   pub last : w.last ≡ Some (glance step at seen)

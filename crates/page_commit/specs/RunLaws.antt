@@ -46,7 +46,7 @@ turns_later : (decls : List Decl) (parts later : List Part) (own : List Change) 
     → Turns decls parts own op turn → Turns decls later own op turn
 turns_later decls parts later own (Read k) turn keeps t = (t.0, sees_later parts later own k t.0 keeps t.1, t.2)
 turns_later decls parts later own (Write k v) turn keeps t = t
-turns_later decls parts later own (Remove k) turn keeps t = t
+turns_later decls parts later own (Remove k) turn keeps t = (t.0, sees_later parts later own k t.0 keeps t.1, t.2)
 turns_later decls parts later own (Add k v) turn keeps t = (t.0, sees_later parts later own k t.0 keeps t.1, t.2)
 turns_later decls parts later own (Take k v) turn keeps t = (t.0, sees_later parts later own k t.0 keeps t.1, t.2)
 turns_later decls parts later own (Scan storage low high) turn keeps t =
@@ -175,7 +175,7 @@ commits_run e sets v w r done c =
       number = sym c.numbered;
       own = r.own;
       runs = subst (λ l. Runs v.layout.decls l e.ops [] (finished e.verdict e.replies r.own)) parts runs;
-      writes = λ k. inl (ap (written k) c.writes ∙ (changes_written sets.writes k ∙ sym (r.writes k)));
+      writes = λ k. ap (written k) c.writes ∙ (changes_written sets.writes k ∙ sym (r.writes k));
     }
 
 -- the commit of a transaction that an operation ended
@@ -184,5 +184,5 @@ commits_end e v w r c = record {
   number = sym c.numbered;
   own = [];
   runs = subst (λ l. Runs v.layout.decls l e.ops [] (finished e.verdict e.replies [])) (sym c.parts) r.runs;
-  writes = λ k. inl (ap (written k) c.writes);
+  writes = λ k. ap (written k) c.writes;
 }

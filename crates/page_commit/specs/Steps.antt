@@ -1,6 +1,6 @@
 -- What the parts of an operation and of a commit do.
-use Rattle.std.specs.Prelude.{◌≡◌, ◌≢◌, ◌⊎◌, ℕ, ◌^◌, ◌<◌, ◌≤◌, true, false, List, [], ◌∷◌, ◌++◌, map}
-use Rattle.std.specs.Prelude.{length, slice_get, Option, Some, unwrap_or, Contains, take, ⊤}
+use Rattle.std.specs.Prelude.{◌≡◌, ◌≢◌, ◌⊎◌, ℕ, ◌/◌, ◌%◌, ◌^◌, ◌<◌, ◌≤◌, true, false, List, [], ◌∷◌, ◌++◌, map}
+use Rattle.std.specs.Prelude.{length, slice_get, Option, Some, None, unwrap_or, Contains, take, ⊤}
 use Rattle.std.specs.List.{AllByRecursion}
 use Rattle.serial_model.specs.declared.key.Key.{Key}
 use Rattle.homes.specs.declared.places.Span.{Span}
@@ -16,6 +16,7 @@ use Rattle.tx_sets.specs.declared.seen.Seen.{Seen}
 use Rattle.tx_sets.specs.declared.sets.Sets.{Sets}
 use Rattle.tx_sets.specs.declared.writes.Write.{Write}
 use Rattle.tx_sets.specs.Entries.{has_word, writes_at}
+use Rattle.engine_pages.specs.Agreement.{TreesAgree}
 use Rattle.engine_pages.specs.declared.view.Glance.{Glance}
 use Rattle.engine_pages.specs.declared.view.Inner.{Inner}
 use Rattle.engine_pages.specs.declared.view.Known.{Known}
@@ -34,15 +35,16 @@ use Rattle.engine_pages.specs.Layout.{slot_at}
 use Rattle.engine_pages.specs.Steps.{glance}
 use Rattle.engine_pages.specs.Views.{IsResting, seat_number}
 use Rattle.page_records.specs.Attempts.{CanDecide}
-use Rattle.page_records.specs.Ends.{worker_of}
+use Rattle.page_records.specs.Ends.{worker_of, IsLeafWordAt, IsTreeWordAt}
 use Rattle.page_records.specs.Locks.{took_at}
 use Rattle.engine_pages.specs.Touches.{touch}
-use Rattle.engine_pages.specs.Steps.{seen_at}
-use Rattle.page_commit.specs.Places.{ground, pointer_at, spot_at, IsKeyAt, IsPointerIn}
+use Rattle.engine_pages.specs.Steps.{kept_at, seen_at}
+use Rattle.page_commit.specs.Places.{ground, pointer_at, slot_of, spot_at, IsKeyAt, IsPointerIn}
 use Rattle.engine_pages.specs.Pointers.{WaysAgree}
 use Rattle.page_commit.specs.Live.{read_word, reads_at, AreMet, AreParts, ArePointersMet, HasHolds, IsWriteOf}
 use Rattle.page_commit.specs.Live.{IsLive}
 use Rattle.page_commit.specs.Committing.{changes_of, touches_of}
+use Rattle.page_commit.specs.HeaderParts.{AreHeaders, HasCheckedHeads}
 use Rattle.page_commit.specs.Refusing.{IsConflict, IsPointerConflict}
 
 -- ---- locks
@@ -57,13 +59,14 @@ tooks_of slots [] found = []
 tooks_of slots (w ∷ writes) [] = []
 tooks_of slots (w ∷ writes) (n ∷ found) = took_at w.key (spot_at slots w.at) n ∷ tooks_of slots writes found
 
--- some loads more, and nothing else of the pass has changed
+-- some loads more, and nothing else of the pass has changed, nor what is kept of words as parts
 pub record HasGlanced (v w : View) : Type 0 where
   pub steps : ℕ
   pub since : v.steps ≤ steps
   pub last : Option Glance
   pub loaded : Option Loaded
   pub reads : List Read
+  pub kept : (at : ℕ) → kept_at reads at ≡ kept_at v.reads at
   pub is : w ≡ record v { steps = steps; last = last; loaded = loaded; reads = reads }
 
 -- a worker's pass that has no locks, and no attempt
@@ -85,6 +88,7 @@ pub record HasTaken (k : Key) (at word : ℕ) (v w : View) : Type 0 where
   pub loaded : Option Loaded
   pub reads : List Read
   pub others : (other : ℕ) → at ≢ other → seen_at reads other ≡ seen_at v.reads other
+  pub kept : (a : ℕ) → kept_at reads a ≡ kept_at v.reads a
   pub is : w ≡ record v {
     seat = record v.seat { locks = v.seat.locks ++ k ∷ [] };
     took = v.took ++ took_at k (spot_at v.layout.slots at) word ∷ [];
@@ -109,6 +113,7 @@ pub record HasLocked (writes : List Write) (found : List ℕ) (v w : View) : Typ
   pub last : Option Glance
   pub loaded : Option Loaded
   pub reads : List Read
+  pub kept : (at : ℕ) → kept_at reads at ≡ kept_at v.reads at
   pub is : w ≡ record v {
     seat = record v.seat { locks = keys_of writes };
     took = tooks_of v.layout.slots writes found;
@@ -179,6 +184,7 @@ pub record HasLeft (v w : View) : Type 0 where
   pub shuts : List Shut
   pub gone : List ℕ
   pub agree : WaysAgree v.ways → WaysAgree ways
+  pub trees : TreesAgree v → TreesAgree w
   pub is : w ≡ record v {
     steps = steps;
     grip = record v.grip { holds = [] };
@@ -200,12 +206,14 @@ pub record CanRefuse (slots : List ℕ) (v : View) : Type 0 where
   pub took : v.took ≡ []
   pub stage : v.seat.stage ≡ Idle
 
--- of a conflict at a record the key is told, and nothing else: none at a pointer, and none at a slot
+-- Of a conflict at a record of an array the key is told, and nothing else: none at a pointer, at a slot, or at a word of
+-- a tree.
 abbrev pub TellsOf : RefusalCause → List Touch → View → Type 0
 TellsOf (refusals.Conflict at expected seen) met v =
     ((k : Key) → IsKeyAt v k at → met ≡ touch (seat_number v.role) k ∷ [])
     × ((sp : Span) → IsPointerIn (ground v) sp at → met ≡ [])
     × ((t : ℕ) → t < v.layout.slots → at ≡ slot_at t → met ≡ [])
+    × ((t i : ℕ) → IsTreeWordAt v t i at → met ≡ [])
 TellsOf (refusals.Full held) met v = met ≡ []
 TellsOf (refusals.Wide set) met v = met ≡ []
 TellsOf (refusals.NumberLimit clock) met v = met ≡ []
@@ -259,9 +267,24 @@ pub record MetPointer (at expected seen : ℕ) (v : View) : Type 0 where
   pub known : (expected ≡ unwrap_or was seen) ⊎ (kept ≡ Some expected)
   pub cause : (2 ^ 60 ≤ seen) ⊎ (seen ≢ expected)
 
--- the pass met a record or a pointer so
+-- The pass met this word last, at a known leaf's header or record, and has no header locked: it is locked, or not the
+-- expected one.
+pub record MetTree (t i at expected seen : ℕ) (v : View) : Type 0 where
+  pub place : IsLeafWordAt v t i at
+  pub unheld : v.heads ≡ []
+  pub step : ℕ
+  pub last : v.last ≡ Some (glance step at seen)
+  pub was : Option ℕ
+  pub kept : Option ℕ
+  pub stands : Contains v.reads (record { word = at; seen = seen; was = was; kept = kept })
+  pub known : (kept ≡ Some expected) ⊎ ((kept ≡ None) × (expected ≡ unwrap_or was seen))
+  pub cause : ((seen / 2 ^ 60) % 2 ≡ 1) ⊎ (seen ≢ expected)
+
+-- the pass met a record or a pointer of an array so, or a word of a tree's leaf
 abbrev pub HasMet : ℕ → ℕ → ℕ → View → Type 0
-HasMet at expected seen v = ((k : Key) × MetRecord k at expected seen v) ⊎ MetPointer at expected seen v
+HasMet at expected seen v =
+    ((k : Key) × MetRecord k at expected seen v)
+    ⊎ (MetPointer at expected seen v ⊎ ((t : ℕ) × (i : ℕ) × MetTree t i at expected seen v))
 
 -- ---- checks
 
@@ -274,7 +297,9 @@ pub record HasTried (sets : Sets) (v : View) : Type 0 where
   pub stage : v.seat.stage ≡ Trying index
   pub at : slice_get v.history index ≡ Some attempt
   pub gone : v.gone ≡ []
+  pub unheld : v.heads ≡ []
   pub agree : WaysAgree v.ways
+  pub trees : TreesAgree v
   pub parts : AreParts sets v attempt.parts
   pub checked : v.checked ≡ []
   pub places : AllByRecursion (IsWriteOf (ground v)) sets.writes
@@ -284,6 +309,7 @@ pub record HasTried (sets : Sets) (v : View) : Type 0 where
   pub read : AreAsRead sets.reads sets.writes found
   pub met : AreMet sets.reads sets.writes v
   pub points : ArePointersMet sets.pointers v
+  pub heads : AreHeaders sets.headers v
 
 -- the words of these records
 abbrev pub entry_words : ℕ → List ReadEntry → List Word
@@ -294,7 +320,7 @@ abbrev pub pointer_words : ℕ → List Seen → List Word
 pointer_words slots pointers = map (λ p. Pointer (pointer_at slots p.at)) pointers
 
 -- So many of the first records that were read are checked, and of the first pointers that were met; nothing else of the
--- pass has changed but by loads, and what is known of other words is as it was.
+-- pass has changed but by loads, and what is known of other words, and kept of all, is as it was.
 pub record HasCheckedSome (sets : Sets) (n m : ℕ) (v w : View) : Type 0 where
   pub steps : ℕ
   pub since : v.steps ≤ steps
@@ -303,6 +329,7 @@ pub record HasCheckedSome (sets : Sets) (n m : ℕ) (v w : View) : Type 0 where
   pub reads : List Read
   pub aside : (at : ℕ) → reads_at at (take n sets.reads) ≡ false → has_word at (take m sets.pointers) ≡ false
       → seen_at reads at ≡ seen_at v.reads at
+  pub kept : (at : ℕ) → kept_at reads at ≡ kept_at v.reads at
   pub is : w ≡ record v {
     checked = entry_words v.layout.slots (take n sets.reads) ++ pointer_words v.layout.slots (take m sets.pointers);
     steps = steps;
@@ -310,6 +337,12 @@ pub record HasCheckedSome (sets : Sets) (n m : ℕ) (v w : View) : Type 0 where
     loaded = loaded;
     reads = reads;
   }
+
+-- all records and pointers are checked, and so many headers
+pub record HasCheckedAll (sets : Sets) (n : ℕ) (v w : View) : Type 0 where
+  pub behind : View
+  pub some : HasCheckedSome sets (length sets.reads) (length sets.pointers) v behind
+  pub heads : HasCheckedHeads sets.headers n behind w
 
 -- all parts are checked, and nothing else of the pass has changed but by loads
 pub record HasChecked (v w : View) : Type 0 where
@@ -339,13 +372,15 @@ pub record HasFailed (v w : View) : Type 0 where
     reads = reads;
   }
 
--- a check failed at a record or a pointer of the sets, whose word stands here
+-- a check failed at a record, a pointer or a header of the sets, whose word stands here
 abbrev pub CheckConflict : Sets → ℕ → ℕ → ℕ → View → View → Type 0
 CheckConflict sets at expected seen v w =
     ((e : ReadEntry) × Contains sets.reads e × (e.at ≡ at) × IsConflict sets.reads at expected seen v w
     × MetRecord e.key at expected seen w)
-    ⊎ ((has_word at sets.pointers ≡ true) × IsPointerConflict sets.pointers at expected seen v w
+    ⊎ (((has_word at sets.pointers ≡ true) × IsPointerConflict sets.pointers at expected seen v w
     × MetPointer at expected seen w)
+    ⊎ ((has_word at sets.headers ≡ true) × IsPointerConflict sets.headers at expected seen v w
+    × MetTree (slot_of v.layout.slots at) 0 at expected seen w))
 
 -- ---- after the decision
 

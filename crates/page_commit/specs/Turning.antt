@@ -19,6 +19,10 @@ use Rattle.tx_sets.specs.declared.sets.Sets.{Sets}
 use Rattle.tx_sets.specs.declared.writes.Write.{Write}
 use Rattle.tx_sets.specs.Entries.{has_write, read_of, value_of}
 use Rattle.engine_pages.specs.declared.layout.Layout.{Layout}
+use Rattle.engine_pages.specs.declared.view.Inner.{Inner}
+use Rattle.engine_pages.specs.declared.view.Known.{Known}
+use Rattle.engine_pages.specs.declared.view.Moved.{Moved}
+use Rattle.engine_pages.specs.declared.view.Version.{Version}
 use Rattle.engine_pages.specs.declared.view.View.{View}
 use Rattle.engine_pages.specs.declared.view.Way.{Way}
 use Rattle.homes.specs.Homes.{in_span}
@@ -80,20 +84,28 @@ as_walked v w = record v {
   reads = w.reads;
   grip = record v.grip { holds = w.grip.holds };
   ways = w.ways;
+  known = w.known;
+  moved = w.moved;
+  inners = w.inners;
+  versions = w.versions;
   pages = w.pages;
   leads = w.leads;
   looked = w.looked;
 }
 
 -- Words were loaded and slots entered, with draws and decisions that were seen, and pages may have been made; parts
--- may have joined, each of which had the last decided writes of its keys at one of these loads. Ways that were known
--- are known still, and all else that the pass knows is as it was.
+-- may have joined, each of which had the last decided writes of its keys at one of these loads. What was known of pages
+-- is known still, and all else that the pass knows is as it was.
 pub record OnlyWalked (v w : View) : Type 0 where
   pub drawn : IsFront v.history w.history
   pub seen : IsFront v.decided w.decided
   pub since : v.steps ≤ w.steps
   pub parts : (part : Part) → Contains w.seat.kept part → Contains v.seat.kept part ⊎ IsLastBetween v w part
   pub ways : (x : Way) → Contains v.ways x → Contains w.ways x
+  pub known : (x : Known) → Contains v.known x → Contains w.known x
+  pub moved : (x : Moved) → Contains v.moved x → Contains w.moved x
+  pub inners : (x : Inner) → Contains v.inners x → Contains w.inners x
+  pub versions : (x : Version) → Contains v.versions x → Contains w.versions x
   pub is : w ≡ as_walked v w
 
 -- What a read answers: what the transaction wrote at the key last; else what it first read there; else what this call
@@ -132,6 +144,7 @@ pub record HasDone (op : Op) (reply : Option Reply) (sets new : Sets) (v w : Vie
   pub held : HoldsWaysOf op sets.holds new.holds w
   pub reads : ReadsOnly op sets.reads new.reads
   pub pointers : MeetsOnly v.layout op sets.pointers new.pointers
+  pub headers : new.headers ≡ sets.headers
   pub joined : PartsOnly op v.seat.kept w.seat.kept
   pub writes : WritesOnly op sets.writes new.writes
   pub grows : length new.writes ≤ length sets.writes + 1
@@ -148,6 +161,7 @@ pub record HasStopped (op : Op) (verdict : Verdict) (sets new : Sets) (v w : Vie
   pub held : HoldsWaysOf op sets.holds new.holds w
   pub reads : ReadsOnly op sets.reads new.reads
   pub pointers : MeetsOnly v.layout op sets.pointers new.pointers
+  pub headers : new.headers ≡ sets.headers
   pub joined : PartsOnly op v.seat.kept w.seat.kept
   pub writes : WritesOnly op sets.writes new.writes
   pub grows : length new.writes ≤ length sets.writes + 1

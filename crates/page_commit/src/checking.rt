@@ -6,17 +6,20 @@ ghost use Rattle.engine_pages.specs.declared.view.View.{View as TheView};
 ghost use Rattle.engine_pages.specs.Passes.{view, IsPassOf};
 ghost use Rattle.engine_pages.specs.Views.{IsActive};
 ghost use Rattle.page_records.specs.Attempts.{is_as_seen};
+ghost use Rattle.page_commit.specs.Committing.{checks_of};
 ghost use Rattle.page_commit.specs.Live.{entry_places};
 ghost use Rattle.page_commit.specs.Steps.{HasTried, HasChecked, HasCheckedSome, HasFailed, CheckConflict};
 
 use crate::locking::Conflict;
-use crate::places::{place_of, spot_of};
+use crate::places::{place_of, slot_of, spot_of};
 use engine_pages::{Engine, Pass};
 use page_records::{LOCK, check};
 use pointer_checks::check_pointer;
+use tree_heads::check_header;
 use tx_sets::{ReadEntry, Seen, Sets};
 
-/// Checks what was read: first the records, then the pointers, up to the first that is not as it was.
+/// Checks what was read: first the records, then the pointers, then the headers, up to the first that is not as it
+/// was.
 pub(crate) fn check_all(engine: &Engine, pass: &mut Pass, sets: &Sets) -> Result<(), Conflict>
     requires of { IsPassOf engine.now pass.old }
     requires pass { IsActive (view pass.old).role }
@@ -25,18 +28,45 @@ pub(crate) fn check_all(engine: &Engine, pass: &mut Pass, sets: &Sets) -> Result
     ensures of { IsPassOf engine.now pass.new }
     ensures checked { OnOk result (HasChecked (view pass.old) (view pass.new)) }
     ensures steps { OnOk result ((view pass.new).steps
-        ≡ (view pass.old).steps + (length sets.now.reads + length sets.now.pointers)) }
+        ≡ (view pass.old).steps + checks_of sets.now) }
     ensures most { OnErr result ((view pass.new).steps
-        ≤ (view pass.old).steps + (length sets.now.reads + length sets.now.pointers)) }
+        ≤ (view pass.old).steps + checks_of sets.now) }
     ensures failed { OnErr result (HasFailed (view pass.old) (view pass.new)) }
     ensures apart { IfErr result (λ e. writes_at e.word sets.now.writes ≡ false) }
     ensures conflict { IfErr result (λ e.
         CheckConflict sets.now e.word e.expected e.seen (view pass.old) (view pass.new)) }
 {
     let reads = sets.reads.as_slice();
-    let pointers = sets.pointers.as_slice();
     match check_records(engine, pass, sets, reads) {
-        Ok(()) => check_pointers(engine, pass, sets, pointers),
+        Ok(()) => check_rest(engine, pass, sets),
+        Err(conflict) => Err(conflict),
+    }
+}
+
+// Checks the pointers that were met and then the headers, behind the records.
+fn check_rest(engine: &Engine, pass: &mut Pass, sets: &Sets) -> Result<(), Conflict>
+    requires of { IsPassOf engine.now pass.old }
+    requires pass { IsActive (view pass.old).role }
+    requires so { (v : TheView) × HasTried sets.now v
+        × HasCheckedSome sets.now (length sets.now.reads) 0 v (view pass.old) }
+    ensures of { IsPassOf engine.now pass.new }
+    ensures checked { OnOk result ((v : TheView) → HasTried sets.now v
+        → HasCheckedSome sets.now (length sets.now.reads) 0 v (view pass.old) → HasChecked v (view pass.new)) }
+    ensures steps { OnOk result ((view pass.new).steps
+        ≡ (view pass.old).steps + (length sets.now.pointers + length sets.now.headers)) }
+    ensures most { OnErr result ((view pass.new).steps
+        ≤ (view pass.old).steps + (length sets.now.pointers + length sets.now.headers)) }
+    ensures failed { OnErr result ((v : TheView) → HasTried sets.now v
+        → HasCheckedSome sets.now (length sets.now.reads) 0 v (view pass.old) → HasFailed v (view pass.new)) }
+    ensures apart { IfErr result (λ e. writes_at e.word sets.now.writes ≡ false) }
+    ensures conflict { IfErr result (λ e. (v : TheView) → HasTried sets.now v
+        → HasCheckedSome sets.now (length sets.now.reads) 0 v (view pass.old)
+        → CheckConflict sets.now e.word e.expected e.seen v (view pass.new)) }
+{
+    let pointers = sets.pointers.as_slice();
+    let headers = sets.headers.as_slice();
+    match check_pointers(engine, pass, sets, pointers) {
+        Ok(()) => check_headers(engine, pass, sets, headers),
         Err(conflict) => Err(conflict),
     }
 }
@@ -107,7 +137,8 @@ fn check_pointers(
         × HasCheckedSome sets.now (length sets.now.reads) 0 v (view pass.old) }
     ensures of { IsPassOf engine.now pass.new }
     ensures checked { OnOk result ((v : TheView) → HasTried sets.now v
-        → HasCheckedSome sets.now (length sets.now.reads) 0 v (view pass.old) → HasChecked v (view pass.new)) }
+        → HasCheckedSome sets.now (length sets.now.reads) 0 v (view pass.old)
+        → HasCheckedSome sets.now (length sets.now.reads) (length sets.now.pointers) v (view pass.new)) }
     ensures steps { OnOk result ((view pass.new).steps ≡ (view pass.old).steps + length sets.now.pointers) }
     ensures most { OnErr result ((view pass.new).steps ≤ (view pass.old).steps + length sets.now.pointers) }
     ensures failed { OnErr result ((v : TheView) → HasTried sets.now v
@@ -126,6 +157,50 @@ fn check_pointers(
             return Err(Conflict {
                 word: pointer.at,
                 expected: pointer.word,
+                seen,
+            });
+        }
+        done += 1;
+    }
+    Ok(())
+}
+
+// Checks in order the headers that were kept, behind the records and the pointers, up to the first that is not as it
+// was seen.
+fn check_headers(
+    engine: &Engine,
+    pass: &mut Pass,
+    sets: &Sets,
+    headers: &[Seen],
+) -> Result<(), Conflict>
+    requires of { IsPassOf engine.now pass.old }
+    requires pass { IsActive (view pass.old).role }
+    requires headers { headers.now ≡ sets.now.headers }
+    requires so { (v : TheView) × HasTried sets.now v
+        × HasCheckedSome sets.now (length sets.now.reads) (length sets.now.pointers) v (view pass.old) }
+    ensures of { IsPassOf engine.now pass.new }
+    ensures checked { OnOk result ((v : TheView) → HasTried sets.now v
+        → HasCheckedSome sets.now (length sets.now.reads) (length sets.now.pointers) v (view pass.old)
+        → HasChecked v (view pass.new)) }
+    ensures steps { OnOk result ((view pass.new).steps ≡ (view pass.old).steps + length sets.now.headers) }
+    ensures most { OnErr result ((view pass.new).steps ≤ (view pass.old).steps + length sets.now.headers) }
+    ensures failed { OnErr result ((v : TheView) → HasTried sets.now v
+        → HasCheckedSome sets.now (length sets.now.reads) (length sets.now.pointers) v (view pass.old)
+        → HasFailed v (view pass.new)) }
+    ensures apart { IfErr result (λ e. writes_at e.word sets.now.writes ≡ false) }
+    ensures conflict { IfErr result (λ e. (v : TheView) → HasTried sets.now v
+        → HasCheckedSome sets.now (length sets.now.reads) (length sets.now.pointers) v (view pass.old)
+        → CheckConflict sets.now e.word e.expected e.seen v (view pass.new)) }
+{
+    let mut done = 0;
+    while done < headers.len() {
+        let header = headers[done];
+        let slot = slot_of(engine, header.at);
+        let seen = check_header(engine, pass, slot, header.at, header.word);
+        if seen != header.word {
+            return Err(Conflict {
+                word: header.at,
+                expected: header.word,
                 seen,
             });
         }

@@ -14,7 +14,8 @@ ghost use Rattle.page_records.specs.Ends.{worker_of};
 ghost use Rattle.page_commit.specs.Live.{HasHolds, IsLive, IsWriteOf};
 ghost use Rattle.page_commit.specs.Places.{ground};
 ghost use Rattle.page_commit.specs.Refusing.{HasRefused};
-ghost use Rattle.page_commit.specs.Committing.{changes_of, commit_steps, HasCommitted, RefusesCommit};
+ghost use Rattle.page_commit.specs.Committing.{changes_of, checks_of, commit_steps, HasCommitted};
+ghost use Rattle.page_commit.specs.Committing.{RefusesCommit};
 ghost use Rattle.page_commit.specs.Steps.{CanCommit, HasLocks, HasGivenUp, HasMet};
 
 use crate::checking::check_all;
@@ -118,9 +119,9 @@ fn commit_locked(
     ensures refused { IfErr result (λ why. (v : TheView) → CanCommit sets.now found.now v (view pass.old)
         → HasRefused why v (view pass.new)) }
     ensures steps { OnOk result ((view pass.new).steps ≡ (view pass.old).steps + 2 * length writes.now
-        + (length sets.now.reads + length sets.now.pointers) + length holds.now + 2) }
+        + checks_of sets.now + length holds.now + 2) }
     ensures most { OnErr result ((view pass.new).steps ≤ (view pass.old).steps + length writes.now
-        + (length sets.now.reads + length sets.now.pointers) + length holds.now + 2) }
+        + checks_of sets.now + length holds.now + 2) }
 {
     let word = draw_as::<Brand, Write>(engine, pass, writes);
     match check_all(engine, pass, sets) {

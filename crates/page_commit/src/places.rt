@@ -1,7 +1,7 @@
 // Where the words of records and pointers stand.
 ghost use Rattle.std.specs.Prelude.{◌≡◌, ◌-◌, ◌+◌};
 ghost use Rattle.page_commit.specs.Live.{read_word};
-ghost use Rattle.page_commit.specs.Places.{pointer_at, spot_at};
+ghost use Rattle.page_commit.specs.Places.{pointer_at, slot_of as slot_at, spot_at};
 
 use engine_pages::Engine;
 use homes::{At, Spot};
@@ -30,6 +30,13 @@ pub(crate) fn place_of(engine: &Engine, at: u32) -> At
         slot: offset / 64,
         index: (offset % 64) as usize,
     })
+}
+
+/// The slot in whose page the word with this place stands.
+pub(crate) fn slot_of(engine: &Engine, at: u32) -> u32
+    ensures { result ≡ slot_at engine.now.table.shared.key.slots at }
+{
+    offset_of(engine.slots(), at) / 64
 }
 
 // How many words of pages stand before this one.

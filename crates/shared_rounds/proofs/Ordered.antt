@@ -189,5 +189,5 @@ module _ (tries : ℕ) (was now : View) (parts : List Part) (r : IsRound tries w
             (logged_on decls worker fs new pairs ∙ ap logged_from (new_on worker ascend)
             ∙ mine_logged tries was r.ended 0 worker parts r.parts_are)
             (logged_along decls worker state fs new are
-            (writes_behind decls state was.layout.opening was.mine new fs r.arrays serial agrees are) new_rise);
+            (writes_behind decls state was.layout.opening was.mine new fs serial agrees are) new_rise);
       }

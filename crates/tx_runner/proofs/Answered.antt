@@ -180,6 +180,7 @@ none_within sets empty = record {
   reads = omega (arith, ap (λ (l : List ReadEntry). length l) empty.reads);
   writes = omega (arith, ap (λ (l : List Write). length l) empty.writes);
   pointers = omega (arith, ap (λ (l : List Seen). length l) empty.pointers);
+  headers = ap (λ (l : List Seen). length l) empty.headers;
   holds = omega (arith, ap (λ (l : List ℕ). length l) empty.holds);
 }
 
@@ -213,6 +214,7 @@ done_within op reply sets new v w n d grows few = record {
   reads = reads_more op sets.reads new.reads n d.reads few.reads;
   writes = omega (arith, d.grows, few.writes);
   pointers = meets_more v.layout op sets.pointers new.pointers n d.pointers few.pointers;
+  headers = ap (λ (l : List Seen). length l) d.headers ∙ few.headers;
   holds = holds_more n (length sets.holds) (length new.holds) few.holds grows;
 }
 
@@ -223,6 +225,7 @@ stopped_within op verdict sets new v w n d grows few = record {
   reads = reads_more op sets.reads new.reads n d.reads few.reads;
   writes = omega (arith, d.grows, few.writes);
   pointers = meets_more v.layout op sets.pointers new.pointers n d.pointers few.pointers;
+  headers = ap (λ (l : List Seen). length l) d.headers ∙ few.headers;
   holds = holds_more n (length sets.holds) (length new.holds) few.holds grows;
 }
 
@@ -231,6 +234,7 @@ within_more m n sets le few = record {
   reads = omega (arith, le, few.reads);
   writes = omega (arith, le, few.writes);
   pointers = omega (arith, le, few.pointers);
+  headers = few.headers;
   holds = let old : length sets.holds ≤ 6 * m = few.holds in
       let now : length sets.holds ≤ 6 * n = omega (arith, le, old) in now;
 }
@@ -257,6 +261,7 @@ no_keys l ops sets empty = record {
   writes = λ k has. absurd (let none : has_write k sets.writes ≡ false = ap (has_write k) empty.writes in
       true≢false (sym has ∙ none));
   pointers = λ p has. absurd (in_none p (subst (λ (y : List Seen). Contains y p) empty.pointers has));
+  headers = empty.headers;
 }
 
 read_among : (op : Op) (old new : List ReadEntry) (k : Key) → ReadsOnly op old new → has_read k new ≡ true
@@ -293,8 +298,9 @@ met_among l op old new p (inr more) has =
 keys_more : (l : Layout) (ops : List Op) (d : Op) (done : ℕ) (sets new : Sets) → done < length ops
     → AreKeysOf l (take done ops) sets → ReadsOnly (get_or ops done d) sets.reads new.reads
     → MeetsOnly l (get_or ops done d) sets.pointers new.pointers
-    → WritesOnly (get_or ops done d) sets.writes new.writes → AreKeysOf l (take (done + 1) ops) new
-keys_more l ops d done sets new less are reads met writes = record {
+    → WritesOnly (get_or ops done d) sets.writes new.writes → new.headers ≡ sets.headers
+    → AreKeysOf l (take (done + 1) ops) new
+keys_more l ops d done sets new less are reads met writes headers = record {
   reads = λ k has. elim (read_among (get_or ops done d) sets.reads new.reads k reads has) [
     | inl before ↦
         let key = are.reads k before in
@@ -317,6 +323,7 @@ keys_more l ops d done sets new less are reads met writes = record {
     | inr here ↦
         (here.0, record { op = get_or ops done d; among = among_take ops d done less; at = here.1 }, here.2)
   ];
+  headers = headers ∙ are.headers;
 }
 
 -- those of first operations are keys of all
@@ -334,6 +341,7 @@ keys_of_all l ops done sets are = record {
       record { op = key.op; among = in_taken ops key.op done key.among; writes = key.writes };
   pointers = λ p has. let x = are.pointers p has in
       (x.0, record { op = x.1.op; among = in_taken ops x.1.op done x.1.among; at = x.1.at }, x.2);
+  headers = are.headers;
 }
 
 -- ---- walks
@@ -345,6 +353,10 @@ nothing_loaded v = record {
   since = omega arith;
   parts = λ part has. inl has;
   ways = λ x has. has;
+  known = λ x has. has;
+  moved = λ x has. has;
+  inners = λ x has. has;
+  versions = λ x has. has;
   is = refl;
 }
 
@@ -368,6 +380,10 @@ loaded_then u v w a b = record {
     | inr now ↦ inr (last_since u v w part (loaded_layout u v a) (loaded_seen u v a) now)
   ];
   ways = λ x has. b.ways x (a.ways x has);
+  known = λ x has. b.known x (a.known x has);
+  moved = λ x has. b.moved x (a.moved x has);
+  inners = λ x has. b.inners x (a.inners x has);
+  versions = λ x has. b.versions x (a.versions x has);
   is = b.is ∙ ap (λ (x : View). as_walked x w) a.is;
 }
 
@@ -433,7 +449,8 @@ run_more ops d done old now sets new u v w less on h g most grows = record {
       (goes_on_run (take done ops) old (get_or ops done d) g.reply sets new v w h.run
       (array_fits v.layout.decls (get_or ops done d) on) g.done));
   keys = keys_later (take (done + 1) ops) new v w g.done.only
-      (keys_more v.layout ops d done sets new less h.keys g.done.reads g.done.pointers g.done.writes);
+      (keys_more v.layout ops d done sets new less h.keys g.done.reads g.done.pointers g.done.writes
+      g.done.headers);
 }
 
 -- an operation behind which the transaction goes on
@@ -498,7 +515,8 @@ stops_at ops d done verdict old now sets new u v w stops less on h e grows = (
   within_more (done + 1) (length ops) new (omega (arith, less))
       (stopped_within (get_or ops done d) verdict sets new v w done e.stopped grows h.sized),
   keys_later ops new v w e.stopped.only (keys_of_all v.layout ops (done + 1) new
-      (keys_more v.layout ops d done sets new less h.keys e.stopped.reads e.stopped.pointers e.stopped.writes)),
+      (keys_more v.layout ops d done sets new less h.keys e.stopped.reads e.stopped.pointers e.stopped.writes
+      e.stopped.headers)),
 )
 
 -- with one operation more they took no more steps than all may

@@ -60,6 +60,8 @@ seen_epoch v w clock epoch a is =
       leaves = ap (λ (x : View). x.new_leaves) a.is;
       inners = ap (λ (x : View). x.new_inners) a.is;
       heads = ap (λ (x : View). x.heads) a.is;
+      known = ap (λ (x : View). x.known) a.is;
+      branches = ap (λ (x : View). x.inners) a.is;
       pages = ap (λ (x : View). x.pages) a.is;
       fills = ap (λ (x : View). x.fills) a.is;
       shuts = ap (λ (x : View). x.shuts) a.is;
@@ -108,6 +110,12 @@ marked_over mark v w over is = subst IsOver (sym is) record {
   took = over.took;
   seat = record { kept = over.seat.kept; locks = over.seat.locks; stage = over.seat.stage };
   agree = over.agree;
+  trees = record {
+    known = over.trees.known;
+    inners = over.trees.inners;
+    apart = over.trees.apart;
+    spans = over.trees.spans;
+  };
   holds = record {
     holds = over.holds.holds;
     within = over.holds.within;

@@ -192,6 +192,11 @@ commit_refused ops why sets keep u v w left s keys r c = by_why why r c
           subst (λ (n : ℕ). IsWayPlace v.layout x.0 n) (eqb-true p.0.at at p.2) x.2,
         )
 
+    no_header : (at : ℕ) → has_word at sets.headers ≡ true → ⊥
+    no_header at has =
+        let none : has_word at sets.headers ≡ false = ap (has_word at) keys.headers in
+        true≢false (sym has ∙ none)
+
     touches : TookOnly (kept_writes keep sets.writes) v w → TouchesOnly ops u w
     touches took t has = elim (took t has) [
       | inl before ↦ inl (subst (λ (l : List Touch). Contains l t) s.touched before)
@@ -205,9 +210,12 @@ commit_refused ops why sets keep u v w left s keys r c = by_why why r c
           clash_try ops at expected seen (Some here.0) u v w left s r here.2.conflict.cause
           (λ k is. let same : here.0 ≡ k = cc in subst (IsKeyOf ops) same (read_or_written here.0 at here.1))
           (λ none. absurd (some_none here.0 none)) here.2.blamed (touches c.1)
-      | inr pointer ↦
-          clash_try ops at expected seen None u v w left s r pointer.1.cause (λ k is. absurd cc)
-          (λ none. inr (pointer_way at pointer.0)) (pointer.2 ∙ sym (append-nil v.blamed)) (touches c.1)
+      | inr other ↦ elim other [
+        | inl pointer ↦
+            clash_try ops at expected seen None u v w left s r pointer.1.cause (λ k is. absurd cc)
+            (λ none. inr (pointer_way at pointer.0)) (pointer.2 ∙ sym (append-nil v.blamed)) (touches c.1)
+        | inr header ↦ absurd (no_header at header.0)
+      ]
     ]
     by_why (refusals.Full told) r c = absurd c
     by_why (refusals.Wide set) r c = absurd c

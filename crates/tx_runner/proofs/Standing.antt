@@ -183,9 +183,10 @@ pub try_took : (count : ℕ) (keep : Bool) (first sets : Sets) (t u v w : View) 
     → w.steps ≤ t.steps + try_steps t.layout.slots count
 try_took count keep first sets t u v w begun run few commit =
     try_sum (count * alter_most t.layout.slots) count (length sets.reads) (length sets.writes)
-    (length (kept_writes keep sets.writes)) (length sets.pointers) (length sets.holds) t.steps u.steps v.steps w.steps
+    (length (kept_writes keep sets.writes)) (length sets.pointers) (length sets.headers) (length sets.holds) t.steps u.steps
+    v.steps w.steps
     (begun_steps first t u begun) (begun_took first count t u v begun run) few.reads few.writes
-    (kept_few keep sets.writes) few.pointers few.holds commit
+    (kept_few keep sets.writes) few.pointers few.headers few.holds commit
 
 -- a begin, and operations of which one was refused
 pub try_refused : (count : ℕ) (first : Sets) (t u w : View) → HasBegun first t u

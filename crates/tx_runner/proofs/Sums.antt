@@ -28,11 +28,11 @@ pub steps_as : (count a b start now : ℕ) → a ≡ b → now ≤ start + count
 steps_as count a b start now same took = subst (λ n. now ≤ start + count * n) same took
 
 -- a begin, operations that took so many steps, and a commit
-pub try_sum : (m count reads writes kept pointers holds t u v w : ℕ) → u ≡ t + 1 → v ≤ u + m → reads ≤ count
-    → writes ≤ count → kept ≤ writes → pointers ≤ count → holds ≤ 6 * count
-    → w ≤ v + (4 * kept + (reads + pointers) + holds + 2) → w ≤ t + (m + 12 * count + 3)
-try_sum m count reads writes kept pointers holds t u v w begun run r s k p h end =
-    omega (arith, begun, run, r, s, k, p, h, end)
+pub try_sum : (m count reads writes kept pointers headers holds t u v w : ℕ) → u ≡ t + 1 → v ≤ u + m → reads ≤ count
+    → writes ≤ count → kept ≤ writes → pointers ≤ count → headers ≡ 0 → holds ≤ 6 * count
+    → w ≤ v + (4 * kept + (reads + (pointers + headers)) + holds + 2) → w ≤ t + (m + 12 * count + 3)
+try_sum m count reads writes kept pointers headers holds t u v w begun run r s k p none h end =
+    omega (arith, begun, run, r, s, k, p, none, h, end)
 
 -- a begin, and operations of which the last one was refused
 pub refused_sum : (m count t u w : ℕ) → u ≡ t + 1 → w ≤ u + m → w ≤ t + (m + 12 * count + 3)

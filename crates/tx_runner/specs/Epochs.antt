@@ -52,6 +52,8 @@ pub record HasSeenEpoch (epoch : ℕ) (v w : View) : Type 0 where
   pub met : w.met ≡ v.met
   pub grip : w.grip ≡ v.grip
   pub ways : w.ways ≡ v.ways
+  pub known : w.known ≡ v.known
+  pub branches : w.inners ≡ v.inners
   pub drafts : w.drafts ≡ v.drafts
   pub copies : w.copies ≡ v.copies
   pub blanks : w.blanks ≡ v.blanks

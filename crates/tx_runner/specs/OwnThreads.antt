@@ -2,7 +2,7 @@
 -- between two counts is a serial run of their transactions.
 use Rattle.std.proofs.Common.{◌≡◌, refl, subst, ap, sym, ◌∙◌, ℕ, ◌++◌, List, [], ◌∷◌, get_or, true, false, true≢false}
 use Rattle.std.proofs.Common.{◌*◌, ◌≤◌, length, arith, eqb, eq-eqb}
-use Rattle.std.specs.Prelude.{filter}
+use Rattle.std.specs.Prelude.{filter, Contains}
 use Rattle.std.specs.List.Sorted.{IsPermutation}
 use Rattle.lists.specs.Elements.{any_in, in_head, in_none}
 use Rattle.serial_model.specs.Decls.{AreDecls}
@@ -21,6 +21,11 @@ use Rattle.serial_bridge.specs.WriteLaws.{attempts_permuted, runs_behind}
 use Rattle.engine_seats.specs.Between.{Between, Splits, counts, splits}
 use Rattle.engine_seats.specs.Cuts.{worker_view}
 use Rattle.engine_seats.specs.Gathered.{joined}
+use Rattle.engine_pages.specs.declared.view.Way.{Way}
+use Rattle.engine_pages.specs.declared.view.Known.{Known}
+use Rattle.engine_pages.specs.declared.view.Inner.{Inner}
+use Rattle.engine_pages.specs.Pages.{is_tree}
+use Rattle.engine_pages.specs.Agreement.{KnownAgree, TreesAgree}
 use Rattle.engine_pages.specs.Views.{IsResting, bare_grip, bare_seat}
 use Rattle.drop_core.specs.Table.{has_slot}
 use Rattle.drop_core.specs.declared.grip.Grip.{Grip}
@@ -48,6 +53,12 @@ seat_over keeper worker decls rests = record {
   took = refl;
   seat = rests;
   agree = λ a b has. absurd (in_none a has);
+  trees = record {
+    known = λ a b has. absurd (in_none a has);
+    inners = λ a b has. absurd (in_none a has);
+    apart = λ a b has. absurd (in_none a has);
+    spans = λ a b has. absurd (in_none a has);
+  };
   holds = record {
     holds = λ s. refl;
     within = λ s has. absurd (true≢false (sym has));
@@ -71,6 +82,7 @@ seen_over epoch v w s over = record {
   took = s.took ∙ over.took;
   seat = subst IsResting (sym s.seat) over.seat;
   agree = subst WaysAgree (sym s.ways) over.agree;
+  trees = seen_trees over.trees;
   holds = record {
     holds = λ t. over.holds.holds t ∙ ap (λ (g : Grip). has_slot g.holds t) (sym s.grip);
     within = λ t has. absurd (true≢false (sym has));
@@ -84,6 +96,19 @@ seen_over epoch v w s over = record {
     heads = s.heads ∙ over.holds.heads;
   };
 }
+  where
+    inner : (x : Inner) → Contains w.inners x → Contains v.inners x
+    inner x has = subst (λ (l : List Inner). Contains l x) s.branches has
+
+    seen_trees : TreesAgree v → TreesAgree w
+    seen_trees a = record {
+      known = subst KnownAgree (sym s.known) a.known;
+      inners = λ x y hx hy. a.inners x y (inner x hx) (inner y hy);
+      apart = λ x y hx hy. a.apart x y (subst (λ (l : List Known). Contains l x) s.known hx) (inner y hy);
+      spans = λ x y hx hy one tree. a.spans x y (subst (λ (l : List Way). Contains l x) s.ways hx)
+          (subst (λ (l : List Way). Contains l y) s.ways hy) one
+          (subst (λ (l : Layout). is_tree l.decls x.span.storage ≡ true) s.layout tree);
+    }
 
 no_slots : (slots : List ℕ) → ((t : ℕ) → has_slot slots t ≡ false) → slots ≡ []
 no_slots [] none = refl

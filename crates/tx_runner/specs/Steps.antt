@@ -34,12 +34,13 @@ use Rattle.tx_runner.specs.Tries.{blame_at, why_of}
 
 -- ---- operations
 
--- the transaction has read and written at most so many keys, met so many pointers, and holds no more slots than so many
--- operations may
+-- The transaction has read and written at most so many keys, met so many pointers, and no header, and holds no more slots
+-- than so many operations may.
 pub record AreWithin (count : ℕ) (sets : Sets) : Type 0 where
   pub reads : length sets.reads ≤ count
   pub writes : length sets.writes ≤ count
   pub pointers : length sets.pointers ≤ count
+  pub headers : length sets.headers ≡ 0
   pub holds : length sets.holds ≤ op_holds * count
 
 -- the transaction goes on, with this reply or none
@@ -65,12 +66,13 @@ HasRunTo ops Done replies sets w = HasRun ops replies sets w
 HasRunTo ops Short replies sets w = HasEnded ops Short replies w
 HasRunTo ops Over replies sets w = HasEnded ops Over replies w
 
--- What the transaction has read are keys of the operations, what it has written are keys that they may write, and each
--- pointer that it met is on the way to a key of theirs.
+-- What the transaction has read are keys of the operations, what it has written are keys that they may write, each
+-- pointer that it met is on the way to a key of theirs, and it keeps no header.
 pub record AreKeysOf (l : Layout) (ops : List Op) (sets : Sets) : Type 0 where
   pub reads : (k : Key) → has_read k sets.reads ≡ true → IsKeyOf ops k
   pub writes : (k : Key) → has_write k sets.writes ≡ true → IsWrittenBy ops k
   pub pointers : (p : Seen) → Contains sets.pointers p → (k : Key) × IsKeyOf ops k × IsWayPlace l k p.at
+  pub headers : sets.headers ≡ []
 
 -- and is still under way, with nothing new but loads, parts, and pages in memory
 pub record HasAnsweredAll (ops : List Op) (verdict : Verdict) (replies : List Reply) (sets : Sets) (v w : View)

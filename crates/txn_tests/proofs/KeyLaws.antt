@@ -20,6 +20,8 @@ use Rattle.drop_core.specs.Table.{has_slot}
 use Rattle.wire_form.specs.Words.{number_word}
 use Rattle.tx_sets.specs.declared.sets.Sets.{Sets}
 use Rattle.tx_sets.specs.Gathered.{AreEmpty}
+use Rattle.page_commit.proofs.StayLaws.{grounds}
+use Rattle.engine_pages.specs.declared.view.Known.{Known}
 use Rattle.engine_pages.specs.declared.layout.Layout.{Layout}
 use Rattle.engine_pages.specs.declared.view.Role.{Role}
 use Rattle.engine_pages.specs.declared.view.Role.TheVariants.{Keeper, Worker}
@@ -43,6 +45,7 @@ use Rattle.page_commit.specs.Live.{AreParts, HasHolds, IsLive, IsOver}
 use Rattle.page_commit.specs.Places.{ground, spot_at, Ground, IsKeyAt, IsKeyIn}
 use Rattle.page_commit.specs.Steps.{HasLeft}
 use Rattle.page_commit.proofs.LeaveLaws.{holds_stay, left_agree, left_holds, SamePages}
+use Rattle.page_commit.proofs.LeaveLaws.{left_trees, trees_stay}
 use Rattle.page_commit.proofs.PlaceLaws.{key_array}
 use Rattle.txn_tests.specs.Standing.{first_key, HasLock, HasPut, IsFree, IsHolding, IsPublished, IsWithin}
 
@@ -61,13 +64,14 @@ within_stays slots v w same h = record {
   decls = subst (λ (l : Layout). AreDecls l.decls) (sym same.pages.layout) h.decls;
   worker = worker_stays v w same.role h.worker;
   agree = subst WaysAgree (sym same.pages.ways) h.agree;
+  trees = trees_stay v w same.pages h.trees;
   holds = holds_stay slots v w same.pages h.holds;
 }
 
 place_stays : (v w : View) (k : Key) (at : ℕ) → Same v w → IsKeyAt v k at → IsKeyAt w k at
 place_stays v w k at same place =
-    subst (λ (l : Layout). IsKeyIn (record { layout = l; ways = w.ways }) k at) (sym same.pages.layout)
-    (subst (λ (ws : List Way). IsKeyIn (record { layout = v.layout; ways = ws }) k at) (sym same.pages.ways) place)
+    subst (λ (g : Ground). IsKeyIn g k at)
+    (sym (grounds w v same.pages.layout same.pages.ways same.pages.known same.pages.branches)) place
 
 -- the lock's place, by the slots of the later view
 spot_stays : (v w : View) (at : ℕ) → Same v w → spot_at v.layout.slots at ≡ spot_at w.layout.slots at
@@ -91,7 +95,10 @@ none_kept : (sets : Sets) (v : View) (kept : List Part) → AreEmpty sets → Ar
 none_kept sets v [] empty parts = refl
 none_kept sets v (part ∷ kept) empty parts = elim (parts.known part (in_head part kept)) [
   | inl e ↦ absurd (in_none e.0 (subst (λ l. Contains l e.0) empty.reads e.1))
-  | inr p ↦ absurd (in_none p.0 (subst (λ l. Contains l p.0) empty.pointers p.1))
+  | inr rest ↦ elim rest [
+    | inl p ↦ absurd (in_none p.0 (subst (λ l. Contains l p.0) empty.pointers p.1))
+    | inr h ↦ absurd (in_none h.0 (subst (λ l. Contains l h.0) empty.headers h.1))
+  ]
 ]
 
 not_keeper : (r : Role) → r ≡ Worker (worker_of r) → r ≡ Keeper → ⊥
@@ -107,6 +114,7 @@ can_make_first sets v w slots begun none =
         holds = λ t. ap (λ (l : List ℕ). has_slot l t) same ∙ live.holds.holds t;
         within = λ t has. live.holds.within t (ap (λ (l : List ℕ). has_slot l t) (sym same) ∙ has);
         agree = live.agree;
+        trees = live.trees;
         declared = live.decls;
       };
       worker = not_keeper w.role live.worker;
@@ -130,6 +138,7 @@ free_then sets v w x slots begun walked can kept =
         decls = can.walks.declared;
         worker = worker_stays w x (ap (λ (y : View). y.role) walked.is) live.worker;
         agree = can.walks.agree;
+        trees = can.walks.trees;
         holds = record {
           holds = can.walks.holds;
           within = can.walks.within;
@@ -174,6 +183,9 @@ locks_first slots at n x v w free place spot is =
         layout = refl;
         grip = refl;
         ways = refl;
+        known = refl;
+        moved = refl;
+        branches = refl;
         drafts = refl;
         copies = refl;
         blanks = refl;
@@ -204,6 +216,9 @@ locks_none slots at n v w free is =
         layout = refl;
         grip = refl;
         ways = refl;
+        known = refl;
+        moved = refl;
+        branches = refl;
         drafts = refl;
         copies = refl;
         blanks = refl;
@@ -249,6 +264,7 @@ over_left slots v w p left = record {
   took = ap (λ (y : View). y.took) left.is ∙ p.took;
   seat = subst (λ (y : View). IsResting y.seat) (sym left.is) p.rests;
   agree = left_agree v w p.within.agree left;
+  trees = left_trees v w p.within.trees left;
   holds = left_holds slots v w p.within.holds left;
 }
 
@@ -260,6 +276,9 @@ forgotten slots v w met free is =
         layout = refl;
         grip = refl;
         ways = refl;
+        known = refl;
+        moved = refl;
+        branches = refl;
         drafts = refl;
         copies = refl;
         blanks = refl;
@@ -354,6 +373,9 @@ is_putting slots at value n m v w x h d c =
         layout = refl;
         grip = refl;
         ways = refl;
+        known = refl;
+        moved = refl;
+        branches = refl;
         drafts = refl;
         copies = refl;
         blanks = refl;
@@ -368,6 +390,9 @@ is_putting slots at value n m v w x h d c =
         layout = refl;
         grip = refl;
         ways = refl;
+        known = refl;
+        moved = refl;
+        branches = refl;
         drafts = refl;
         copies = refl;
         blanks = refl;
@@ -424,6 +449,9 @@ has_put slots at n value word v w p is =
         layout = refl;
         grip = refl;
         ways = refl;
+        known = refl;
+        moved = refl;
+        branches = refl;
         drafts = refl;
         copies = refl;
         blanks = refl;
@@ -481,6 +509,9 @@ opens slots at n word v w p is =
         layout = refl;
         grip = refl;
         ways = refl;
+        known = refl;
+        moved = refl;
+        branches = refl;
         drafts = refl;
         copies = refl;
         blanks = refl;

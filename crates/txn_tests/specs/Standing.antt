@@ -10,6 +10,7 @@ use Rattle.commit_core.specs.declared.seat.Stage.TheVariants.{Idle}
 use Rattle.views.specs.Sums.{times}
 use Rattle.drop_core.specs.Table.{has_slot}
 use Rattle.tx_sets.specs.declared.sets.Sets.{Sets}
+use Rattle.engine_pages.specs.Agreement.{TreesAgree}
 use Rattle.engine_pages.specs.declared.engine.Engine.{Engine}
 use Rattle.engine_pages.specs.declared.layout.Layout.{Layout}
 use Rattle.engine_pages.specs.declared.view.Draft.{Draft}
@@ -65,6 +66,7 @@ pub record IsWithin (slots : List ℕ) (v : View) : Type 0 where
   pub decls : AreDecls v.layout.decls
   pub worker : v.role ≡ roles.Worker (worker_of v.role)
   pub agree : WaysAgree v.ways
+  pub trees : TreesAgree v
   pub holds : HasHolds slots v
 
 -- nothing is read or locked, and the transaction has yet to draw

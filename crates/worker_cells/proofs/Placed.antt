@@ -21,7 +21,7 @@ use Rattle.commit_core.specs.declared.part.Part.{Part}
 use Rattle.commit_core.specs.Keys.{same_key, written}
 use Rattle.commit_core.specs.Lemmas.Keys.{same_key-true}
 use Rattle.serial_bridge.specs.Transaction.{Continues, Finished, FinishesBy, IsAttemptOf, Runs, Stops, Turn, Turns}
-use Rattle.serial_bridge.specs.Transaction.{wrote}
+use Rattle.serial_bridge.specs.Transaction.{removed, wrote}
 use Rattle.serial_bridge.specs.WriteLaws.{each_in, written-cons}
 use Rattle.serial_bridge.specs.WriteSets.{EachCounts}
 
@@ -47,6 +47,14 @@ sum_of decls own k true n verdict reply now place are is =
     let same : wrote k (Some n) own ≡ now = cc in subst (AreOf decls) same (place, are)
 sum_of decls own k false n verdict reply now place are is = absurd cc
 
+-- a removal writes where one may stand, or nothing
+removal_of : (decls : List Decl) (own : List Change) (k : Key) (value : Option ℕ) (reply : Option Reply)
+    (now : List Change) → has_place_for decls k None ≡ true → AreOf decls own
+    → removed k value own ≡ Continues reply now → AreOf decls now
+removal_of decls own k None reply now place are is = let kept : own ≡ now = cc in subst (AreOf decls) kept are
+removal_of decls own k (Some v) reply now place are is =
+    let kept : wrote k None own ≡ now = cc in subst (AreOf decls) kept (place, are)
+
 op_of : (decls : List Decl) (parts : List Part) (own : List Change) (op : Op) (turn : Turn) (reply : Option Reply)
     (now : List Change) → fits decls op ≡ true → AreOf decls own → Turns decls parts own op turn
     → turn ≡ Continues reply now → AreOf decls now
@@ -58,8 +66,7 @@ op_of decls parts own (Write k v) turn reply now fit are turns is =
     let same : Continues None (wrote k (Some v) own) ≡ Continues reply now = sym turns ∙ is in
     let kept : wrote k (Some v) own ≡ now = cc in subst (AreOf decls) kept (fit, are)
 op_of decls parts own (Remove k) turn reply now fit are turns is =
-    let same : Continues None (wrote k None own) ≡ Continues reply now = sym turns ∙ is in
-    let kept : wrote k None own ≡ now = cc in subst (AreOf decls) kept (fit, are)
+    removal_of decls own k turns.0 reply now fit are (sym turns.2 ∙ is)
 op_of decls parts own (Add k v) turn reply now fit are turns is =
     let before = unwrap_or turns.0 0 in
     sum_of decls own k (nat_lt (before + v) (2 ^ 64)) (before + v) Over reply now fit are (sym turns.2 ∙ is)
@@ -111,7 +118,4 @@ attempt_of decls e a is counts =
   where
     one : (c : Change) → AreOf decls is.own → written c.key a.writes ≡ Some c.value
         → has_place_for decls c.key c.value ≡ true
-    one c own counted = elim (is.writes c.key) [
-      | inl same ↦ written_of decls is.own c.key c.value own (sym same ∙ counted)
-      | inr out ↦ absurd (let no = sym out.unwritten ∙ counted in cc)
-    ]
+    one c own counted = written_of decls is.own c.key c.value own (sym (is.writes c.key) ∙ counted)

@@ -3,7 +3,8 @@ use Rattle.engine_pages.specs.Passes.{view}
 use Rattle.page_commit.proofs.CheckLaws.{check_active}
 use Rattle.page_commit.proofs.StepLaws.{counts_same, more_pointers, stops_pointers}
 use Rattle.page_commit.proofs.PointerLaws.{can_check_pointer, pointer_in, pointer_one, pointer_failed_one, pointer_clear}
-use Rattle.page_commit.proofs.PointerLaws.{pointer_conflict, all_checked, place_can, place_checked, tried_worker, word_within}
+use Rattle.page_commit.proofs.PointerLaws.{pointer_conflict, pointers_checked, place_can, place_checked, tried_worker}
+use Rattle.page_commit.proofs.PointerLaws.{word_within}
 use Rattle.page_commit.proofs.checking.check_pointers.Goals as goal
 
 pub loop-done-init : goal.loop-done-init
@@ -74,7 +75,7 @@ loop-done-preserved c = record {
 
 pub returns-clause-checked : goal.returns-clause-checked
 returns-clause-checked c = λ v h p.
-    all_checked c.args.pointers.now c.args.sets.now c.loop-done.done v (view c.loop-done.pass) h c.requires.pointers
+    pointers_checked c.args.pointers.now c.args.sets.now c.loop-done.done v (view c.loop-done.pass) c.requires.pointers
     (c.loop-done.invariant.so v h p) c.loop-done-test.false
 
 pub returns-then-seen-pointer-clause-most : goal.returns-then-seen-pointer-clause-most

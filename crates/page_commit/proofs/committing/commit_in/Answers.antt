@@ -1,6 +1,7 @@
-use Rattle.std.proofs.Common.{List, length, ap, arith, ℕ, ◌+◌}
+use Rattle.std.proofs.Common.{List, length, ap, arith, ℕ}
 use Rattle.tx_sets.specs.declared.writes.Write.{Write}
 use Rattle.engine_pages.specs.Passes.{view}
+use Rattle.page_commit.specs.Committing.{checks_of}
 use Rattle.page_commit.proofs.CommitLaws.{locked_gone, locked_holds, stopped_met, each_slice, small_slice, met_slice}
 use Rattle.page_commit.proofs.CommitLaws.{apart_slice, conflict_slice, locked_slice, sets_places, sets_ascending}
 use Rattle.page_commit.proofs.CommitLaws.{sets_few, can_commit, stopped_worker, stopped_places, stopped_locks}
@@ -135,7 +136,7 @@ returns-in-Ok-clause-most c =
 
 pub returns-in-Err-clause-most : goal.returns-in-Err-clause-most
 returns-in-Err-clause-most c =
-    stopped_most (length c.args.sets.now.reads + length c.args.sets.now.pointers) (length c.args.writes.now)
+    stopped_most (checks_of c.args.sets.now) (length c.args.writes.now)
     (length c.args.sets.now.writes) (length c.args.holds.now) (length c.args.sets.now.holds)
     (length c.lock_all.new.found) (view c.args.pass.now) (view c.lock_all.new.pass) (view c.back_out.new.pass)
     (ap (λ (l : List Write). length l) c.requires.writes) (ap (λ (l : List ℕ). length l) c.requires.holds)

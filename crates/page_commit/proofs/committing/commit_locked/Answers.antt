@@ -1,4 +1,4 @@
-use Rattle.std.proofs.Common.{List, length, ap, subst, refl, ◌+◌}
+use Rattle.std.proofs.Common.{List, length, ap, subst, refl}
 use Rattle.engine_pages.specs.Passes.{view}
 use Rattle.serial_model.specs.declared.number.Change.{Change}
 use Rattle.page_commit.proofs.CommitLaws.{each_slice, failed_gone, failed_holds, published_active, published_holds}
@@ -6,7 +6,7 @@ use Rattle.page_commit.proofs.CommitLaws.{published_kept, sets_ascending, sets_d
 use Rattle.page_commit.proofs.CommitLaws.{drawn_active, checked_active, failed_worker, chosen_active, chosen_places}
 use Rattle.page_commit.proofs.CommitLaws.{chosen_decided, all_committed, check_locks, check_places, found_within}
 use Rattle.page_commit.proofs.CommitLaws.{found_apart, found_locks, check_refused, check_cause, checked_met}
-use Rattle.page_commit.specs.Committing.{changes_of, HasCommitted}
+use Rattle.page_commit.specs.Committing.{changes_of, checks_of, HasCommitted}
 use Rattle.page_commit.proofs.StepLaws.{commits_steps, fails_steps}
 use Rattle.page_commit.proofs.committing.commit_locked.Goals as goal
 
@@ -143,7 +143,7 @@ pub returns-in-Ok-clause-steps : goal.returns-in-Ok-clause-steps
 returns-in-Ok-clause-steps c =
     let m = c.decide.ensures.decides in
     commits_steps (changes_of c.args.writes.now) c.draw_as-word.result m.0
-    (length c.args.sets.now.reads + length c.args.sets.now.pointers) (length c.args.writes.now) (length c.args.holds.now)
+    (checks_of c.args.sets.now) (length c.args.writes.now) (length c.args.holds.now)
     (view c.args.pass.now) (view c.draw_as-word.new.pass) (view c.check_all.new.pass) (view c.decide.new.pass)
     (view c.publish_all.new.pass) (view c.leave_all.new.pass) c.draw_as-word.ensures.draws c.in-Ok.ensures.steps m.1
     c.publish_all.ensures.steps c.leave_all.ensures.steps
@@ -152,7 +152,7 @@ pub returns-in-Err-clause-most : goal.returns-in-Err-clause-most
 returns-in-Err-clause-most c =
     let can = c.requires.can in
     fails_steps (changes_of c.args.writes.now) c.draw_as-word.result
-    (length c.args.sets.now.reads + length c.args.sets.now.pointers) (length c.args.writes.now) (length c.args.holds.now)
+    (checks_of c.args.sets.now) (length c.args.writes.now) (length c.args.holds.now)
     (length c.args.found.now) (view c.args.pass.now) (view c.draw_as-word.new.pass) (view c.check_all.new.pass)
     (view c.back_out.new.pass) c.draw_as-word.ensures.draws c.in-Err.ensures.most
     (found_locks c.args.sets.now c.args.found.now c.args.writes.now can.0 (view c.args.pass.now) can.1

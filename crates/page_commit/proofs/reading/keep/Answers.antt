@@ -17,7 +17,7 @@ pub returns-in-Volatile : goal.returns-in-Volatile
 returns-in-Volatile c = record {
   keeps = keeps_as c.args.found _ c.args.key _ c.args.sets.now _ c.in-Volatile.is (
     refl,
-    record { writes = refl; holds = refl },
+    record { writes = refl; holds = refl; headers = refl },
     refl,
     entry_pushed _ c.args.sets.now.reads _ c.push.result c.push.ensures
         (subst (HasRoomFor c.args.sets.now.reads) c.in-Volatile.is c.requires.room),
@@ -27,11 +27,11 @@ returns-in-Volatile c = record {
 pub returns-in-Snapshot : goal.returns-in-Snapshot
 returns-in-Snapshot c = record {
   keeps = keeps_as c.args.found _ c.args.key _ c.args.sets.now _ c.in-Snapshot.is
-      (refl, record { writes = refl; holds = refl }, c.keep_pointer.ensures, refl);
+      (refl, record { writes = refl; holds = refl; headers = refl }, c.keep_pointer.ensures, refl);
 }
 
 pub returns-in-Zero : goal.returns-in-Zero
 returns-in-Zero c = record {
   keeps = keeps_as c.args.found _ c.args.key _ c.args.sets.now _ c.in-Zero.is
-      (refl, record { writes = refl; holds = refl }, c.keep_pointer-in-Zero.ensures, refl);
+      (refl, record { writes = refl; holds = refl; headers = refl }, c.keep_pointer-in-Zero.ensures, refl);
 }

@@ -31,7 +31,7 @@ pub returns-else-is_wide-clause-value : goal.returns-else-is_wide-clause-value
 returns-else-is_wide-clause-value c =
     value_found c.in-Ok.found c.keep.result c.args.sets.now (record c.args.sets.now { holds = c.find.new.holds })
     c.keep.new.sets (view c.args.pass.now)
-    (view c.find.new.pass) c.args.key refl refl refl c.requires.live c.find.ensures.walked c.find.ensures.can c.requires.fits
+    (view c.find.new.pass) c.args.key refl refl refl refl c.requires.live c.find.ensures.walked c.find.ensures.can c.requires.fits
     c.find.ensures.only c.in-Ok.ensures.led c.in-Ok.ensures.keeps c.in-Ok.ensures.found c.requires.unread
     c.keep.ensures.keeps
 
@@ -69,7 +69,7 @@ returns-then-is_wide-clause-refused c =
     (walked_refused (refusals.Wide Reads) c.args.sets.now c.find.new.holds v w (view c.refuse.new.pass) c.requires.live
     (only_walked v w c.find.ensures.walked)
     (walked_holds c.args.sets.now.holds c.find.new.holds v w c.requires.live.holds c.find.ensures.walked c.find.ensures.can)
-    c.find.ensures.can.agree (λ met told. told) c.refuse.ensures.gives_up)
+    c.find.ensures.can.agree c.find.ensures.can.trees (λ met told. told) c.refuse.ensures.gives_up)
 
 -- ---- the walk was refused
 
@@ -121,7 +121,7 @@ returns-in-Err-clause-refused c =
     (walked_refused c.in-Err.why c.args.sets.now c.find.new.holds v w (view c.refuse-in-Err.new.pass) c.requires.live
     (only_walked v w c.find.ensures.walked)
     (walked_holds c.args.sets.now.holds c.find.new.holds v w c.requires.live.holds c.find.ensures.walked c.find.ensures.can)
-    c.find.ensures.can.agree
+    c.find.ensures.can.agree c.find.ensures.can.trees
     (λ met told. find_told c.in-Err.why c.args.sets.now c.find.new.holds c.args.key v w met h c.in-Err.ensures.cause told)
     c.refuse-in-Err.ensures.gives_up)
 

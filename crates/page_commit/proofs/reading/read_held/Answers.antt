@@ -52,7 +52,7 @@ returns-else-is_wide-clause-value c =
     (can_walk c.args.sets.now (view c.args.pass.now) c.requires.live) c.args.sets.now.pointers in
     value_found c.in-Ok.found c.keep.result c.args.sets.now c.args.sets.now
     c.keep.new.sets (view c.args.pass.now)
-    (view c.read_at.new.pass) c.args.key refl refl refl c.requires.live f.walked f.can c.requires.fits
+    (view c.read_at.new.pass) c.args.key refl refl refl refl c.requires.live f.walked f.can c.requires.fits
     f.only ok.led ok.keeps ok.found c.requires.unread
     c.keep.ensures.keeps
 
@@ -98,7 +98,7 @@ returns-then-is_wide-clause-refused c =
     (walked_refused (refusals.Wide Reads) c.args.sets.now c.args.sets.now.holds v w (view c.refuse.new.pass) c.requires.live
     (only_walked v w f.walked)
     (walked_holds c.args.sets.now.holds c.args.sets.now.holds v w c.requires.live.holds f.walked f.can)
-    f.can.agree (λ met told. told) c.refuse.ensures.gives_up)
+    f.can.agree f.can.trees (λ met told. told) c.refuse.ensures.gives_up)
 
 -- ---- the walk was refused
 
@@ -164,7 +164,7 @@ returns-in-Err-clause-refused c =
     (walked_refused c.in-Err.why c.args.sets.now c.args.sets.now.holds v w (view c.refuse-in-Err.new.pass) c.requires.live
     (only_walked v w f.walked)
     (walked_holds c.args.sets.now.holds c.args.sets.now.holds v w c.requires.live.holds f.walked f.can)
-    f.can.agree
+    f.can.agree f.can.trees
     (λ met told. find_told c.in-Err.why c.args.sets.now c.args.sets.now.holds c.args.key v w met h err.cause told)
     c.refuse-in-Err.ensures.gives_up)
 

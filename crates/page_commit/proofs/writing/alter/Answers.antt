@@ -26,7 +26,7 @@ returns-clause-turns c =
     own_altered c.args.by c.args.sets.now _ (view c.args.pass.now) c.args.key c.in-Some.own c.in-Some-after.value
     c.requires.live
     (sym c.find.ensures ∙ c.in-Some.is)
-    (ap (altered c.args.by) (sym c.unwrap_or.ensures) ∙ (sym c.after.ensures ∙ c.in-Some-after.is)) refl refl refl
+    (ap (altered c.args.by) (sym c.unwrap_or.ensures) ∙ (sym c.after.ensures ∙ c.in-Some-after.is)) refl refl refl refl
     (rewritten_writes c.args.key c.in-Some-after.value c.args.sets.now.writes _ c.set.ensures)
     (rewritten_all (ground (view c.args.pass.now)) c.args.key c.in-Some-after.value c.args.sets.now.writes _ c.set.ensures
     c.requires.live.writes)

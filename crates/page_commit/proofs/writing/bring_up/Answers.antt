@@ -41,7 +41,7 @@ returns-then-is_full-clause-refused c =
     let v = view c.args.pass.now in
     subst (λ (r : RefusalCause). HasRefused r v (view c.refuse.new.pass)) (sym c.refuse.ensures.why)
     (walked_refused (refusals.Wide Writes) c.args.sets.now c.args.sets.now.holds v v (view c.refuse.new.pass) c.requires.live
-    (only_walked v v (walked_self v)) c.requires.live.holds c.requires.live.agree (λ met told. told) c.refuse.ensures.gives_up)
+    (only_walked v v (walked_self v)) c.requires.live.holds c.requires.live.agree c.requires.live.trees (λ met told. told) c.refuse.ensures.gives_up)
 
 -- ---- a page was made
 
@@ -56,7 +56,7 @@ pub returns-in-Ok-clause-brings : goal.returns-in-Ok-clause-brings
 returns-in-Ok-clause-brings c =
     brought c.args.sets.now _ (view c.args.pass.now) (view c.make_volatile.new.pass) c.args.key c.in-Ok.at
     c.requires.live c.make_volatile.ensures.walked c.make_volatile.ensures.can c.make_volatile.ensures.kept
-    c.make_volatile.ensures.words c.make_volatile.ensures.only c.in-Ok.ensures.led c.in-Ok.ensures.made refl refl refl
+    c.make_volatile.ensures.words c.make_volatile.ensures.only c.in-Ok.ensures.led c.in-Ok.ensures.made refl refl refl refl
 
 -- ---- it was not
 
@@ -112,7 +112,7 @@ returns-in-Err-clause-refused c =
     (only_walked v w c.make_volatile.ensures.walked)
     (walked_holds c.args.sets.now.holds c.make_volatile.new.holds v w c.requires.live.holds c.make_volatile.ensures.walked
     c.make_volatile.ensures.can.walks)
-    c.make_volatile.ensures.can.walks.agree
+    c.make_volatile.ensures.can.walks.agree c.make_volatile.ensures.can.walks.trees
     (λ met told.
     make_told c.in-Err.why c.args.sets.now c.make_volatile.new.holds c.args.key v w met h c.in-Err.ensures.cause told)
     c.refuse-in-Err.ensures.gives_up)

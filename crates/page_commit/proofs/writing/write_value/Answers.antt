@@ -7,7 +7,7 @@ use Rattle.page_commit.proofs.writing.write_value.Goals as goal
 
 pub returns-then-contains-clause-done : goal.returns-then-contains-clause-done
 returns-then-contains-clause-done c =
-    value_rewritten c.args.sets.now _ (view c.args.pass.now) c.args.key c.args.value c.requires.live refl refl refl
+    value_rewritten c.args.sets.now _ (view c.args.pass.now) c.args.key c.args.value c.requires.live refl refl refl refl
     (rewritten_writes c.args.key c.args.value c.args.sets.now.writes _ c.set.ensures)
     (rewritten_all (ground (view c.args.pass.now)) c.args.key c.args.value c.args.sets.now.writes _ c.set.ensures
     c.requires.live.writes)

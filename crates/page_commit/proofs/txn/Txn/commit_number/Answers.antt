@@ -18,7 +18,8 @@ pub returns-clause-cause : goal.returns-clause-cause
 returns-clause-cause c =
     dropped_for c.commit_all.result c.args.self.now.sets c.drop_writes.new.sets
     (kept_writes c.args.keep c.args.self.now.sets.writes) (view c.args.pass.now) (view c.commit_all.new.pass)
-    c.drop_writes.ensures.reads c.drop_writes.ensures.pointers c.drop_writes.ensures.writes c.commit_all.ensures.cause
+    c.drop_writes.ensures.reads c.drop_writes.ensures.pointers c.drop_writes.ensures.headers c.drop_writes.ensures.writes
+    c.commit_all.ensures.cause
 
 pub returns-clause-steps : goal.returns-clause-steps
 returns-clause-steps c =

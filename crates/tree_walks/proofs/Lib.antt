@@ -1,0 +1,16 @@
+pub mod StepLaws
+pub mod WayLaws
+pub mod RefusalLaws
+pub mod LoadLaws
+pub mod KeepLaws
+pub mod EnterLaws
+pub mod ReachLaws
+pub mod HalfLaws
+pub mod ChildLaws
+pub mod DescentLaws
+pub mod SearchLaws
+pub mod DeclLaws
+pub mod RecordLaws
+pub mod FindLaws
+pub mod BelowLaws
+pub mod SnapLaws

@@ -1,0 +1,56 @@
+// The storages of an engine, and words that were met.
+ghost use Rattle.std.specs.Prelude.{IfErr, OnOk};
+ghost use Rattle.array_pages.specs.Steps.{IsMetElse};
+ghost use Rattle.tree_walks.specs.Steps.{HasTree, IsTreeRoot};
+ghost use Rattle.tree_walks.specs.Ways.{IsMetSo};
+
+use array_pages::conflict;
+use engine_pages::{Engine, RefusalCause};
+use serial_model::Decl;
+use tx_sets::{HeaderSet, PointerSet};
+
+/// The index of a tree among the storages.
+pub(crate) fn root_of(engine: &Engine, storage: u8) -> usize
+    requires { HasTree engine.now.table.shared.key.decls storage }
+    ensures { IsTreeRoot engine.now.table.shared.key.decls storage result }
+{
+    let decls = engine.decls();
+    for i in 0..decls.len() {
+        if let Decl::Tree { id } = decls[i] {
+            if id == storage {
+                return i;
+            }
+        }
+    }
+    0
+}
+
+/// Refuses a pointer that the set has with another word.
+#[inline(always)]
+pub(crate) fn check_met(set: &PointerSet, at: u32, word: u64) -> Result<(), RefusalCause>
+    ensures met { OnOk result (IsMetSo set.now at word) }
+    ensures other { IfErr result (λ why. IsMetElse set.now at word why) }
+{
+    let Some(expected) = set.find(at) else {
+        return Ok(());
+    };
+    if expected != word {
+        return Err(conflict(at, expected, word));
+    }
+    Ok(())
+}
+
+/// Refuses a header that the set has with another word.
+#[inline(always)]
+pub(crate) fn check_kept(set: &HeaderSet, at: u32, word: u64) -> Result<(), RefusalCause>
+    ensures met { OnOk result (IsMetSo set.now at word) }
+    ensures other { IfErr result (λ why. IsMetElse set.now at word why) }
+{
+    let Some(expected) = set.find(at) else {
+        return Ok(());
+    };
+    if expected != word {
+        return Err(conflict(at, expected, word));
+    }
+    Ok(())
+}

@@ -22,7 +22,7 @@ use Rattle.engine_pages.specs.Records.{IsTreeRecordAt}
 use Rattle.engine_pages.specs.Steps.{kept_at, read_at, seen_at}
 use Rattle.engine_pages.specs.Views.{IsActive}
 use Rattle.engine_pages.specs.Words.{spot}
-use Rattle.foster_tree.proofs.ReadLaws.{kept_here, noted_in}
+use Rattle.array_pages.proofs.ReadLaws.{kept_here, noted_in}
 use Rattle.page_records.specs.Ends.{IsLeafWordAt}
 use Rattle.tree_heads.specs.Headers.{IsTreeAt, open_word}
 use Rattle.tree_heads.specs.Heads.{head_locked, key_added, CanAdd, HasAdded, HasHead, HeadLocked}

@@ -1,5 +1,22 @@
-mod ReadLaws
-mod WordLaws
-mod FillLaws
-mod StoreLaws
-mod AddLaws
+pub mod WordLaws
+pub mod FillLaws
+pub mod StoreLaws
+pub mod AddLaws
+pub mod OrderLaws
+pub mod LockLaws
+pub mod LockLists
+pub mod LockOne
+pub mod OpenLaws
+pub mod PartLaws
+pub mod MoveLaws
+pub mod HalfLaws
+pub mod TurnLaws
+pub mod TurnedLaws
+pub mod PlaceLaws
+pub mod AfterTurn
+pub mod UnderLock
+pub mod SplitLaws
+pub mod LockMany
+pub mod RefuseLaws
+pub mod OpenMany
+pub mod RefuseStill

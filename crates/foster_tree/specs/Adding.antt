@@ -26,8 +26,8 @@ use Rattle.foster_tree.specs.Causes.{IsLeafWordChanged}
 -- ---- what it asks
 
 -- The pass, which is a worker's, has no attempt and no locks. It knows all keys of the leaf, as many as the word of its
--- header counts, which its last step there saw, neither locked nor moved; the key, one of those that the leaf is made for,
--- is none of them.
+-- header counts, which its last step there saw, neither locked nor moved; the key, one of those that the leaf is made
+-- for, is none of them.
 pub record CanGrow (v : View) (t : ℕ) (sp : Span) (k : Key) (word : ℕ) : Type 0 where
   pub active : IsActive v.role
   pub worker : v.role ≡ Keeper → ⊥
@@ -87,7 +87,8 @@ RefusesAdd t word (causes.NumberLimit clock) v w = ⊥
 
 -- ---- under the header's lock
 
--- The one header that the pass has locked is that of the leaf in slot t with these keys, in whose page these words stand.
+-- The one header that the pass has locked is that of the leaf in slot t with these keys, in whose page these words
+-- stand.
 pub record IsOneHead (v : View) (t : ℕ) (keys : List Key) (words : List ℕ) : Type 0 where
   pub only : v.heads ≡ record { slot = t; keys = keys; words = words } ∷ []
   pub long : length words ≡ 64
@@ -101,7 +102,8 @@ restored t keys words n v =
 abbrev pub Stores : ℕ → (List ℕ → List ℕ) → ℕ → View → View → Type 0
 Stores t f n v w = (keys : List Key) (words : List ℕ) → IsOneHead v t keys words → w ≡ restored t keys (f words) n v
 
--- The pass has a seat, and the one header that it has locked is that of the leaf in this slot, which has so many records.
+-- The pass has a seat, and the one header that it has locked is that of the leaf in this slot, which has so many
+-- records.
 pub record CanStoreIn (v : View) (t n : ℕ) : Type 0 where
   pub active : IsActive v.role
   pub there : t < v.layout.slots

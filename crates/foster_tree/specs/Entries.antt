@@ -23,7 +23,8 @@ content_of e = record {
   value = if nat_lt e.word (2 ^ 60) then Some e.value else None;
 }
 
--- These are the words of a record that nobody has locked: a number that fits, and a value; an absent one has the value 0.
+-- These are the words of a record that nobody has locked: a number that fits, and a value; an absent one has the value
+-- 0.
 pub record IsEntry (e : Entry) : Type 0 where
   pub small : IsSmall (content_of e).number
   pub word : e.word ≡ number_word (content_of e).number + absent_field tree_leaf (content_of e).value

@@ -87,8 +87,8 @@ as_made t sp entries v w = record v {
   new_leaves = leaf_of t sp entries ∷ v.new_leaves;
 }
 
--- The pass was given the slot, which it neither held nor had made, and has published its page as this leaf: a search and
--- a compare_exchange, three stores for the header and the fences, three for each record, and the publish.
+-- The pass was given the slot, which it neither held nor had made, and has published its page as this leaf: a search
+-- and a compare_exchange, three stores for the header and the fences, three for each record, and the publish.
 pub record HasMadeLeaf (t : ℕ) (sp : Span) (entries : List Entry) (v w : View) : Type 0 where
   pub there : t < v.layout.slots
   pub unheld : has_slot v.grip.holds t ≡ false

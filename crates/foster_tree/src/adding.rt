@@ -24,9 +24,9 @@ pub(crate) fn count_of(header: u64) -> u32
     (header % 256) as u32
 }
 
-/// Adds a key to a leaf that has it not and isn't full, whose header was last seen as this word: the header is locked, the
-/// key stored with an absent record, and the header opened with its count raised. Answers the place of the record's word.
-/// Where the transaction has kept the header, it keeps it as it is now, and the new record, which is absent. The
+/// Adds a key to a leaf that has it not and isn't full, whose header was last seen as this word: the header is locked,
+/// the key stored with an absent record, and the header opened with its count raised. Answers the place of the record's
+/// word. Where the transaction has kept the header, it keeps it as it is now, and the new record, which is absent. The
 /// transaction is refused where the header has changed.
 pub fn add_key(
     engine: &Engine,

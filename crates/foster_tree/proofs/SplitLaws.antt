@@ -1,0 +1,294 @@
+-- What it comes to that a full leaf is split, or isn't.
+use Rattle.std.proofs.Common.{◌≡◌, ◌≢◌, ◌⊎◌, ℕ, ◌+◌, ◌*◌, ◌<◌, ◌≤◌, Bool, true, false, cond, eqb, List, [], ◌∷◌, ◌++◌, length}
+use Rattle.std.proofs.Common.{refl, sym, ap, ◌∙◌, subst, arith, inl, inr, Some, eq-eqb}
+use Rattle.std.specs.Prelude.{not, nat_lt, ◌||◌}
+use Rattle.std.specs.List.{Contains}
+use Rattle.lists.specs.Elements.{in_head}
+use Rattle.serial_model.specs.declared.key.Key.{Key}
+use Rattle.homes.specs.declared.places.Span.{Span}
+use Rattle.homes.specs.Homes.{has_key}
+use Rattle.drop_core.specs.Table.{has_slot}
+use Rattle.engine_pages.specs.declared.layout.Layout.{Layout}
+use Rattle.engine_pages.specs.declared.view.Head.{Head}
+use Rattle.engine_pages.specs.declared.view.NewLeaf.{NewLeaf}
+use Rattle.engine_pages.specs.declared.view.RefusalCause.{RefusalCause}
+use Rattle.engine_pages.specs.declared.view.RefusalCause.TheVariants as causes
+use Rattle.engine_pages.specs.declared.view.Role.TheVariants.{Keeper}
+use Rattle.engine_pages.specs.declared.view.View.{View}
+use Rattle.engine_pages.specs.declared.view.Way.{Way}
+use Rattle.engine_pages.specs.Layout.{page_at}
+use Rattle.engine_pages.specs.Pages.{is_tree}
+use Rattle.engine_pages.specs.Slots.{other_heads}
+use Rattle.engine_pages.specs.Steps.{read_at}
+use Rattle.engine_pages.specs.Views.{IsActive}
+use Rattle.tree_heads.specs.Headers.{open_word}
+use Rattle.tree_heads.specs.Heads.{head_locked, head_opened, lock_bit, CanOpenHeader, HasHead}
+use Rattle.array_pages.specs.Walks.{HoldsAre}
+use Rattle.foster_tree.specs.declared.entries.Entry.{Entry}
+use Rattle.foster_tree.specs.Causes.{IsLeafWordChanged}
+use Rattle.foster_tree.specs.Locking.{KnowsFull, RefusesOne, RefusesRecord, WorkedIn}
+use Rattle.foster_tree.specs.Splitting.{as_split, as_split_locked, as_tried, as_tried_locked, half_of, lower_of, separator_of}
+use Rattle.foster_tree.specs.Splitting.{upper_of, CanSplitLeaf, CanSplitLocked, GaveNone, HasNotSplit, HasNotSplitLocked}
+use Rattle.foster_tree.specs.Splitting.{HasSplitLeaf, HasSplitLocked, RefusesSplit}
+use Rattle.foster_tree.proofs.AddLaws.{header_changed, locked_one, same_keys}
+use Rattle.foster_tree.proofs.AfterTurn.{half_high, half_low, high_from, low_less}
+use Rattle.foster_tree.proofs.LockLaws.{worked_read, worked_then}
+use Rattle.foster_tree.proofs.OpenMany.{noted_still}
+use Rattle.foster_tree.proofs.RefuseStill.{leaf_word_still}
+use Rattle.foster_tree.proofs.StoreLaws.{head_of}
+
+-- ---- the half that is held
+
+half_side : (k : Key) (sorted : List Entry) (lower upper half : NewLeaf) → half ≡ half_of k sorted lower upper → (b : Bool)
+    → nat_lt k.key (separator_of sorted) ≡ b
+    → ((half ≡ lower) × (k.key < separator_of sorted)) ⊎ ((half ≡ upper) × (separator_of sorted ≤ k.key))
+half_side k sorted lower upper half is true test =
+    inl (is ∙ sym (half_low k sorted lower upper test), low_less k.key (separator_of sorted) test)
+half_side k sorted lower upper half is false test =
+    inr (is ∙ sym (half_high k sorted lower upper test), high_from k.key (separator_of sorted) test)
+
+or_swap : (a b c : Bool) → (b || (a || c)) ≡ (a || (b || c))
+or_swap true true c = refl
+or_swap true false c = refl
+or_swap false b c = refl
+
+-- a slot that is noted at the end counts as one at the front
+pushed_has : (slots : List ℕ) (t q : ℕ) → has_slot (slots ++ t ∷ []) q ≡ has_slot (t ∷ slots) q
+pushed_has [] t q = refl
+pushed_has (x ∷ slots) t q =
+    ap (λ (b : Bool). eqb x q || b) (pushed_has slots t q) ∙ or_swap (eqb t q) (eqb x q) (has_slot slots q)
+
+-- ---- the header had changed
+
+pub leaf_changed : (slots : List ℕ) (t at word n : ℕ) (sp : Span) (k : Key) (v u : View) → CanSplitLeaf slots v t sp k word
+    → at ≡ page_at v.layout.slots t 0 → u ≡ read_at at n v → n ≢ word → HasNotSplit slots t (causes.Conflict at word n) v u
+leaf_changed slots t at word n sp k v u can header now other =
+    let steps : u.steps ≡ v.steps + 1 = ap (λ (z : View). z.steps) now in
+    record {
+      worked = worked_read t 0 at n v u (omega arith) header (omega (arith, steps)) (ap (λ (z : View). z.reads) now)
+          (λ x has. subst (λ (z : View). Contains z.versions x) (sym now) has);
+      is = subst (λ (y : View). y ≡ as_tried v y) (sym now) refl;
+      cause = inl (header_changed t at word n sp k v u can.grows header now other);
+    }
+
+-- ---- why it wasn't split, told behind the opening of the header
+
+-- no slot was given
+gave_then : (why : RefusalCause) (v u s w : View) → v.steps ≤ u.steps → u.layout ≡ v.layout → w.last ≡ s.last
+    → w.looked ≡ s.looked → GaveNone why u s → GaveNone why v w
+gave_then why v u s w since layout last looked gave = record {
+  before = gave.before;
+  behind = gave.behind;
+  since = let more = gave.since in omega (arith, since, more);
+  layout = gave.layout ∙ layout;
+  missed = gave.missed;
+  last = last ∙ gave.last;
+  looked = looked ∙ gave.looked;
+}
+
+-- a record had changed
+changed_opened : (t i at word other expected seen : ℕ) (v u s w : View) → v.steps ≤ u.steps
+    → at ≡ page_at s.layout.slots t 0 → w ≡ head_opened t at word s → WorkedIn t s w
+    → IsLeafWordChanged t (1 + (16 + 3 * i)) other expected seen u s
+    → IsLeafWordChanged t (1 + (16 + 3 * i)) other expected seen v w
+changed_opened t i at word other expected seen v u s w since header is worked changed =
+    let place = changed.place.word.word in
+    record {
+      place = leaf_word_still t (1 + (16 + 3 * i)) other s w (ap (λ (z : View). z.layout) is) (ap (λ (z : View). z.ways) is)
+          (ap (λ (z : View). z.known) is) changed.place;
+      saw = record {
+        step = changed.saw.step;
+        since = let a = changed.saw.since in omega (arith, a, since);
+        last = ap (λ (z : View). z.last) is ∙ changed.saw.last;
+        kept = changed.saw.kept;
+        kept_is = changed.saw.kept_is ∙ sym (worked.words other);
+        stands = subst (λ (z : View). Contains z.reads
+            (record { word = other; seen = seen; was = Some expected; kept = changed.saw.kept })) (sym is)
+            (noted_still s.reads at word (record { word = other; seen = seen; was = Some expected; kept = changed.saw.kept })
+            (λ same.
+            let e : page_at s.layout.slots t (1 + (16 + 3 * i)) ≡ page_at s.layout.slots t 0 = sym place ∙ (same ∙ header) in
+            absurd (omega (arith, e)))
+            changed.saw.stands);
+      };
+      cause = changed.cause;
+    }
+
+refused_opened : (t i at word : ℕ) (why : RefusalCause) (v u s w : View) → v.steps ≤ u.steps
+    → at ≡ page_at s.layout.slots t 0 → w ≡ head_opened t at word s → WorkedIn t s w → RefusesOne t i why u s
+    → RefusesOne t i why v w
+refused_opened t i at word (causes.Conflict other expected seen) v u s w since header is worked h =
+    changed_opened t i at word other expected seen v u s w since header is worked h
+refused_opened t i at word (causes.Full held) v u s w since header is worked h = absurd h
+refused_opened t i at word (causes.Wide set) v u s w since header is worked h = absurd h
+refused_opened t i at word (causes.NumberLimit clock) v u s w since header is worked h = absurd h
+
+cause_of : (slots : List ℕ) (t : ℕ) (why : RefusalCause) (v w : View) → RefusesRecord t why v w ⊎ GaveNone why v w
+    → RefusesSplit slots t why v w
+cause_of slots t (causes.Conflict at expected seen) v w h = inr h
+cause_of slots t (causes.Full held) v w h = elim h [ inl changed ↦ absurd changed.2 | inr gave ↦ gave ]
+cause_of slots t (causes.Wide set) v w h = elim h [ inl changed ↦ absurd changed.2 | inr gave ↦ absurd gave.missed ]
+cause_of slots t (causes.NumberLimit clock) v w h = elim h [ inl changed ↦ absurd changed.2 | inr gave ↦ absurd gave.missed ]
+
+-- ---- the header was locked
+
+-- the view with these headers locked
+abbrev headed : List Head → View → View
+headed heads z = record z { heads = heads }
+
+module _ (slots : List ℕ) (t at word n : ℕ) (sp : Span) (k : Key) (v u : View) (can : CanSplitLeaf slots v t sp k word)
+    (same : n ≡ word) (h : HasHead t sp at v n u) (header : at ≡ page_at v.layout.slots t 0) where
+  keys_are : can.grows.leaf.keys ≡ h.keys
+  keys_are = same_keys t at word n sp k v u can.grows same h
+
+  full_is : length h.keys ≡ 16
+  full_is = ap (λ (l : List Key). length l) (sym keys_are) ∙ can.full
+
+  layout_is : u.layout ≡ v.layout
+  layout_is = ap (λ (z : View). z.layout) h.is
+
+  locked_since : v.steps ≤ u.steps
+  locked_since = let steps : u.steps ≡ v.steps + 1 = ap (λ (z : View). z.steps) h.is in omega (arith, steps)
+
+  locked_worked : WorkedIn t v u
+  locked_worked =
+      worked_read t 0 at (n + lock_bit) v u (omega arith) header locked_since (ap (λ (z : View). z.reads) h.is)
+      (λ x has. subst (λ (z : View). Contains z.versions x) (sym h.is) has)
+
+  leaf_known : KnowsFull u t sp h.keys
+  leaf_known = record {
+    active = subst (λ (z : View). IsActive z.role) (sym h.is) can.grows.active;
+    idle = ap (λ (z : View). z.seat.stage) h.is ∙ can.grows.idle;
+    page = record {
+      way = subst (λ (z : View). Contains z.ways (record { slot = t; span = sp })) (sym h.is) can.grows.page.way;
+      tree = subst (λ (z : View). is_tree z.layout.decls sp.storage ≡ true) (sym h.is) can.grows.page.tree;
+    };
+    there = subst (λ (z : View). t < z.layout.slots) (sym h.is) can.grows.there;
+    knows = subst (λ (z : View). Contains z.known (record { slot = t; keys = h.keys })) (sym h.is)
+        (in_head (record { slot = t; keys = h.keys }) v.known);
+    full = full_is;
+    once = h.are.once;
+    inside = h.are.inside;
+  }
+
+  -- what is asked under the lock
+  pub can_lock : length slots < 128 → CanSplitLocked slots u t sp k at word
+  can_lock room = record {
+    keys = h.keys;
+    words = h.words;
+    leaf = leaf_known;
+    worker = subst (λ (z : View). z.role ≡ Keeper → ⊥) (sym h.is) can.grows.worker;
+    unlocked = ap (λ (z : View). z.seat.locks) h.is ∙ can.grows.unlocked;
+    took = ap (λ (z : View). z.took) h.is ∙ can.took;
+    one = locked_one t at word n sp k v u can.grows h;
+    inside = can.grows.inside;
+    new = subst (λ (l : List Key). has_key l k ≡ false) keys_are can.grows.new;
+    header = header ∙ ap (λ (y : Layout). page_at y.slots t 0) (sym layout_is);
+    whole = sym same ∙ (h.word ∙ ap (λ (m : ℕ). open_word m) full_is);
+    holds = λ q. can.holds q ∙ ap (λ (z : View). has_slot z.grip.holds q) (sym h.is);
+    room = room;
+    nothing_made = record {
+      made = ap (λ (z : View). z.grip.made) h.is ∙ can.nothing_made.made;
+      taken = ap (λ (z : View). z.grip.taken) h.is ∙ can.nothing_made.taken;
+      drafts = ap (λ (z : View). z.drafts) h.is ∙ can.nothing_made.drafts;
+      copies = ap (λ (z : View). z.copies) h.is ∙ can.nothing_made.copies;
+      blanks = ap (λ (z : View). z.blanks) h.is ∙ can.nothing_made.blanks;
+      leaves = ap (λ (z : View). z.new_leaves) h.is ∙ can.nothing_made.leaves;
+      inners = ap (λ (z : View). z.new_inners) h.is ∙ can.nothing_made.inners;
+    };
+  }
+
+  -- ---- and the leaf split
+
+  module _ (place : ℕ) (held : List ℕ) (w : View) (split : HasSplitLocked t sp k place slots held u w) where
+    pub leaf_split : HasSplitLeaf t sp k place v w
+    leaf_split =
+        let end : View = as_split_locked t (lower_of split.minor sp split.sorted) (upper_of split.major sp split.sorted)
+        split.half (separator_of split.sorted) (head_locked t h.keys h.words at n v) w in
+        let all : w ≡ headed [] end =
+        split.is
+        ∙ ap (λ (z : View). as_split_locked t (lower_of split.minor sp split.sorted) (upper_of split.major sp split.sorted)
+        split.half (separator_of split.sorted) z w) h.is in
+        let four : w ≡ as_split t h.keys (lower_of split.minor sp split.sorted) (upper_of split.major sp split.sorted)
+        split.half (separator_of split.sorted) v (headed v.heads end) =
+        all ∙ ap (λ (l : List Head). headed l end) (sym can.grows.opened) in
+        record {
+          keys = h.keys;
+          are = h.are;
+          full = full_is;
+          lower = lower_of split.minor sp split.sorted;
+          upper = upper_of split.major sp split.sorted;
+          separator = separator_of split.sorted;
+          half = split.half;
+          is_half = half_side k split.sorted (lower_of split.minor sp split.sorted) (upper_of split.major sp split.sorted)
+              split.half split.is_half (nat_lt k.key (separator_of split.sorted)) refl;
+          inside = split.inside;
+          index = split.index;
+          record_at = split.record_at;
+          worked = worked_then t v u w layout_is locked_worked split.worked;
+          agree = split.agree;
+          trees = split.trees;
+          is = subst (λ (y : View). y ≡ as_split t h.keys (lower_of split.minor sp split.sorted)
+              (upper_of split.major sp split.sorted) split.half (separator_of split.sorted) v y) (sym four) refl;
+        }
+
+    pub holds_half : HoldsAre held w
+    holds_half q =
+        ap (λ (l : List ℕ). has_slot l q) split.holds
+        ∙ (pushed_has slots split.half.slot q
+        ∙ (ap (λ (b : Bool). eqb split.half.slot q || b) (can.holds q)
+        ∙ (ap (λ (z : View). has_slot (split.half.slot ∷ z.grip.holds) q) (sym h.is)
+        ∙ ap (λ (z : View). has_slot z.grip.holds q) (sym split.is))))
+
+  -- ---- or it wasn't
+
+  module _ (why : RefusalCause) (s : View) (none : HasNotSplitLocked t why u s) where
+    -- what the header's opening asks
+    pub can_open_header : CanOpenHeader s t sp word
+    can_open_header = record {
+      page = record {
+        way = subst (λ (l : List Way). Contains l (record { slot = t; span = sp }))
+            (sym (ap (λ (z : View). z.ways) none.is ∙ ap (λ (z : View). z.ways) h.is)) can.grows.page.way;
+        tree = subst (λ (y : Layout). is_tree y.decls sp.storage ≡ true)
+            (sym (ap (λ (z : View). z.layout) none.is ∙ layout_is)) can.grows.page.tree;
+      };
+      head = head_of t h.keys h.words;
+      has = subst (λ (l : List Head). Contains l (head_of t h.keys h.words))
+          (sym (ap (λ (z : View). z.heads) none.is ∙ (locked_one t at word n sp k v u can.grows h).only))
+          (in_head (head_of t h.keys h.words) []);
+      slot = refl;
+      word = sym same ∙ h.word;
+    }
+
+    -- and what it comes to
+    pub leaf_left : (w : View) → w ≡ head_opened t at word s → HasNotSplit slots t why v w
+    leaf_left w is =
+        let layout : s.layout ≡ u.layout = ap (λ (z : View). z.layout) none.is in
+        let steps : w.steps ≡ s.steps + 1 = ap (λ (z : View). z.steps) is in
+        let here : at ≡ page_at s.layout.slots t 0 =
+        header ∙ ap (λ (y : Layout). page_at y.slots t 0) (sym (layout ∙ layout_is)) in
+        let worked : WorkedIn t s w =
+        worked_read t 0 at word s w (omega arith) here (omega (arith, steps)) (ap (λ (z : View). z.reads) is)
+        (λ x has. subst (λ (z : View). Contains z.versions x) (sym is) has) in
+        let end : View = head_opened t at word (as_tried_locked (head_locked t h.keys h.words at n v) s) in
+        let four : w ≡ as_tried v (headed v.heads end) =
+        is
+        ∙ (ap (head_opened t at word) (none.is ∙ ap (λ (z : View). as_tried_locked z s) h.is)
+        ∙ (ap (λ (l : List Head). headed (other_heads t (head_of t h.keys h.words ∷ l)) end) can.grows.opened
+        ∙ (ap (λ (b : Bool). headed (cond (not b) (head_of t h.keys h.words ∷ []) []) end) (eq-eqb t t refl)
+        ∙ ap (λ (l : List Head). headed l end) (sym can.grows.opened)))) in
+        record {
+          worked =
+              worked_then t v u w layout_is locked_worked (worked_then t u s w layout none.worked worked);
+          is = subst (λ (y : View). y ≡ as_tried v y) (sym four) refl;
+          cause = cause_of slots t why v w (elim none.cause [
+            | inl changed ↦
+                inl (
+                  changed.0,
+                  changed.1,
+                  refused_opened t changed.0 at word why v u s w locked_since here is worked changed.2,
+                )
+            | inr gave ↦
+                inr (gave_then why v u s w locked_since layout_is (ap (λ (z : View). z.last) is)
+                (ap (λ (z : View). z.looked) is) gave)
+          ]);
+        }

@@ -10,7 +10,8 @@ and keeps them. These are run alone, too, so that it can be told how many commit
 which has to be in less time than the lines. A round's seconds go from the last byte of the round before to its first,
 since a round is written behind its end; of each kind the middle of some rounds of one run is told. At last the workers
 add to values of the very pages that are dropped: how many lines come to no end in so many tries, with nothing beside
-them and with a drop.
+them and with a drop. A drop gives its core away to workers that wait for one, so where there are no more cores than
+workers it may last longer than the lines beside it: bench/measure_waits.py tells what it costs while it runs.
 Usage: bench/measure_drops.py PROGRAM [FOLDER [WORKERS]], where PROGRAM is the built program and FOLDER lies on the disk
 that is to be measured; without it, in memory. WORKERS is 1 to 4, and 4 if it is left out: where there are no more cores
 than workers, a drop takes its share of one from them.

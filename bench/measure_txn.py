@@ -84,17 +84,17 @@ def uses_of(crate):
     sys.exit(f"crates.txt has no {crate}")
 
 
-def make(folder):
-    """Makes the proved program in the folder."""
+def copy(folder, name):
+    """Copies the crates into the folder, with txn_tests as a library and a crate of this name that stands on it."""
     os.makedirs(folder, exist_ok=True)
-    for name in ("crates", "HANDLES", "crates.txt"):
-        source, target = f"{TOP}/{name}", f"{folder}/{name}"
+    for each in ("crates", "HANDLES", "crates.txt"):
+        source, target = f"{TOP}/{each}", f"{folder}/{each}"
         if os.path.isdir(source):
             shutil.copytree(source, target, dirs_exist_ok=True, ignore=shutil.ignore_patterns("out", "must-fail"))
         else:
             shutil.copy(source, target)
     with open(f"{folder}/crates.txt", "a", encoding="utf-8") as crates:
-        crates.write(f"{NAME}: {uses_of('txn_tests')} txn_tests # times of transactions\n")
+        crates.write(f"{name}: {uses_of('txn_tests')} txn_tests # times of transactions\n")
     with open(f"{folder}/crates/txn_tests/src/lib.rt", encoding="utf-8") as root:
         text = root.read()
     for module in ("tests", "page_tests", "slot_tests", "drop_tests"):
@@ -103,11 +103,21 @@ def make(folder):
         shutil.rmtree(f"{folder}/crates/txn_tests/proofs/{module}", ignore_errors=True)
     with open(f"{folder}/crates/txn_tests/src/lib.rt", "w", encoding="utf-8") as root:
         root.write(text.replace("#[cfg(test)]\n", ""))
-    os.makedirs(f"{folder}/crates/{NAME}/src", exist_ok=True)
-    with open(f"{folder}/crates/{NAME}/src/main.rt", "w", encoding="utf-8") as program:
-        program.write(MAIN)
-    subprocess.run(["rt", "run"], cwd=f"{folder}/crates/{NAME}", check=True)
-    return f"{folder}/crates/{NAME}/out/{NAME}"
+
+
+def made(folder, name, text):
+    """Proves and builds the program of this text in the folder."""
+    os.makedirs(f"{folder}/crates/{name}/src", exist_ok=True)
+    with open(f"{folder}/crates/{name}/src/main.rt", "w", encoding="utf-8") as program:
+        program.write(text)
+    subprocess.run(["rt", "run"], cwd=f"{folder}/crates/{name}", check=True)
+    return f"{folder}/crates/{name}/out/{name}"
+
+
+def make(folder):
+    """Makes the proved program in the folder."""
+    copy(folder, NAME)
+    return made(folder, NAME, MAIN)
 
 
 def times(program):

@@ -1,9 +1,8 @@
 -- What it comes to that the page below a pointer is brought into memory.
-use Rattle.std.proofs.Common.{◌≡◌, ◌≢◌, ◌⊎◌, inl, inr, ℕ, ◌+◌, ◌^◌, ◌<◌, ◌≤◌, true, false, List, ◌∷◌, ◌++◌, [], length, refl, sym, ap}
-use Rattle.std.proofs.Common.{◌∙◌, subst, arith, Option, Some, None, length-append}
-use Rattle.std.specs.Prelude.{Result, Ok, Err, OnOk}
+use Rattle.std.proofs.Common.{◌≡◌, ◌≢◌, inl, inr, ℕ, ◌+◌, ◌≤◌, List, ◌∷◌, [], length, refl, sym, ap}
+use Rattle.std.proofs.Common.{◌∙◌, subst, arith, Some, None, length-append}
+use Rattle.std.specs.Prelude.{Ok, Err}
 use Rattle.serial_model.specs.declared.key.Key.{Key}
-use Rattle.homes.specs.declared.places.Span.{Span}
 use Rattle.drop_core.specs.declared.grip.Grip.{Grip}
 use Rattle.drop_core.specs.Table.{has_slot}
 use Rattle.tx_sets.specs.declared.seen.Seen.{Seen}
@@ -18,9 +17,9 @@ use Rattle.array_pages.specs.Steps.{RefusesGive}
 use Rattle.foster_tree.proofs.HalfLaws.{missed_searched}
 use Rattle.tree_walks.specs.declared.ways.Bare.{Bare}
 use Rattle.tree_walks.specs.declared.ways.Page.{Page}
-use Rattle.tree_walks.specs.Walks.{CanWalk, HasWalked, KeepsMet}
-use Rattle.tree_walks.specs.Ways.{IsBareOn, IsOnWay, IsWayPointer}
-use Rattle.tree_walks.proofs.KeepLaws.{keeps_none, keeps_pointer}
+use Rattle.tree_walks.specs.Walks.{CanWalk, HasWalked}
+use Rattle.tree_walks.specs.Ways.{IsBareOn, IsWayPointer}
+use Rattle.tree_walks.proofs.KeepLaws.{keeps_pointer}
 use Rattle.tree_walks.proofs.LoadLaws.{IsLoad, follow_load, load_went, trees_by}
 use Rattle.tree_walks.proofs.RefusalLaws.{saw_back}
 use Rattle.tree_walks.proofs.StepLaws.{can_after, led_none, led_then, on_stays, only_self, walked_self, word_stays}

@@ -1,5 +1,5 @@
 -- Where a key stands in the leaf in memory that it belongs to.
-use Rattle.std.proofs.Common.{◌≡◌, ℕ, ◌+◌, ◌*◌, ◌<◌, ◌≤◌, true, false, List, [], refl, sym, ap, ◌∙◌, subst, arith, Some}
+use Rattle.std.proofs.Common.{◌≡◌, ℕ, ◌+◌, ◌*◌, ◌<◌, ◌≤◌, true, false, List, refl, sym, ◌∙◌, subst, arith, Some}
 use Rattle.std.specs.Prelude.{Ok, Err}
 use Rattle.std.specs.List.{slice_get}
 use Rattle.lists.specs.Elements.{at_below}
@@ -14,7 +14,6 @@ use Rattle.engine_pages.specs.Words.{spot}
 use Rattle.array_pages.specs.Finding.{HasGlanced}
 use Rattle.foster_tree.proofs.AddLaws.{storage_of}
 use Rattle.tree_walks.specs.declared.ways.Leaf.{Leaf}
-use Rattle.tree_walks.specs.Walks.{AreLedTo, KeepsMet}
 use Rattle.tree_walks.specs.Ways.{IsLeafOn}
 use Rattle.tree_walks.proofs.KeepLaws.{keeps_glanced}
 use Rattle.tree_walks.proofs.LoadLaws.{glanced_grip, glanced_walked, glanced_went}
@@ -22,7 +21,7 @@ use Rattle.tree_walks.proofs.StepLaws.{led_none}
 use Rattle.tree_walks.proofs.WayLaws.{leaf_on_glanced, leaf_stays, record_stays}
 use Rattle.tree_making.specs.declared.making.Made.{Made}
 use Rattle.tree_making.specs.declared.making.Made.TheVariants as mades
-use Rattle.tree_making.specs.Making.{CanMake, IsMade, MakesSo, Worked}
+use Rattle.tree_making.specs.Making.{IsMade, MakesSo}
 use Rattle.tree_making.proofs.MakeLaws.{makes_on, worked_walk}
 
 -- an index that was found is one of a record

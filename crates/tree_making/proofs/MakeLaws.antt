@@ -1,6 +1,6 @@
 -- Parts of what brings pages into memory, one behind another.
-use Rattle.std.proofs.Common.{◌≡◌, ◌⊎◌, inl, inr, ℕ, ◌+◌, ◌<◌, ◌≤◌, List, length, refl, sym, ap, ◌∙◌, subst, arith}
-use Rattle.std.specs.Prelude.{Result, Ok, Err, IfErr}
+use Rattle.std.proofs.Common.{inl, inr, ℕ, ◌+◌, ◌≤◌, List, sym, ap, ◌∙◌, arith}
+use Rattle.std.specs.Prelude.{Result, Ok, Err}
 use Rattle.serial_model.specs.declared.key.Key.{Key}
 use Rattle.tx_sets.specs.declared.seen.Seen.{Seen}
 use Rattle.engine_pages.specs.declared.view.RefusalCause.{RefusalCause}

@@ -1,10 +1,9 @@
 -- What it comes to that a page of a tree is made from a page of a snapshot, or from none.
-use Rattle.std.proofs.Common.{◌≡◌, ◌≢◌, ◌⊎◌, inl, inr, ℕ, ◌+◌, ◌*◌, ◌/◌, ◌<◌, ◌≤◌, Bool, true, false, cond, List, [], ◌∷◌, length, get_or}
-use Rattle.std.proofs.Common.{map, refl, sym, ap, ◌∙◌, subst, arith, Some, eq-eqb, length-append, true≢false}
+use Rattle.std.proofs.Common.{◌≡◌, ◌≢◌, inl, inr, ℕ, ◌+◌, ◌/◌, ◌<◌, ◌≤◌, Bool, true, cond, List, [], ◌∷◌, length, get_or}
+use Rattle.std.proofs.Common.{map, refl, sym, ap, ◌∙◌, subst, arith, eq-eqb, length-append, true≢false}
 use Rattle.std.specs.Prelude.{not, Result, Ok, Err, IfOk}
 use Rattle.std.specs.List.{Contains}
 use Rattle.lists.specs.Elements.{in_head, in_none}
-use Rattle.serial_model.specs.Decls.{AreDecls}
 use Rattle.serial_model.specs.declared.key.Key.{Key}
 use Rattle.homes.specs.declared.places.Content.{Content}
 use Rattle.homes.specs.declared.places.Span.{Span}
@@ -14,12 +13,11 @@ use Rattle.snapshot_store.specs.Places.{page as page_words}
 use Rattle.drop_core.specs.Table.{has_slot}
 use Rattle.engine_pages.specs.declared.layout.Layout.{Layout}
 use Rattle.engine_pages.specs.declared.view.Draft.{Draft}
-use Rattle.engine_pages.specs.declared.view.Lead.{Lead}
 use Rattle.engine_pages.specs.declared.view.NewInner.{NewInner}
 use Rattle.engine_pages.specs.declared.view.NewLeaf.{NewLeaf}
 use Rattle.engine_pages.specs.declared.view.RefusalCause.{RefusalCause}
 use Rattle.engine_pages.specs.declared.view.View.{View}
-use Rattle.engine_pages.specs.Layout.{slot_at, snap_at}
+use Rattle.engine_pages.specs.Layout.{snap_at}
 use Rattle.engine_pages.specs.Loads.{HasLoaded}
 use Rattle.engine_pages.specs.Pages.{is_tree}
 use Rattle.engine_pages.specs.Resident.{tree_below}

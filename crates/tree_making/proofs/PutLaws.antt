@@ -1,7 +1,7 @@
 -- What it comes to that a page is put in below a pointer.
-use Rattle.std.proofs.Common.{◌≡◌, ◌≢◌, ◌⊎◌, inl, inr, ℕ, ◌+◌, ◌^◌, ◌<◌, ◌≤◌, Bool, true, false, cond, eqb, eq-eqb}
+use Rattle.std.proofs.Common.{◌≡◌, ◌≢◌, inl, inr, ℕ, ◌+◌, ◌<◌, Bool, true, false, cond, eqb, eq-eqb}
 use Rattle.std.proofs.Common.{List, [], ◌∷◌, ◌++◌, length, refl, sym, ap, ◌∙◌, subst, arith, Option, Some}
-use Rattle.std.specs.Prelude.{not, Ok, Err, ◌||◌}
+use Rattle.std.specs.Prelude.{not, Ok, Err}
 use Rattle.std.specs.List.{Contains}
 use Rattle.std.proofs.lemmas.Bool.{or_left, or_right}
 use Rattle.lists.specs.Elements.{in_head, in_tail}
@@ -36,7 +36,7 @@ use Rattle.tree_walks.specs.Walks.{as_walked, HasWalked}
 use Rattle.tree_walks.specs.Ways.{IsBareOn, IsOnWay}
 use Rattle.tree_walks.proofs.EnterLaws.{enter_new}
 use Rattle.tree_walks.proofs.LoadLaws.{trees_by}
-use Rattle.tree_walks.proofs.StepLaws.{can_by, layout_stays, led_new, only_but, slots_stay, tree_stays, word_stays}
+use Rattle.tree_walks.proofs.StepLaws.{can_by, led_new, only_but, slots_stay, tree_stays, word_stays}
 use Rattle.tree_walks.proofs.WayLaws.{pointer_stays}
 use Rattle.tree_making.specs.Making.{CanMake}
 use Rattle.tree_making.specs.Pages.{as_paged, HasPage, PutsSo}

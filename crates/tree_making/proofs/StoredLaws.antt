@@ -1,13 +1,12 @@
 -- A leaf of a tree in a snapshot: its records, and what a copy of it shows.
 use Rattle.std.proofs.Common.{◌≡◌, ◌≢◌, ◌⊎◌, inl, inr, ℕ, zero, suc, ◌+◌, ◌-◌, ◌*◌, ◌/◌, ◌%◌, ◌<◌, ◌≤◌, Bool, true, false, true≢false}
-use Rattle.std.proofs.Common.{List, [], ◌∷◌, ◌++◌, length, get_or, map, replicate, refl, sym, ap, ◌∙◌, subst, arith, Some, None, eqb-true}
-use Rattle.std.specs.Prelude.{not, ◌&&◌, ◌||◌}
-use Rattle.std.specs.List.{AllByRecursion, flat_map, slice_get, Contains}
+use Rattle.std.proofs.Common.{List, [], ◌∷◌, ◌++◌, length, get_or, map, replicate, refl, sym, ap, ◌∙◌, subst, arith, Some}
+use Rattle.std.specs.Prelude.{not, ◌&&◌}
+use Rattle.std.specs.List.{AllByRecursion, flat_map, slice_get}
 use Rattle.std.proofs.lemmas.Bool.{or_cases}
 use Rattle.std.proofs.lemmas.List.{length-map}
 use Rattle.serial_model.specs.declared.decl.Decl.{Decl}
 use Rattle.serial_model.specs.declared.key.Key.{Key}
-use Rattle.serial_model.specs.declared.number.Number.{Number}
 use Rattle.serial_model.specs.Decls.{AreDecls}
 use Rattle.homes.specs.declared.places.Content.{Content}
 use Rattle.homes.specs.declared.places.Holder.TheVariants.{Free}
@@ -17,7 +16,7 @@ use Rattle.homes.specs.Laws.{in_span-from, same_key-true}
 use Rattle.wire_form.specs.declared.page.PageKind.TheVariants.{TreeInner, TreeLeaf}
 use Rattle.wire_form.specs.declared.records.TreeRecord.{TreeRecord}
 use Rattle.wire_form.specs.Items.{Rises, RisesAfter}
-use Rattle.wire_form.specs.Pages.{HasKind, IsTreeLeaf, IsTreeRecord, device_header, record_key, tree_leaf_words, tree_record_words}
+use Rattle.wire_form.specs.Pages.{HasKind, IsTreeRecord, device_header, record_key, tree_leaf_words, tree_record_words}
 use Rattle.wire_form.specs.Words.{number_in, number_word}
 use Rattle.snapshot_store.specs.Content.{format_of, IsPageOf}
 use Rattle.snapshot_store.specs.Places.{StandsTo, page as page_words}
@@ -33,8 +32,7 @@ use Rattle.tree_walks.proofs.DeclLaws.{tree_of}
 use Rattle.tree_walks.specs.Snapshots.{read_so}
 use Rattle.foster_tree.proofs.LockLaws.{number_said}
 use Rattle.foster_tree.proofs.FillLaws.{at_map}
-use Rattle.foster_tree.proofs.WordLaws.{HasRecord}
-use Rattle.tree_making.proofs.SnapLaws.{entry_of, leaf_head, leaf_record}
+use Rattle.tree_making.proofs.SnapLaws.{leaf_head, leaf_record}
 
 -- ---- which page it is
 

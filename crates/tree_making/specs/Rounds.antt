@@ -1,5 +1,5 @@
 -- Pages that are put in one after another: each holds a slot more.
-use Rattle.std.specs.Prelude.{ℕ, zero, suc, ◌+◌, Bool, true, false, List, Result}
+use Rattle.std.specs.Prelude.{ℕ, zero, suc, ◌+◌, Bool, true, false, List}
 use Rattle.drop_core.specs.Table.{has_slot}
 
 -- 1 for a slot that isn't held

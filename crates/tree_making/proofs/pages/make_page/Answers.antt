@@ -1,4 +1,3 @@
-use Rattle.std.proofs.Common.{sym, ◌∙◌}
 use Rattle.std.proofs.lemmas.Result.{err_from_is_err_and}
 use Rattle.engine_pages.specs.Passes.{view}
 use Rattle.tree_making.proofs.PageLaws.{blank_so, no_entries}

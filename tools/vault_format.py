@@ -105,6 +105,10 @@ class Vault:
         if self.savepoint is not None:
             self.read_counted()
 
+    def __del__(self):
+        if self.lock is not None:
+            os.close(self.lock)
+
     def content(self, name):
         """All bytes of a file. The savepoint's is locked against a running program as long as this object lives."""
         path = os.path.join(self.folder, name)

@@ -256,7 +256,16 @@ use Rattle.txn_tests.specs.Standing.{Stands}
 use Rattle.txn_tests.proofs.beside.FUNCTION.Given as goal
 
 abbrev pub invariant-loop-COUNTER : goal.invariant-loop-COUNTER
-invariant-loop-COUNTER l = Stands l.engine l.worker
+invariant-loop-COUNTER NAMES = Stands l.engine l.worker
+"""
+ANSWERS = """\
+use Rattle.txn_tests.proofs.beside.add_timed.Goals as goal
+
+pub returns-then-now-lines : goal.returns-then-now-lines
+returns-then-now-lines g c = c.note.ensures c.args.engine.now c.insist-tries.ensures
+
+pub loop-line-preserved : goal.loop-line-preserved
+loop-line-preserved g c = c.note.ensures c.args.engine.now c.insist-tries.ensures
 """
 LINE = """\
 
@@ -399,11 +408,13 @@ def make(folder):
         patched(f"{source}/{name}.rt", *pairs)
     with open(f"{source}/beside.rt", "w", encoding="utf-8") as target:
         target.write(BESIDE)
-    for function, counter in ("add_timed", "line"), ("insist", "tries"):
+    for function, counter, names in ("add_timed", "line", "g l"), ("insist", "tries", "l"):
         proofs = f"{folder}/crates/txn_tests/proofs/beside/{function}"
         os.makedirs(proofs, exist_ok=True)
         with open(f"{proofs}/Invariants.antt", "w", encoding="utf-8") as target:
-            target.write(KEPT.replace("FUNCTION", function).replace("COUNTER", counter))
+            target.write(KEPT.replace("FUNCTION", function).replace("COUNTER", counter).replace("NAMES", names))
+    with open(f"{source}/../proofs/beside/add_timed/Answers.antt", "w", encoding="utf-8") as target:
+        target.write(ANSWERS)
     return made(folder, NAME, MAIN)
 
 

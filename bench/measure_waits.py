@@ -327,7 +327,7 @@ fn main(rt: HostRuntime) -> io::Result<()> {
     let Ok(words) = env::args(&rt)?.collect::<Vec<String>>(rt.alloc()) else {
         return Ok(());
     };
-    let count = number_at(&words, 2, 4) as u8;
+    let count = number_at(&words, 2, 4).clamp(1, 8) as u8;
     let every = number_at(&words, 3, 0);
     let window = number_at(&words, 4, 40_000).saturating_mul(1_000);
     let mut took = 2_000_000;

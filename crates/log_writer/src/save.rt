@@ -78,6 +78,7 @@ fn read_place<D: Disk>(disk: &mut D, place: u8) -> Result<Option<Savepoint>, Sav
     ensures holds { IfOk result (λ point. IfTold (D.tells disk.old) (λ file. length file ≡ 1024
         → HasPoint place (place_in file place) point)) }
     ensures point { IfOk result (λ point. IfSome point IsSavepoint) }
+    ensures whole { OnOk result (D.gave disk.new ≡ 512) }
     ensures broken { (at : ℕ) → result ≡ Err (SaveOpen.Damaged at)
         → IfTold (D.tells disk.old) (λ file. length file ≡ 1024
         → IsBroken place (place_in file place) × (at ≡ 512 * place)) }

@@ -18,6 +18,9 @@ pub trait Disk {
     /// How often it has failed. The count never falls, and stays at its last value.
     ghost faults: { Self → ℕ };
 
+    /// How many bytes the last read that answered `Ok` gave.
+    ghost gave: { Self → ℕ };
+
     /// How many begins and ends of calls there were. A call that is made counts twice, whether it
     /// answers `Ok` or not; one that is refused before it begins, as for want of memory, doesn't
     /// count. Each call fails where the clock has no room for it.
@@ -36,6 +39,7 @@ pub trait Disk {
     /// the lesser of the buffer and of what lies there.
     fn read(&mut self, at: u64, buf: &mut [u8]) -> Result<usize, Failed>
         ensures count { IfOk result (λ n. n ≤ length buf.old) }
+        ensures gave { IfOk result (λ n. gave self.new ≡ n) }
         ensures value { IfOk result (λ n. IfTold (tells self.old) (λ file.
             (n ≡ min (length buf.old) (length file - at))
             × (buf.new ≡ take n (drop at file) ++ drop n buf.old))) }

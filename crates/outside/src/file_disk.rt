@@ -13,6 +13,8 @@ use std::io;
 pub struct FileDisk {
     file: SystemFile,
     clock: u64,
+    // What the last read that answered `Ok` gave, in bytes.
+    given: usize,
 }
 
 impl FileDisk {
@@ -23,6 +25,7 @@ impl FileDisk {
         FileDisk {
             file: SystemFile::new(file),
             clock: 0,
+            given: 0,
         }
     }
 
@@ -36,7 +39,7 @@ impl FileDisk {
         ensures ok { OnOk result (self.new.clock ≡ self.old.clock + 2) }
         ensures counted { OnOk result (self.new.clock < 2 ^ 64) }
         ensures err { OnErr result (self.new.clock ≡ self.old.clock) }
-        ensures cause { HasCause self.old.file.faults self.new.file.faults result }
+        ensures cause { HasCause self.old.file.answers.faults self.new.file.answers.faults result }
     {
         if self.clock > u64::MAX - 2 {
             return self.file.refuse();
@@ -53,7 +56,9 @@ impl Disk for FileDisk {
 
     ghost image_at = { λ _ _ _. Unit {0} };
 
-    ghost faults = { λ disk. disk.file.faults };
+    ghost faults = { λ disk. disk.file.answers.faults };
+
+    ghost gave = { λ disk. disk.given };
 
     ghost reads = { λ _ _ _. tt };
 
@@ -62,7 +67,7 @@ impl Disk for FileDisk {
     }
 
     fn faults(&self) -> u64 {
-        self.file.faults
+        self.file.answers.faults
     }
 
     fn len(&mut self) -> Result<u64, Failed> {
@@ -72,7 +77,8 @@ impl Disk for FileDisk {
 
     fn read(&mut self, at: u64, buf: &mut [u8]) -> Result<usize, Failed> {
         self.begin()?;
-        self.file.read(at, buf)
+        self.given = self.file.read(at, buf)?;
+        Ok(self.given)
     }
 
     fn write(&mut self, at: u64, bytes: &[u8]) -> Result<(), Failed> {

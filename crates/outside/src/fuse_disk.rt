@@ -74,6 +74,8 @@ impl<D: Disk> Disk for FuseDisk<D> {
 
     ghost faults = { λ fuse. min (D.faults fuse.disk + fuse.faults) (2 ^ 64 - 1) };
 
+    ghost gave = { λ fuse. D.gave fuse.disk };
+
     ghost reads = { λ fuse. D.reads fuse.disk };
 
     fn clock(&self) -> u64 {
@@ -100,6 +102,7 @@ impl<D: Disk> Disk for FuseDisk<D> {
 
     fn read(&mut self, at: u64, buf: &mut [u8]) -> Result<usize, Failed>
         ensures count { IfOk result (λ n. n ≤ length buf.old) }
+        ensures gave { IfOk result (λ n. D.gave self.new.disk ≡ n) }
         ensures value { IfOk result (λ n. IfTold (D.tells self.old.disk) (λ file.
             (n ≡ min (length buf.old) (length file - at))
             × (buf.new ≡ take n (drop at file) ++ drop n buf.old))) }

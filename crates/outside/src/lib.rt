@@ -44,6 +44,7 @@
 //! Design: docs/DURABILITY.md.
 #![tactic(auto)]
 
+mod answers;
 mod call;
 mod device;
 mod disk;

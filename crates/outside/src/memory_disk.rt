@@ -24,6 +24,8 @@ pub struct MemDisk {
     calls: Vec<Made>,
     fails: Vec<u64>,
     faults: u64,
+    // What the last read that answered `Ok` gave, in bytes.
+    given: usize,
     ghost replayed: { bytes.items ≡ read_through calls.items first.items },
     ghost counted: { 2 * length calls.items < 2 ^ 64 },
 }
@@ -63,6 +65,7 @@ impl MemDisk {
             calls: Vec::new(alloc),
             fails,
             faults: 0,
+            given: 0,
         })
     }
 
@@ -138,6 +141,27 @@ impl MemDisk {
         }
         Ok(())
     }
+
+    // Fills the front of the buffer with what lies from that offset on, and answers how many bytes.
+    fn fill(&mut self, at: u64, buf: &mut [u8]) -> Result<usize, Failed>
+        ensures count { IfOk result (λ n. n ≤ length buf.old) }
+        ensures value { IfOk result (λ n. IfTold (tells_of self.old) (λ file.
+            (n ≡ min (length buf.old) (length file - at))
+            × (buf.new ≡ take n (drop at file) ++ drop n buf.old))) }
+        ensures told { tells_of self.new ≡ tells_of self.old }
+        ensures goes { Calls clock_of image_of faults_of
+            Same (clock_of self.new) self.old self.new result }
+        ensures recorded { IsRecorded (λ call. call ≡ Call.Read) self.old.fails.items
+            self.old.calls.items self.new.calls.items result }
+        ensures stays { (self.new.first ≡ self.old.first) × (self.new.fails ≡ self.old.fails) }
+    {
+        self.make(Call::Read, None)?;
+        let at = at.min(self.bytes.len() as u64) as usize;
+        let rest = &self.bytes[at..];
+        let count = rest.len().min(buf.len());
+        buf[..count].copy_from_slice(&rest[..count]);
+        Ok(count)
+    }
 }
 
 impl Disk for MemDisk {
@@ -150,6 +174,8 @@ impl Disk for MemDisk {
     ghost image_at = { λ disk. IsImage disk.first.items disk.calls.items };
 
     ghost faults = { λ disk. disk.faults };
+
+    ghost gave = { λ disk. disk.given };
 
     ghost reads = { λ disk file is. told_as_left disk.calls.items disk.first.items disk.bytes.items file disk.replayed is };
 
@@ -176,6 +202,7 @@ impl Disk for MemDisk {
 
     fn read(&mut self, at: u64, buf: &mut [u8]) -> Result<usize, Failed>
         ensures count { IfOk result (λ n. n ≤ length buf.old) }
+        ensures gave { IfOk result (λ n. self.new.given ≡ n) }
         ensures value { IfOk result (λ n. IfTold (tells_of self.old) (λ file.
             (n ≡ min (length buf.old) (length file - at))
             × (buf.new ≡ take n (drop at file) ++ drop n buf.old))) }
@@ -186,12 +213,8 @@ impl Disk for MemDisk {
             self.old.calls.items self.new.calls.items result }
         ensures stays { (self.new.first ≡ self.old.first) × (self.new.fails ≡ self.old.fails) }
     {
-        self.make(Call::Read, None)?;
-        let at = at.min(self.bytes.len() as u64) as usize;
-        let rest = &self.bytes[at..];
-        let count = rest.len().min(buf.len());
-        buf[..count].copy_from_slice(&rest[..count]);
-        Ok(count)
+        self.given = self.fill(at, buf)?;
+        Ok(self.given)
     }
 
     #[tactic(auto, using(crate::proofs::Tears::torn_kept))]

@@ -1,9 +1,9 @@
 // A file of the system, with a count of its calls that failed.
-ghost use Rattle.std.specs.Prelude.{◌≡◌, ◌≤◌, Ok, length, IfOk, IsErr};
+ghost use Rattle.std.specs.Prelude.{◌≡◌, ◌≤◌, ◌+◌, ◌-◌, ◌^◌, length, min, IfOk, IsErr};
 ghost use Rattle.outside.specs.Faults.{HasCause};
 
 use crate::Failed;
-use crate::fault::count_fault;
+use crate::answers::Answers;
 use std::fs::File;
 use std::io::{self, ErrorKind, Seek, SeekFrom};
 use std::os::unix::fs::FileExt;
@@ -13,60 +13,45 @@ use std::os::unix::fs::FileExt;
 #[derive(Drop)]
 pub(crate) struct SystemFile {
     file: File,
-    pub(crate) faults: u64,
-    // What the system said to the last call that it refused.
-    cause: Option<io::Error>,
+    pub(crate) answers: Answers,
 }
 
 impl SystemFile {
     pub(crate) fn new(file: File) -> Self
-        ensures { result.faults ≡ 0 }
+        ensures { result.answers.faults ≡ 0 }
     {
         SystemFile {
             file,
-            faults: 0,
-            cause: None,
+            answers: Answers::none(),
         }
     }
 
     pub(crate) fn cause(&self) -> Option<io::Error> {
-        self.cause
-    }
-
-    // What the system answered to a call.
-    fn told<T: Drop>(&mut self, answer: io::Result<T>) -> Result<T, Failed>
-        ensures value { IfOk result (λ value. answer ≡ Ok value) }
-        ensures cause { HasCause self.old.faults self.new.faults result }
-    {
-        match answer {
-            Ok(value) => Ok(value),
-            Err(error) => {
-                self.cause = Some(error);
-                Err(count_fault(&mut self.faults))
-            }
-        }
+        self.answers.cause()
     }
 
     pub(crate) fn len(&mut self) -> Result<u64, Failed>
-        ensures { HasCause self.old.faults self.new.faults result }
+        ensures cause { HasCause self.old.answers.faults self.new.answers.faults result }
+        ensures asked { self.new.answers.count ≡ min (self.old.answers.count + 1) (2 ^ 64 - 1) }
     {
         let answer = self.file.seek(SeekFrom::End(0));
-        self.told(answer)
+        self.answers.take(answer)
     }
 
     // The system may give less than there is.
     fn read_some(&mut self, at: u64, buf: &mut [u8]) -> Result<usize, Failed>
         ensures count { IfOk result (λ count. count ≤ length buf.old) }
-        ensures cause { HasCause self.old.faults self.new.faults result }
+        ensures cause { HasCause self.old.answers.faults self.new.answers.faults result }
+        ensures asked { self.new.answers.count ≡ min (self.old.answers.count + 1) (2 ^ 64 - 1) }
     {
         let answer = read_once(&self.file, at, buf);
-        self.told(answer)
+        self.answers.take(answer)
     }
 
     /// Fills the buffer as far as the file goes.
     pub(crate) fn read(&mut self, at: u64, buf: &mut [u8]) -> Result<usize, Failed>
         ensures count { IfOk result (λ count. count ≤ length buf.old) }
-        ensures cause { HasCause self.old.faults self.new.faults result }
+        ensures cause { HasCause self.old.answers.faults self.new.answers.faults result }
     {
         let mut count = 0;
         for _ in 0..u64::MAX {
@@ -80,22 +65,24 @@ impl SystemFile {
     }
 
     pub(crate) fn write(&mut self, at: u64, bytes: &[u8]) -> Result<(), Failed>
-        ensures { HasCause self.old.faults self.new.faults result }
+        ensures cause { HasCause self.old.answers.faults self.new.answers.faults result }
+        ensures asked { self.new.answers.count ≡ min (self.old.answers.count + 1) (2 ^ 64 - 1) }
     {
         let answer = self.file.write_all_at(bytes, at);
-        self.told(answer)
+        self.answers.take(answer)
     }
 
     fn set_len(&mut self, len: u64) -> Result<(), Failed>
-        ensures { HasCause self.old.faults self.new.faults result }
+        ensures cause { HasCause self.old.answers.faults self.new.answers.faults result }
+        ensures asked { self.new.answers.count ≡ min (self.old.answers.count + 1) (2 ^ 64 - 1) }
     {
         let answer = self.file.set_len(len);
-        self.told(answer)
+        self.answers.take(answer)
     }
 
     /// Asked to set a greater length, the system would make the file longer.
     pub(crate) fn cut(&mut self, len: u64) -> Result<(), Failed>
-        ensures { HasCause self.old.faults self.new.faults result }
+        ensures { HasCause self.old.answers.faults self.new.answers.faults result }
     {
         if len < self.len()? {
             return self.set_len(len);
@@ -104,18 +91,19 @@ impl SystemFile {
     }
 
     pub(crate) fn sync(&mut self) -> Result<(), Failed>
-        ensures { HasCause self.old.faults self.new.faults result }
+        ensures cause { HasCause self.old.answers.faults self.new.answers.faults result }
+        ensures asked { self.new.answers.count ≡ min (self.old.answers.count + 1) (2 ^ 64 - 1) }
     {
         let answer = self.file.sync_all();
-        self.told(answer)
+        self.answers.take(answer)
     }
 
     /// Counts a call that isn't made.
     pub(crate) fn refuse(&mut self) -> Result<(), Failed>
         ensures refused { IsErr result }
-        ensures cause { HasCause self.old.faults self.new.faults result }
+        ensures cause { HasCause self.old.answers.faults self.new.answers.faults result }
     {
-        Err(count_fault(&mut self.faults))
+        self.answers.refuse()
     }
 }
 

@@ -21,6 +21,7 @@ fn read_one<D: Disk>(disk: &mut D, number: u32) -> Result<Page, OrMemory<StoreFa
     ensures bytes { IfOk result (λ page. IfTold (D.tells disk.old) (λ file.
         bytes_of_page page ≡ take 512 (drop (512 * (number - 1)) file))) }
     ensures whole { IfOk result IsWhole }
+    ensures gave { OnOk result (D.gave disk.new ≡ 512) }
     ensures number { IfOk result (λ page. page.number ≡ number) }
     ensures kind { IfOk result (λ page. page.kind ≡ Catalogue) }
     ensures short { (at : ℕ) → result ≡ Err (OrMemory.Fault (StoreFault.Short at))

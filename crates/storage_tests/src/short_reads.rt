@@ -16,6 +16,8 @@ use std::alloc::Global;
 struct HalfDisk {
     len: u64,
     clock: u64,
+    // What the last read gave, in bytes.
+    given: usize,
 }
 
 impl HalfDisk {
@@ -42,6 +44,8 @@ impl Disk for HalfDisk {
 
     ghost faults = { λ _. 2 ^ 64 - 1 };
 
+    ghost gave = { λ disk. disk.given };
+
     ghost reads = { λ _ _ _. tt };
 
     fn clock(&self) -> u64 {
@@ -59,7 +63,8 @@ impl Disk for HalfDisk {
 
     fn read(&mut self, _at: u64, buf: &mut [u8]) -> Result<usize, Failed> {
         self.begin()?;
-        Ok(buf.len() / 2)
+        self.given = buf.len() / 2;
+        Ok(self.given)
     }
 
     fn write(&mut self, _at: u64, _bytes: &[u8]) -> Result<(), Failed> {
@@ -76,7 +81,11 @@ impl Disk for HalfDisk {
 }
 
 fn half_disk(len: u64) -> HalfDisk {
-    HalfDisk { len, clock: 0 }
+    HalfDisk {
+        len,
+        clock: 0,
+        given: 0,
+    }
 }
 
 // Why a save device can't be used.

@@ -3,4 +3,4 @@ use Rattle.std.proofs.Common.{◌≡◌, ◌≤◌, length}
 use Rattle.outside.proofs.system_file.SystemFile.read.Given as goal
 
 abbrev pub invariant-loop : goal.invariant-loop
-invariant-loop l = (l.count ≤ length l.buf) × (l.self.faults ≡ l.initial.self.faults)
+invariant-loop l = (l.count ≤ length l.buf) × (l.self.answers.faults ≡ l.initial.self.answers.faults)

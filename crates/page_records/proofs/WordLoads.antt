@@ -1,12 +1,16 @@
 -- A record's word is loaded, of which nothing is kept.
-use Rattle.std.proofs.Common.{◌≡◌, ◌⊎◌, inl, inr, ℕ, ◌+◌, ◌/◌, ◌%◌, ◌<◌, ◌^◌, List, get_or, refl, sym, ap, ◌∙◌, arith}
+use Rattle.std.proofs.Common.{◌≡◌, ◌⊎◌, inl, inr, ℕ, ◌+◌, ◌/◌, ◌%◌, ◌<◌, ◌^◌, List, get_or, true, true≢false}
+use Rattle.std.proofs.Common.{refl, sym, ap, ◌∙◌, arith}
 use Rattle.std.specs.List.{Contains}
 use Rattle.atomic_table.specs.Table.{Me, Allows}
+use Rattle.serial_model.specs.declared.decl.Decl.{Decl}
 use Rattle.serial_model.specs.declared.key.Key.{Key}
 use Rattle.homes.specs.declared.places.Holder.{Holder}
 use Rattle.homes.specs.declared.places.Holder.TheVariants.{Free, Held, Dead}
 use Rattle.homes.specs.declared.places.Spot.{Spot}
 use Rattle.wire_form.specs.Words.{at_bit, number_word}
+use Rattle.commit_core.specs.declared.place.Place.{Place}
+use Rattle.commit_core.specs.declared.story.Story.{Story}
 use Rattle.commit_core.specs.Places.{place_of}
 use Rattle.drop_core.specs.declared.table.Page.TheVariants.{Leaf, Split}
 use Rattle.drop_core.specs.Table.{page_of}
@@ -14,12 +18,14 @@ use Rattle.engine_pages.specs.declared.layout.Layout.{Layout}
 use Rattle.engine_pages.specs.declared.view.Moved.{Moved}
 use Rattle.engine_pages.specs.declared.view.View.{View}
 use Rattle.engine_pages.specs.Records.{IsAnyRecordAt}
-use Rattle.engine_pages.specs.Rule.{Shared, Shows}
+use Rattle.engine_pages.specs.Pages.{is_array}
+use Rattle.engine_pages.specs.Rule.{Shared, Shows, IsBitAt}
 use Rattle.engine_pages.specs.Views.{IsActive}
 use Rattle.engine_pages.specs.Words.{lock_field}
 use Rattle.engine_pages.proofs.Joint.{Laws}
 use Rattle.engine_pages.proofs.Looks.{look_stride}
 use Rattle.engine_pages.proofs.Turns.{Begins, allows_at}
+use Rattle.page_records.specs.Locks.{array_absence}
 use Rattle.page_records.specs.Reads.{read_at, LoadedWord}
 use Rattle.page_records.proofs.AnyRecord.{any_stands, bit_one}
 use Rattle.page_records.proofs.Contents.{small_word}
@@ -36,6 +42,17 @@ few_bits n bit (Held p) few (inl none) = omega arith
 few_bits n bit (Held p) few (inr set) = omega arith
 few_bits n bit Dead few (inl none) = omega arith
 few_bits n bit Dead few (inr set) = omega arith
+
+-- of an array's record there is none of absence
+few_plain : (n bit : ℕ) (h : Holder) → n < 2 ^ 60 → bit ≡ 0 → (n + lock_field h) + bit < 2 ^ 61
+few_plain n bit Free few none = omega arith
+few_plain n bit (Held p) few none = omega arith
+few_plain n bit Dead few none = omega arith
+
+plain_bit : (decls : List Decl) (s : Story) (k : Key) (q : Place) (bit : ℕ) → is_array decls k.storage ≡ true
+    → IsBitAt decls s k q bit → bit ≡ 0
+plain_bit decls s k q bit array (inl is) = is ∙ array_absence decls k q.content.value array
+plain_bit decls s k q bit array (inr old) = absurd (true≢false (sym array ∙ old.0))
 
 -- behind them stands the number
 low_bits : (n bit : ℕ) (h : Holder) → n < 2 ^ 60 → (bit ≡ 0) ⊎ (bit ≡ at_bit 61 1)
@@ -110,6 +127,14 @@ loads_word laws l slots id me k x at active is =
     record {
       is = refl;
       few = let word = r.word in omega arith;
+      array = λ k' x' a.
+          let r' = any_stands l words views s id v b k' x' at (inl a) in
+          let q' = place_of s.story.places x' in
+          let word = r'.word in
+          let less = few_plain (number_word q'.content.number) r'.absent q'.holder
+          (small_word q'.content.number r'.small)
+          (plain_bit l.decls s.story k' q' r'.absent (arrays.array_is l words views s id v b k' x' at a) r'.bit) in
+          omega (arith, word, less);
       number = q.content.number;
       small = r.small;
       says = ap (λ z. z % 2 ^ 60) r.word ∙ low_bits (number_word q.content.number) r.absent q.holder low one;

@@ -16,6 +16,7 @@ use Rattle.engine_pages.specs.declared.view.Loaded.{Loaded}
 use Rattle.engine_pages.specs.declared.view.Moved.{Moved}
 use Rattle.engine_pages.specs.declared.view.View.{View}
 pub use Rattle.engine_pages.specs.Steps.{seen_at, with_read, read_at}
+use Rattle.engine_pages.specs.Records.{IsRecordAt}
 use Rattle.engine_pages.specs.Words.{IsSmall}
 
 -- ---- the first load
@@ -55,11 +56,12 @@ SeesRecord k x s v n w = Saw k x s.word v n w
 
 -- ---- a load that keeps nothing
 
--- The word of a record in this slot was loaded: it has no bit above that of absence, and its number fits; it is locked
--- where the slot's leaf is known to have been split.
+-- The word of a record in this slot was loaded: it has no bit above that of absence, an array's none above the lock, and
+-- its number fits; it is locked where the slot's leaf is known to have been split.
 pub record LoadedWord (t at : ℕ) (v : View) (n : ℕ) (w : View) : Type 0 where
   pub is : w ≡ read_at at n v
   pub few : n < 2 ^ 62
+  pub array : (k : Key) (x : Spot) → IsRecordAt v k x at → n < 2 ^ 61
   -- its number
   pub number : Number
   pub small : IsSmall number

@@ -58,27 +58,28 @@ pub fn check(
     ensures checks { Checked spot at word own (view pass.old) result (view pass.new) }
     ensures held { HeldStays key spot (view pass.old) result }
 {
-    check_as::<Brand>(engine, pass, key, spot, at, word, own)
+    check_as::<Brand, Spot>(engine, pass, key, spot, at, word, own)
 }
 
-fn check_as<J: Compared>(
+/// The same at the place that the call picks, maybe by a value, which is not read.
+pub fn check_as<J: Compared, S: Copy>(
     engine: &Engine,
     pass: &mut Pass,
     key: Key,
-    spot: Spot,
+    _place: S,
     at: u32,
     word: u64,
     own: bool,
 ) -> u64
     requires of { IsPassOf engine.now pass.old }
     requires pass { IsActive (view pass.old).role }
-    requires place { IsAnyRecordAt (view pass.old) key spot at }
-    requires part { CanCheckWord (view pass.old) key spot word }
-    requires own { own ≡ has_took (view pass.old).took key spot }
-    requires named { (key ≡ J.key) × (spot ≡ J.spot) × (word ≡ J.word) × (own ≡ J.own) }
+    requires place { IsAnyRecordAt (view pass.old) key J.spot at }
+    requires part { CanCheckWord (view pass.old) key J.spot word }
+    requires own { own ≡ has_took (view pass.old).took key J.spot }
+    requires named { (key ≡ J.key) × (word ≡ J.word) × (own ≡ J.own) }
     ensures of { IsPassOf engine.now pass.new }
-    ensures checks { Checked spot at word own (view pass.old) result (view pass.new) }
-    ensures held { HeldStays key spot (view pass.old) result }
+    ensures checks { Checked J.spot at word own (view pass.old) result (view pass.new) }
+    ensures held { HeldStays key J.spot (view pass.old) result }
 {
     laws();
     engine.table.shared.load::<Checking<J>>(pass, at as usize)

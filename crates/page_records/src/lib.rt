@@ -8,6 +8,7 @@
 //! its attempt takes the next number (`draw`), and counts (`decide`) once each of its parts was found as it was seen, or
 //! under an own lock at its place (`check`). One that ends before (`forget`) is refused only for what its pass met: so a
 //! conflict at an array's record is with another seat, which has taken a lock of that key.
+//! A place is told at run time, or picked for the proof alone (`lock_as`), where it follows from what else is told.
 //! Terms: *record word*, the number of the last write, a lock bit, and in a tree the bit of absence; *place*, a slot and an
 //! index in its page.
 //! Layout: specs/Reads.antt, Locks, Attempts and Ends, what steps tell. In proofs/ `Leaves` says what a way tells of an
@@ -25,8 +26,10 @@ mod laws;
 mod locking;
 mod reading;
 
-pub use attempts::{check, decide, draw, draw_as};
+pub use attempts::{check, check_as, decide, draw, draw_as};
 pub use ends::{begin, forget};
-pub use law::Writing;
-pub use locking::{LOCK, lock, open_again, open_anew, put};
-pub use reading::{confirm, load_value, load_word, see};
+pub use law::{Compared, Placed, Writing};
+pub use locking::{
+    LOCK, lock, lock_as, open_again, open_again_as, open_anew, open_anew_as, put, put_as,
+};
+pub use reading::{confirm, load_value, load_word, load_word_as, see};

@@ -27,25 +27,26 @@ pub fn lock(engine: &Engine, pass: &mut Pass, key: Key, spot: Spot, at: u32, exp
     ensures of { IsPassOf engine.now pass.new }
     ensures locks { Locked key spot at expected (view pass.old) result (view pass.new) }
 {
-    lock_as::<Brand>(engine, pass, key, spot, at, expected)
+    lock_as::<Brand, Spot>(engine, pass, key, spot, at, expected)
 }
 
-fn lock_as<J: Placed>(
+/// The same at the place that the call picks, maybe by a value, which is not read.
+pub fn lock_as<J: Placed, S: Copy>(
     engine: &Engine,
     pass: &mut Pass,
     key: Key,
-    spot: Spot,
+    _place: S,
     at: u32,
     expected: u64,
 ) -> u64
     requires of { IsPassOf engine.now pass.old }
     requires pass { IsActive (view pass.old).role }
     requires idle { can_begin (view pass.old).seat.stage ≡ true }
-    requires place { IsAnyRecordAt (view pass.old) key spot at }
+    requires place { IsAnyRecordAt (view pass.old) key J.spot at }
     requires expected { IsOpenWord expected }
-    requires named { (key ≡ J.key) × (spot ≡ J.spot) }
+    requires named { key ≡ J.key }
     ensures of { IsPassOf engine.now pass.new }
-    ensures locks { Locked key spot at expected (view pass.old) result (view pass.new) }
+    ensures locks { Locked key J.spot at expected (view pass.old) result (view pass.new) }
 {
     laws();
     engine
@@ -64,15 +65,23 @@ pub fn put(engine: &Engine, pass: &mut Pass, key: Key, spot: Spot, at: u32, valu
     ensures of { IsPassOf engine.now pass.new }
     ensures puts { view pass.new ≡ put_at key (at + 1) value (view pass.old) }
 {
-    put_as::<Brand>(engine, pass, key, spot, at, value);
+    put_as::<Brand, Spot>(engine, pass, key, spot, at, value);
 }
 
-fn put_as<J: Placed>(engine: &Engine, pass: &mut Pass, key: Key, spot: Spot, at: u32, value: u64)
+/// The same at the place that the call picks, maybe by a value, which is not read.
+pub fn put_as<J: Placed, S: Copy>(
+    engine: &Engine,
+    pass: &mut Pass,
+    key: Key,
+    _place: S,
+    at: u32,
+    value: u64,
+)
     requires of { IsPassOf engine.now pass.old }
     requires pass { IsActive (view pass.old).role }
-    requires place { IsAnyRecordAt (view pass.old) key spot at }
-    requires writes { CanPut (view pass.old) key spot value }
-    requires named { (key ≡ J.key) × (spot ≡ J.spot) }
+    requires place { IsAnyRecordAt (view pass.old) key J.spot at }
+    requires writes { CanPut (view pass.old) key J.spot value }
+    requires named { key ≡ J.key }
     ensures of { IsPassOf engine.now pass.new }
     ensures puts { view pass.new ≡ put_at key (at + 1) value (view pass.old) }
 {
@@ -92,22 +101,23 @@ pub fn open_again(engine: &Engine, pass: &mut Pass, key: Key, spot: Spot, at: u3
     ensures of { IsPassOf engine.now pass.new }
     ensures opens { view pass.new ≡ opened key at word (view pass.old) }
 {
-    open_again_as::<Brand>(engine, pass, key, spot, at, word);
+    open_again_as::<Brand, Spot>(engine, pass, key, spot, at, word);
 }
 
-fn open_again_as<J: Placed>(
+/// The same at the place that the call picks, maybe by a value, which is not read.
+pub fn open_again_as<J: Placed, S: Copy>(
     engine: &Engine,
     pass: &mut Pass,
     key: Key,
-    spot: Spot,
+    _place: S,
     at: u32,
     word: u64,
 )
     requires of { IsPassOf engine.now pass.old }
     requires pass { IsActive (view pass.old).role }
-    requires place { IsAnyRecordAt (view pass.old) key spot at }
-    requires word { CanOpenAgain (view pass.old) key spot word }
-    requires named { (key ≡ J.key) × (spot ≡ J.spot) }
+    requires place { IsAnyRecordAt (view pass.old) key J.spot at }
+    requires word { CanOpenAgain (view pass.old) key J.spot word }
+    requires named { key ≡ J.key }
     ensures of { IsPassOf engine.now pass.new }
     ensures opens { view pass.new ≡ opened key at word (view pass.old) }
 {
@@ -128,22 +138,23 @@ pub fn open_anew(engine: &Engine, pass: &mut Pass, key: Key, spot: Spot, at: u32
     ensures of { IsPassOf engine.now pass.new }
     ensures opens { view pass.new ≡ opened key at word (view pass.old) }
 {
-    open_anew_as::<Brand>(engine, pass, key, spot, at, word);
+    open_anew_as::<Brand, Spot>(engine, pass, key, spot, at, word);
 }
 
-fn open_anew_as<J: Placed>(
+/// The same at the place that the call picks, maybe by a value, which is not read.
+pub fn open_anew_as<J: Placed, S: Copy>(
     engine: &Engine,
     pass: &mut Pass,
     key: Key,
-    spot: Spot,
+    _place: S,
     at: u32,
     word: u64,
 )
     requires of { IsPassOf engine.now pass.old }
     requires pass { IsActive (view pass.old).role }
-    requires place { IsAnyRecordAt (view pass.old) key spot at }
-    requires word { CanOpenAnew (view pass.old) key spot word }
-    requires named { (key ≡ J.key) × (spot ≡ J.spot) }
+    requires place { IsAnyRecordAt (view pass.old) key J.spot at }
+    requires word { CanOpenAnew (view pass.old) key J.spot word }
+    requires named { key ≡ J.key }
     ensures of { IsPassOf engine.now pass.new }
     ensures opens { view pass.new ≡ opened key at word (view pass.old) }
 {

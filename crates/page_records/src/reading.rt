@@ -45,19 +45,25 @@ pub fn load_word(engine: &Engine, pass: &mut Pass, key: Key, spot: Spot, at: u32
     ensures of { IsPassOf engine.now pass.new }
     ensures loads { LoadedWord spot.slot at (view pass.old) result (view pass.new) }
 {
-    load_word_as::<Brand>(engine, pass, key, spot, at)
+    load_word_as::<Brand, Spot>(engine, pass, key, spot, at)
 }
 
-fn load_word_as<J: Placed>(engine: &Engine, pass: &mut Pass, key: Key, spot: Spot, at: u32) -> u64
+/// The same at the place that the call picks, maybe by a value, which is not read.
+pub fn load_word_as<J: Placed, S: Copy>(
+    engine: &Engine,
+    pass: &mut Pass,
+    key: Key,
+    _place: S,
+    at: u32,
+) -> u64
     requires of { IsPassOf engine.now pass.old }
     requires pass { IsActive (view pass.old).role }
-    requires place { IsAnyRecordAt (view pass.old) key spot at }
-    requires named { (key ≡ J.key) × (spot ≡ J.spot) }
+    requires place { IsAnyRecordAt (view pass.old) key J.spot at }
+    requires named { key ≡ J.key }
     ensures of { IsPassOf engine.now pass.new }
-    ensures loads { LoadedWord spot.slot at (view pass.old) result (view pass.new) }
+    ensures loads { LoadedWord J.spot.slot at (view pass.old) result (view pass.new) }
 {
     let _ = key;
-    let _ = spot;
     laws();
     engine
         .table

@@ -15,3 +15,4 @@ mod law;
 mod laws;
 
 pub use checking::check_pointer;
+pub use law::Compared;

@@ -31,7 +31,9 @@ use Rattle.engine_pages.specs.declared.view.View.{View}
 use Rattle.engine_pages.specs.declared.view.Way.{Way}
 use Rattle.engine_pages.specs.Pages.{is_array}
 use Rattle.engine_pages.specs.Pointers.{WaysAgree}
-use Rattle.engine_pages.specs.Records.{IsRecordAt}
+use Rattle.engine_pages.specs.declared.engine.Engine.{Engine}
+use Rattle.engine_pages.specs.Passes.{Pass, view, IsPassOf}
+use Rattle.engine_pages.specs.Records.{IsAnyRecordAt, IsRecordAt}
 use Rattle.engine_pages.specs.Steps.{read_at}
 use Rattle.engine_pages.specs.Views.{IsActive, IsResting}
 use Rattle.serial_model.specs.Decls.{AreDecls}
@@ -46,7 +48,7 @@ use Rattle.page_commit.specs.Places.{ground, spot_at, Ground, IsKeyAt, IsKeyIn}
 use Rattle.page_commit.specs.Steps.{HasLeft}
 use Rattle.page_commit.proofs.LeaveLaws.{holds_stay, left_agree, left_holds, SamePages}
 use Rattle.page_commit.proofs.LeaveLaws.{left_trees, trees_stay}
-use Rattle.page_commit.proofs.PlaceLaws.{key_array}
+use Rattle.page_commit.proofs.PlaceLaws.{key_array, spot_is}
 use Rattle.txn_tests.specs.Standing.{first_key, HasLock, HasPut, IsFree, IsHolding, IsPublished, IsWithin}
 
 -- ---- what a step leaves of pages
@@ -172,6 +174,11 @@ spot_of_word v k x at p =
 
 pub key_here : (v : View) (k : Key) (x : Spot) (at : ℕ) → IsRecordAt v k x at → IsKeyAt v k at
 key_here v k x at p = subst (λ (y : Spot). IsRecordAt v k y at) (spot_of_word v k x at p) p
+
+-- the record's place, by the slots of the engine
+pub spot_any : (e : Engine) (p : Pass) (k : Key) (at : ℕ) (x : Spot) → IsPassOf e p → x ≡ spot_at e.table.shared.key.slots at
+    → IsKeyAt (view p) k at → IsAnyRecordAt (view p) k x at
+spot_any e p k at x of is place = inl (spot_is e p k at x of is place)
 
 -- ---- the lock
 

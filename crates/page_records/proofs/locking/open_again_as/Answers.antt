@@ -14,6 +14,7 @@ pub store-requires : goal.store-requires
 store-requires g c =
     let me = c.args.pass.now.me in
     let v = me.0 in
+    let x = g.J.Placed.spot in
     let l = c.args.engine.now.table.shared.key in
     let slots = c.args.engine.now.table.shared.table_id.slots in
     let id = c.args.pass.now.id in
@@ -21,12 +22,12 @@ store-requires g c =
     record { keeps = c.laws.ensures.keeps; leaves = c.laws.ensures.leaves; made = c.laws.ensures.made } in
     let few : c.args.at + 1 < words_of l =
     subst (λ (y : Layout). c.args.at + 1 < words_of y) c.requires.of.layout
-    (any_below v c.args.key c.args.spot c.args.at c.requires.place) in (
+    (any_below v c.args.key x c.args.at c.requires.place) in (
       c.requires.of.table,
       (let long = c.args.engine.now.long in omega arith),
       subst
           (λ (k : Key). Allows (λ s. Shows l s.words s.views) slots id me c.args.at (λ _. c.args.word)
           (λ n now. (now.1 ≡ me.1) × (now.0 ≡ opened k c.args.at c.args.word v)))
-          c.requires.named.0
-          (opens_again laws l slots id me c.args.key c.args.spot c.args.at c.args.word c.requires.pass c.requires.place c.requires.word),
+          c.requires.named
+          (opens_again laws l slots id me c.args.key x c.args.at c.args.word c.requires.pass c.requires.place c.requires.word),
     )

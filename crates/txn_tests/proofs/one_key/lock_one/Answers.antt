@@ -1,7 +1,7 @@
 use Rattle.engine_pages.specs.Passes.{view}
-use Rattle.page_commit.proofs.PlaceLaws.{spot_any, spot_here}
+use Rattle.page_commit.proofs.PlaceLaws.{spot_here}
 use Rattle.txn_tests.specs.Standing.{first_key}
-use Rattle.txn_tests.proofs.KeyLaws.{free_begins, locked_layout, locked_so, within_active}
+use Rattle.txn_tests.proofs.KeyLaws.{free_begins, locked_layout, locked_so, spot_any, within_active}
 use Rattle.txn_tests.proofs.one_key.lock_one.Goals as goal
 
 pub lock-seen-requires-clause-pass : goal.lock-seen-requires-clause-pass

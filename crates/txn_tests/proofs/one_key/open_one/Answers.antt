@@ -1,9 +1,9 @@
 use Rattle.std.proofs.Common.{ap}
 use Rattle.engine_pages.specs.declared.view.View.{View}
 use Rattle.engine_pages.specs.Passes.{view}
-use Rattle.page_commit.proofs.PlaceLaws.{spot_any, spot_here}
+use Rattle.page_commit.proofs.PlaceLaws.{spot_here}
 use Rattle.txn_tests.specs.Standing.{first_key}
-use Rattle.txn_tests.proofs.KeyLaws.{can_open, opens, within_active}
+use Rattle.txn_tests.proofs.KeyLaws.{can_open, opens, spot_any, within_active}
 use Rattle.txn_tests.proofs.one_key.open_one.Goals as goal
 
 pub open_anew-requires-clause-pass : goal.open_anew-requires-clause-pass

@@ -3,9 +3,9 @@ use Rattle.serial_model.specs.declared.number.Change.{Change}
 use Rattle.engine_pages.specs.declared.view.View.{View}
 use Rattle.engine_pages.specs.Passes.{view}
 use Rattle.page_records.specs.Attempts.{HasDrawn}
-use Rattle.page_commit.proofs.PlaceLaws.{spot_any, spot_here}
+use Rattle.page_commit.proofs.PlaceLaws.{spot_here}
 use Rattle.txn_tests.specs.Standing.{first_key}
-use Rattle.txn_tests.proofs.KeyLaws.{can_decide, can_draw, can_put, has_put, is_putting, within_active, IsPutting}
+use Rattle.txn_tests.proofs.KeyLaws.{can_decide, can_draw, can_put, has_put, is_putting, spot_any, within_active, IsPutting}
 use Rattle.txn_tests.proofs.one_key.put_first.Goals as goal
 use Rattle.txn_tests.proofs.one_key.put_first.Goals.{After-decide}
 

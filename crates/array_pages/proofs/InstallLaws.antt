@@ -38,7 +38,8 @@ use Rattle.array_pages.proofs.WalkLaws.{can_by, entered_holds}
 use Rattle.array_pages.proofs.WalkLaws.{entered_within, layout_stays}
 use Rattle.array_pages.proofs.WalkLaws.{place_grows, place_stays, role_stays}
 use Rattle.array_pages.proofs.WalkLaws.{self, stage_stays, trees_after, walked_self}
-use Rattle.array_pages.proofs.WalkLaws.{led_new, led_none, only_if}
+use Rattle.array_pages.proofs.WalkLaws.{led_new, led_none}
+use Rattle.array_pages.proofs.LoadedLaws.{only_if}
 use Rattle.array_pages.proofs.CopyLaws.{missed_most, missed_walks}
 
 -- ---- a copy is put in, or not

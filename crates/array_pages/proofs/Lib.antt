@@ -4,6 +4,7 @@ mod PageLaws
 pub mod LookLaws
 pub mod ReadLaws
 pub mod WalkLaws
+mod LoadedLaws
 mod ReachLaws
 mod RecordLaws
 mod FindLaws

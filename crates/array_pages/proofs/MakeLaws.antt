@@ -30,13 +30,18 @@ use Rattle.array_pages.specs.Steps.{ChecksSo, HoldsSo, InstallsSo, IsBareAt, IsM
 use Rattle.array_pages.specs.Steps.{IsMetElse, MakesSo, RefusesInstall, SettlesSo}
 use Rattle.array_pages.specs.Walks.{CanWalk, HasWalked, IsPointersWord, IsPointerChanged, KeepsBut, KeepsMet}
 use Rattle.array_pages.specs.Walks.{AreLedTo, IsOnto, KeepsWords, OnlyMet, OnlyWaysTo, RefusesPointer}
-use Rattle.array_pages.proofs.WalkLaws.{IsFollowed, IsLoaded, can_after, changed_since}
-use Rattle.array_pages.proofs.WalkLaws.{hold_refuses, is_followed, keeps_but, keeps_then, layout_stays, met_refuses}
-use Rattle.array_pages.proofs.WalkLaws.{only_but, only_loaded, only_then, place_stays, record_stays}
-use Rattle.array_pages.proofs.WalkLaws.{shut_or_other, since_changes, walked_self, walked_then}
+use Rattle.array_pages.proofs.WalkLaws.{can_after}
+use Rattle.array_pages.proofs.LoadedLaws.{IsFollowed, IsLoaded, changed_since}
+use Rattle.array_pages.proofs.WalkLaws.{keeps_then, layout_stays}
+use Rattle.array_pages.proofs.LoadedLaws.{hold_refuses, is_followed, keeps_but, met_refuses}
+use Rattle.array_pages.proofs.WalkLaws.{only_then, place_stays, record_stays}
+use Rattle.array_pages.proofs.LoadedLaws.{only_but, only_loaded}
+use Rattle.array_pages.proofs.WalkLaws.{walked_self, walked_then}
+use Rattle.array_pages.proofs.LoadedLaws.{shut_or_other, since_changes}
 use Rattle.array_pages.proofs.WalkLaws.{led_none, led_over, led_since, led_then, onto_stays, ways_then, ways_to}
 use Rattle.array_pages.proofs.WalkLaws.{ways_to_then}
-use Rattle.array_pages.proofs.WalkLaws.{word_loaded, word_stays}
+use Rattle.array_pages.proofs.WalkLaws.{word_stays}
+use Rattle.array_pages.proofs.LoadedLaws.{word_loaded}
 use Rattle.array_pages.proofs.InstallLaws.{make_after}
 
 -- ---- the page below a pointer is in a slot

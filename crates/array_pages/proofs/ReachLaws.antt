@@ -27,12 +27,15 @@ use Rattle.array_pages.specs.Steps.{HoldsSo, IsMetAs, IsMetElse, ReachesSo}
 use Rattle.array_pages.specs.Walks.{CanWalk, IsLastBetween}
 use Rattle.array_pages.specs.Walks.{KeepsWords, MeetsSo}
 use Rattle.array_pages.proofs.ReadLaws.{kept_here, kept_other, noted_in, seen_other, seen_same}
-use Rattle.array_pages.proofs.WalkLaws.{IsFollowed, IsLoaded, can_after, changed_since, hold_refuses, is_followed}
-use Rattle.array_pages.proofs.WalkLaws.{keeps_but}
-use Rattle.array_pages.proofs.WalkLaws.{keeps_then, met_refuses, only_but, only_loaded, only_then, place_stays}
-use Rattle.array_pages.proofs.WalkLaws.{shut_or_other, since_changes}
+use Rattle.array_pages.proofs.WalkLaws.{can_after}
+use Rattle.array_pages.proofs.LoadedLaws.{IsFollowed, IsLoaded, changed_since, hold_refuses, is_followed}
+use Rattle.array_pages.proofs.LoadedLaws.{keeps_but}
+use Rattle.array_pages.proofs.WalkLaws.{keeps_then, only_then, place_stays}
+use Rattle.array_pages.proofs.LoadedLaws.{met_refuses, only_but, only_loaded}
+use Rattle.array_pages.proofs.LoadedLaws.{shut_or_other, since_changes}
 use Rattle.array_pages.proofs.WalkLaws.{led_none, led_over, led_since, onto_stays, walked_then, ways_then}
-use Rattle.array_pages.proofs.WalkLaws.{pointer_walks, way_loaded, word_loaded, word_stays}
+use Rattle.array_pages.proofs.WalkLaws.{word_stays}
+use Rattle.array_pages.proofs.LoadedLaws.{pointer_walks, way_loaded, word_loaded}
 
 pub below : (a b : ℕ) → a < b → nat_lt a b ≡ true
 below a b h = grind (arith, nat_tests)

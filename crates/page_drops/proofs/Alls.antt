@@ -54,7 +54,7 @@ swings_push (x ∷ xs) m =
     ∙ sym (append_assoc (swings_root x) (swings_all xs) (swings_root m))
 
 -- a slot of one of them is one of all
-in_all : (xs : List MetRoot) (r t : ℕ) → Contains (slots_root (get_or xs r LeftAlone)) t → Contains (slots_all xs) t
+pub in_all : (xs : List MetRoot) (r t : ℕ) → Contains (slots_root (get_or xs r LeftAlone)) t → Contains (slots_all xs) t
 in_all [] r t has = absurd (in_none t has)
 in_all (x ∷ xs) zero t has = Contains-append_left (slots_root x) (slots_all xs) t has
 in_all (x ∷ xs) (suc r) t has = Contains-append_right (slots_root x) (slots_all xs) t (in_all xs r t has)
@@ -62,7 +62,7 @@ in_all (x ∷ xs) (suc r) t has = Contains-append_right (slots_root x) (slots_al
 -- ---- what stays
 
 -- words in no page of these slots, and not this one
-abbrev IsOther : View → List ℕ → ℕ → ℕ → Type 0
+abbrev pub IsOther : View → List ℕ → ℕ → ℕ → Type 0
 IsOther v ts at word = (word ≡ at → ⊥) × IsElsewhere v.layout.slots ts word
 
 page_no_root : (slots t j n : ℕ) → n < 16 → ((32 + slots) + 64 * t) + j ≡ 10 + n → ⊥
@@ -72,7 +72,7 @@ same_slot : (slots t u j i : ℕ) → j < 64 → i < 64 → ((32 + slots) + 64 *
 same_slot slots t u j i less fits is = omega (arith, less, fits, is)
 
 -- a slot that was left once in all was left before, and not again
-spared : (ts : List ℕ) (v w : View) (n : ℕ) → n < 16 → w.gone ≡ reverse ts ++ v.gone → (own : List ℕ)
+pub spared : (ts : List ℕ) (v w : View) (n : ℕ) → n < 16 → w.gone ≡ reverse ts ++ v.gone → (own : List ℕ)
     → ((t : ℕ) → Contains own t → 1 ≤ times t v.gone) → Spares (IsOther v ts (root_at n)) v w own
 spared ts v w n few went own left t has once =
     let sum : times t w.gone ≡ times t (reverse ts) + times t v.gone =
@@ -89,7 +89,7 @@ spared ts v w n few went own left t has once =
       ),
     )
 
-root_apart : (slots r n : ℕ) (ts : List ℕ) → r < n → n < 16 → (root_at r ≡ root_at n → ⊥) × IsElsewhere slots ts (root_at r)
+pub root_apart : (slots r n : ℕ) (ts : List ℕ) → r < n → n < 16 → (root_at r ≡ root_at n → ⊥) × IsElsewhere slots ts (root_at r)
 root_apart slots r n ts less few = (
   λ is. omega (arith, less, is),
   λ t has i fits is. omega (arith, less, few, is),

@@ -44,7 +44,7 @@ all_of P (x ∷ xs) d all has =
     ]
 
 -- an id is that of one storage
-decl_in : (decls : List Decl) (d : Decl) → AreDistinct (map id_of decls) → Contains decls d
+pub decl_in : (decls : List Decl) (d : Decl) → AreDistinct (map id_of decls) → Contains decls d
     → decl_of decls (id_of d) ≡ Some d
 decl_in [] d apart has = absurd (in_none d has)
 decl_in (x ∷ xs) d apart has =
@@ -68,7 +68,7 @@ pub array_kind : (decls : List Decl) (r id size : ℕ) → AreDecls decls → sl
 array_kind decls r id size are at = kind_at decls r (Array id size) are at
 
 -- the keys of its root
-span_at : (decls : List Decl) (r : ℕ) (d : Decl) → slice_get decls r ≡ Some d
+pub span_at : (decls : List Decl) (r : ℕ) (d : Decl) → slice_get decls r ≡ Some d
     → root_span decls r ≡ span_of (id_of d) (root_place d 0)
 span_at decls r d at =
     ap (λ (o : Option Decl). option_map_or (λ (d : Decl). span_of (id_of d) (root_place d 0)) o no_span) at

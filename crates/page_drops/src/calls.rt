@@ -94,8 +94,15 @@ pub fn drop_all(engine: &Engine, pass: &mut Pass, roots: &[u32]) -> Dropped
     sum
 }
 
-// Goes over the pages of a storage, if it is an array.
-fn visit_root(engine: &Engine, pass: &mut Pass, root: usize, page: u32, before: Dropped) -> Dropped
+/// Goes over the pages of the storage with this index, if it is an array; `page` is the number of the newest snapshot's
+/// page for its root, or 0.
+pub fn visit_root(
+    engine: &Engine,
+    pass: &mut Pass,
+    root: usize,
+    page: u32,
+    before: Dropped,
+) -> Dropped
     requires of { IsPassOf engine.now pass.old }
     requires root { root < length engine.now.table.shared.key.decls }
     requires over { CanGoOver root page (view pass.old) }
@@ -141,8 +148,8 @@ fn whole(storage: u8, count: u32) -> Span
     }
 }
 
-// A call begins: what was read, left and kept before is let go of.
-fn begin(engine: &Engine, pass: &mut Pass) -> u64
+/// A call begins: what was read, left and kept before is let go of.
+pub fn begin(engine: &Engine, pass: &mut Pass) -> u64
     requires of { IsPassOf engine.now pass.old }
     requires keeper { (view pass.old).role ≡ Keeper }
     ensures of { IsPassOf engine.now pass.new }
@@ -152,8 +159,8 @@ fn begin(engine: &Engine, pass: &mut Pass) -> u64
     engine.table.shared.load::<Beginning>(pass, 0)
 }
 
-// Notes how many pages were dropped and kept.
-fn count(engine: &Engine, pass: &mut Pass, dropped: u32, kept: u32) -> u64
+/// Notes how many pages were dropped and kept in all, as the call ends.
+pub fn count(engine: &Engine, pass: &mut Pass, dropped: u32, kept: u32) -> u64
     requires of { IsPassOf engine.now pass.old }
     requires keeper { (view pass.old).role ≡ Keeper }
     ensures of { IsPassOf engine.now pass.new }

@@ -6,7 +6,8 @@
 //! locked or shut, and the pass's view has the word for which it stays, as it was seen, and why; its pointer names the
 //! snapshot's page beside it, unless it stays since that pointer had changed, and then it isn't gone into. Once in some
 //! 512 pages the calling thread gives its core away, when none of its pages is locked or shut. A page of another kind is
-//! compared by the same words (`word_at`, `word_of`), and noted as kept by the same step (`keep`).
+//! compared by the same words (`word_at`, `word_of`), and noted as kept by the same step (`keep`). A call over pages of
+//! several kinds is made of the same parts (`begin`, `visit_root`, `count`).
 #![tactic(auto)]
 
 mod calls;
@@ -19,6 +20,7 @@ mod noting;
 mod records;
 mod visits;
 
-pub use calls::{Dropped, drop_all};
+pub use calls::{Dropped, begin, count, drop_all, visit_root};
 pub use noting::Kept;
 pub use records::{keep, word_at, word_of};
+pub use visits::Held;

@@ -28,7 +28,7 @@ const TURN: u32 = 512;
 /// A slot that the pass holds since it found a pointer to lead there, by this word, which names the newest snapshot's
 /// page.
 #[derive(Clone, Copy)]
-pub(crate) struct Held {
+pub struct Held {
     pub slot: u32,
     pub word: u64,
 }

@@ -1,7 +1,7 @@
 use Rattle.std.proofs.lemmas.Result.{err_from_is_err_and}
 use Rattle.engine_pages.specs.Passes.{view}
 use Rattle.array_pages.proofs.MakeLaws.{check_other, check_same}
-use Rattle.array_pages.proofs.WalkLaws.{is_followed}
+use Rattle.array_pages.proofs.LoadedLaws.{is_followed}
 use Rattle.engine_pages.specs.Pointers.{any_pointer}
 use Rattle.array_pages.proofs.making.check_moved.Goals as goal
 

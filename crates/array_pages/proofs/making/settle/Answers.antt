@@ -10,7 +10,8 @@ use Rattle.array_pages.specs.Steps.{SettlesSo}
 use Rattle.array_pages.proofs.RecordLaws.{active_stays}
 use Rattle.array_pages.proofs.MakeLaws.{bare_at, can_first, settle_bare, settle_held, settle_other}
 use Rattle.array_pages.proofs.MakeLaws.{settle_put, settle_shut, settle_unheld}
-use Rattle.array_pages.proofs.WalkLaws.{IsFollowed, is_followed, layout_stays, led_to, place_stays}
+use Rattle.array_pages.proofs.WalkLaws.{layout_stays, place_stays}
+use Rattle.array_pages.proofs.LoadedLaws.{IsFollowed, is_followed, led_to}
 use Rattle.engine_pages.specs.Pointers.{any_pointer}
 use Rattle.array_pages.proofs.making.settle.Goals as goal
 

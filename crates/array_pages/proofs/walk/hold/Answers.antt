@@ -7,7 +7,8 @@ use Rattle.engine_pages.specs.Layout.{words_of}
 use Rattle.engine_pages.specs.Passes.{view}
 use Rattle.engine_pages.specs.Views.{IsActive}
 use Rattle.array_pages.specs.Steps.{HoldsSo}
-use Rattle.array_pages.proofs.WalkLaws.{below_full, hold_changed, hold_held, hold_same, hold_wide, is_followed}
+use Rattle.array_pages.proofs.WalkLaws.{below_full}
+use Rattle.array_pages.proofs.LoadedLaws.{hold_changed, hold_held, hold_same, hold_wide, is_followed}
 use Rattle.array_pages.proofs.WalkLaws.{place_entered}
 use Rattle.engine_pages.specs.Pointers.{any_pointer}
 use Rattle.array_pages.proofs.walk.hold.Goals as goal

@@ -10,7 +10,8 @@ use Rattle.array_pages.specs.Steps.{ReachesSo}
 use Rattle.array_pages.proofs.ReachLaws.{leaves_memory, loaded_saw, reach_other, reach_page, reach_shut}
 use Rattle.array_pages.proofs.ReachLaws.{reach_slot, reach_unheld, reach_wide, saw_followed, saw_kept}
 use Rattle.array_pages.proofs.RecordLaws.{active_stays}
-use Rattle.array_pages.proofs.WalkLaws.{IsLoaded, below_full, can_after, is_followed, layout_stays, led_to, place_stays}
+use Rattle.array_pages.proofs.WalkLaws.{below_full, can_after, layout_stays, place_stays}
+use Rattle.array_pages.proofs.LoadedLaws.{IsLoaded, is_followed, led_to}
 use Rattle.engine_pages.specs.Pointers.{any_pointer}
 use Rattle.array_pages.proofs.walk.reach.Goals as goal
 

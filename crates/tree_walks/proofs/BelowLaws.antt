@@ -1,5 +1,5 @@
 -- The record of a key below a pointer that leads to no slot.
-use Rattle.std.proofs.Common.{◌≡◌, ◌≢◌, ◌⊎◌, inl, inr, ℕ, ◌+◌, ◌%◌, ◌^◌, ◌<◌, ◌≤◌, Bool, true, false, List, ◌∷◌, length, refl, sym, ap, ◌∙◌}
+use Rattle.std.proofs.Common.{◌≡◌, ◌≢◌, inl, inr, ℕ, ◌+◌, ◌^◌, ◌<◌, ◌≤◌, Bool, true, false, List, length, refl, sym, ap, ◌∙◌}
 use Rattle.std.proofs.Common.{subst, arith, Option, Some, None, ltb, not, filter}
 use Rattle.std.specs.Prelude.{Ok, Err, Contains, MatchBool, nat_lt}
 use Rattle.std.proofs.lemmas.Bool.Decides.{nat_tests}
@@ -11,9 +11,8 @@ use Rattle.homes.specs.declared.places.Content.{Content}
 use Rattle.homes.specs.declared.places.Span.{Span}
 use Rattle.homes.specs.Homes.{in_span}
 use Rattle.wire_form.specs.Words.{number_in}
-use Rattle.commit_core.specs.declared.part.Part.{Part}
 use Rattle.commit_core.specs.Keys.{nothing}
-use Rattle.commit_core.specs.Parts.{IsSameOrAbsent, Vouches, found, same_word, with_part}
+use Rattle.commit_core.specs.Parts.{IsSameOrAbsent, found, same_word}
 use Rattle.commit_core.specs.Serial.{last_write}
 use Rattle.serial_model.specs.declared.decl.Decl.{Decl}
 use Rattle.serial_model.specs.Decls.{AreDecls}
@@ -27,7 +26,6 @@ use Rattle.engine_pages.specs.declared.view.Lead.{Lead}
 use Rattle.engine_pages.specs.declared.view.RefusalCause.{RefusalCause}
 use Rattle.engine_pages.specs.declared.view.RefusalCause.TheVariants as causes
 use Rattle.engine_pages.specs.declared.view.SetName.{SetName}
-use Rattle.engine_pages.specs.declared.view.SetName.TheVariants.{Pointers}
 use Rattle.engine_pages.specs.declared.view.View.{View}
 use Rattle.engine_pages.specs.Agreement.{TreesAgree}
 use Rattle.engine_pages.specs.Layout.{words_of}
@@ -35,7 +33,7 @@ use Rattle.engine_pages.specs.Pointers.{HasFollowed, StandsFor, WaysAgree}
 use Rattle.engine_pages.specs.Resident.{found_content, place_for}
 use Rattle.engine_pages.specs.Steps.{kept_at, seen_at}
 use Rattle.dual_pointer.specs.Copies.{IsLeadOf}
-use Rattle.dual_pointer.specs.Parts.{HasSeenPointer, IsPointerPart, SawPointer, saw_pointer, tree_content}
+use Rattle.dual_pointer.specs.Parts.{HasSeenPointer, SawPointer, saw_pointer, tree_content}
 use Rattle.array_pages.specs.Finding.{HasGlanced}
 use Rattle.array_pages.specs.Snapshots.{CanLook}
 use Rattle.array_pages.specs.Walks.{IsLastBetween, SawLast}
@@ -49,10 +47,11 @@ use Rattle.tree_walks.specs.Finding.{IsFound, IsFoundBelow, MeetsOnly}
 use Rattle.tree_walks.specs.Finds.{IsPointersFull, KeepsSo}
 use Rattle.tree_walks.specs.Finding.{IsFindWide, RefusesFind}
 use Rattle.tree_walks.specs.Snapshots.{IsLooked, StandsBelow}
-use Rattle.tree_walks.specs.Walks.{CanWalk, HasWalked, IsNoHeader, IsTreesWord, OnlyTrees}
-use Rattle.tree_walks.specs.Ways.{IsBareOn, IsMetSo, IsWayPointer}
+use Rattle.tree_walks.specs.Walks.{CanWalk, HasWalked, IsNoHeader, LiesInPage, OnlyTrees, OnlyWaysOn}
+use Rattle.tree_walks.specs.Ways.{IsBareOn, IsMetSo}
 use Rattle.tree_walks.proofs.KeepLaws.{keeps_pointer}
-use Rattle.tree_walks.proofs.LoadLaws.{IsLoad, follow_load, glanced_grip, glanced_walked, trees_by}
+use Rattle.tree_walks.proofs.PathLaws.{follow_paths, paths_glanced, paths_same, paths_then}
+use Rattle.tree_walks.proofs.LoadLaws.{follow_load, glanced_grip, glanced_walked, trees_by}
 use Rattle.tree_walks.proofs.StepLaws.{active_stays, can_after, layout_stays, led_none, only_but, only_for, only_then, place_stays, tree_stays, walked_self}
 use Rattle.tree_walks.proofs.StepLaws.{walked_then, word_stays}
 use Rattle.tree_walks.proofs.DeclLaws.{tree_of}
@@ -91,7 +90,8 @@ walked_pointer x sp at v n w h =
     }
 
 -- what a load of the pointer leaves in any case
-pub record IsSeenAgain (at : ℕ) (v : View) (n : ℕ) (w : View) : Type 0 where
+pub record IsSeenAgain (sp : Span) (at : ℕ) (v : View) (n : ℕ) (w : View) : Type 0 where
+  paths : (k : Key) → in_span sp k ≡ true → OnlyWaysOn k v w
   walked : HasWalked v w
   grip : w.grip ≡ v.grip
   most : w.steps ≤ v.steps + 1
@@ -101,8 +101,9 @@ pub record IsSeenAgain (at : ℕ) (v : View) (n : ℕ) (w : View) : Type 0 where
   saw : SawLast at n (seen_at v.reads at) v w
 
 pub seen_bare : (x : At) (sp : Span) (at : ℕ) (v : View) (n : ℕ) (w : View) → WaysAgree v.ways → TreesAgree v
-    → HasSeenPointer x sp at v n w → IsSeenAgain at v n w
+    → HasSeenPointer x sp at v n w → IsSeenAgain sp at v n w
 seen_bare x sp at v n w agree trees h = record {
+  paths = λ k over. paths_same k v w (ap (λ (z : View). z.ways) h.is);
   walked = walked_pointer x sp at v n w h;
   grip = ap (λ (z : View). z.grip) h.is;
   most = let e = ap (λ (z : View). z.steps) h.is in omega (arith, e);
@@ -121,9 +122,10 @@ seen_bare x sp at v n w agree trees h = record {
   };
 }
 
-pub seen_led : (sp : Span) (at : ℕ) (v : View) (n : ℕ) (w : View) → HasFollowed sp at v n w → IsSeenAgain at v n w
+pub seen_led : (sp : Span) (at : ℕ) (v : View) (n : ℕ) (w : View) → HasFollowed sp at v n w → IsSeenAgain sp at v n w
 seen_led sp at v n w h =
     let l = follow_load sp at v n w h in record {
+      paths = λ k over. follow_paths k sp at v n w over h;
       walked = l.walked;
       grip = l.grip;
       most = l.most;
@@ -134,10 +136,10 @@ seen_led sp at v n w h =
     }
 
 pub seen_again : (x : At) (sp : Span) (at : ℕ) (v : View) (n : ℕ) (w : View) → WaysAgree v.ways → TreesAgree v
-    → SawPointer x sp at v n w → IsSeenAgain at v n w
+    → SawPointer x sp at v n w → IsSeenAgain sp at v n w
 seen_again x sp at v n w agree trees s = by_bare (nat_lt n (2 ^ 32)) s
   where
-    by_bare : (b : Bool) → MatchBool b (HasSeenPointer x sp at v n w) (HasFollowed sp at v n w) → IsSeenAgain at v n w
+    by_bare : (b : Bool) → MatchBool b (HasSeenPointer x sp at v n w) (HasFollowed sp at v n w) → IsSeenAgain sp at v n w
     by_bare true h = seen_bare x sp at v n w agree trees h
     by_bare false h = seen_led sp at v n w h
 
@@ -161,7 +163,7 @@ module _ (k : Key) (pointers headers : List Seen) (slots : List ℕ) (bare : Bar
   abbrev at : ℕ
   at = bare.pointer.at
 
-  a : IsSeenAgain at v n u
+  a : IsSeenAgain bare.span at v n u
   a = seen_again bare.place bare.span at v n u can.agree can.trees sees
 
   can_u : CanWalk slots u
@@ -180,11 +182,12 @@ module _ (k : Key) (pointers headers : List Seen) (slots : List ℕ) (bare : Bar
     met = only_for k v u met_u;
     only = tt;
     keeps = tt;
+    paths = a.paths k b.over;
     grip = a.grip;
     found = tt;
     cause = inl (inl (record {
       on = pointer_stays k v u at a.walked
-          (record { place = bare.place; span = bare.span; is = b.is; within = b.within; tree = b.tree; over = b.over });
+          (record { place = bare.place; span = bare.span; is = b.is; inside = b.inside; within = b.within; tree = b.tree; over = b.over });
       was = seen_at v.reads at;
       saw = a.saw;
       known = inr (b.met, b.set);
@@ -209,6 +212,8 @@ module _ (k : Key) (pointers headers : List Seen) (slots : List ℕ) (bare : Bar
       known = word_stays v w at (walked_then v u w a.walked (glanced_walked u w g)) b.known;
       apart = subst (λ (y : Layout). IsNoHeader y.slots at)
           (sym (layout_stays v w (walked_then v u w a.walked (glanced_walked u w g)))) b.apart;
+      inside = subst (λ (y : Layout). LiesInPage y.slots bare.place at)
+          (sym (layout_stays v w (walked_then v u w a.walked (glanced_walked u w g)))) b.inside;
       within = subst (λ (y : Layout). at < words_of y) (sym (layout_stays v w (walked_then v u w a.walked (glanced_walked u w g)))) b.within;
       tree = tree_stays v w (bare.span).storage (walked_then v u w a.walked (glanced_walked u w g)) b.tree;
       over = b.over;
@@ -319,6 +324,7 @@ module _ (k : Key) (pointers headers : List Seen) (slots : List ℕ) (bare : Bar
               (ap (λ (z : View). seen_at z.reads at) g.is
               ∙ (ap (λ (z : View). seen_at z.reads at) h.is ∙ seen_same v.reads at n (Some n)))
               (λ q apart. ap (λ (z : View). seen_at z.reads q) g.is ∙ a.others q apart);
+          paths = paths_then k v u w walk (a.paths k b.over) (paths_glanced k u w g);
           grip = grip;
           found = by_stored (find tree_format u.pages deepest k.key (place_for bare.span n)) r w g refl looked room;
           cause = tt;
@@ -335,6 +341,7 @@ below_full most k pointers headers slots bare why v can b full = record {
   met = λ a. inl refl;
   only = tt;
   keeps = tt;
+  paths = paths_same k v v refl;
   grip = refl;
   found = tt;
   cause = by_cause why full;

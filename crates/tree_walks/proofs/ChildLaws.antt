@@ -1,6 +1,6 @@
 -- From an interior page to a child.
-use Rattle.std.proofs.Common.{◌≡◌, ◌≢◌, ◌⊎◌, ℕ, suc, ◌+◌, ◌-◌, ◌^◌, ◌<◌, ◌≤◌, Bool, true, false, List, length, refl, sym, ap, ◌∙◌}
-use Rattle.std.proofs.Common.{subst, arith, inl, inr, Some, None, ltb, get_or}
+use Rattle.std.proofs.Common.{◌≡◌, ℕ, suc, ◌+◌, ◌-◌, ◌<◌, ◌≤◌, Bool, true, false, List, length, refl, sym, ap, ◌∙◌}
+use Rattle.std.proofs.Common.{subst, arith, inl, inr, ltb, get_or}
 use Rattle.std.specs.Prelude.{Ok, Err, Contains, if◌then◌else◌}
 use Rattle.std.proofs.lemmas.Bool.Decides.{nat_tests}
 use Rattle.serial_model.specs.declared.key.Key.{Key}
@@ -9,26 +9,24 @@ use Rattle.homes.specs.declared.places.Span.{Span}
 use Rattle.homes.specs.declared.places.Spot.{Spot}
 use Rattle.homes.specs.Homes.{in_span}
 use Rattle.tx_sets.specs.declared.seen.Seen.{Seen}
-use Rattle.engine_pages.specs.declared.layout.Layout.{Layout}
 use Rattle.engine_pages.specs.declared.view.Inner.{Inner}
 use Rattle.engine_pages.specs.declared.view.RefusalCause.{RefusalCause}
 use Rattle.engine_pages.specs.declared.view.View.{View}
 use Rattle.engine_pages.specs.Layout.{page_at, words_of}
-use Rattle.engine_pages.specs.Pages.{is_tree, part_between, part_low}
+use Rattle.engine_pages.specs.Pages.{is_tree, part_low}
 use Rattle.engine_pages.specs.Pointers.{IsPointerAt}
 use Rattle.array_pages.specs.Finding.{HasGlanced}
 use Rattle.tree_walks.specs.declared.children.Child.{Child}
 use Rattle.tree_walks.specs.declared.descent.Next.TheVariants as nexts
-use Rattle.tree_walks.specs.declared.walk.Reached.{Reached}
 use Rattle.tree_walks.specs.declared.walk.Reached.TheVariants as reaches
-use Rattle.tree_walks.specs.declared.ways.Bare.{Bare}
 use Rattle.tree_walks.specs.declared.ways.End.TheVariants as ends
 use Rattle.tree_walks.specs.declared.ways.Page.{Page}
-use Rattle.tree_walks.specs.Steps.{GoesSo, IsChildFor, IsFurther, IsInnerAt, IsReached, Went, bare_at}
-use Rattle.tree_walks.specs.Walks.{CanWalk, HasWalked, IsNoHeader, IsTreesWord}
+use Rattle.tree_walks.specs.Steps.{GoesSo, IsChildFor, IsFurther, IsReached, Went, bare_at}
+use Rattle.tree_walks.specs.Walks.{CanWalk, HasWalked, IsNoHeader, IsTreesWord, LiesInPage}
 use Rattle.tree_walks.specs.Ways.{IsOnWay}
 use Rattle.tree_walks.proofs.HalfLaws.{bounds_of, span_over}
 use Rattle.tree_walks.proofs.KeepLaws.{keeps_glanced}
+use Rattle.tree_walks.proofs.PathLaws.{paths_glanced}
 use Rattle.tree_walks.proofs.LoadLaws.{glanced_grip, glanced_walked, glanced_went}
 use Rattle.tree_walks.proofs.RefusalLaws.{goes_on, goes_refused}
 use Rattle.tree_walks.proofs.StepLaws.{inner_word, led_none, on_stays}
@@ -145,6 +143,9 @@ module _ (k : Key) (pointers headers : List Seen) (slots : List ℕ) (page : Pag
   pub child_apart : IsNoHeader g.layout.slots at
   child_apart = λ t same. let small = c.small in absurd (omega (arith, same, word, small))
 
+  pub child_inside : LiesInPage g.layout.slots (In spot) at
+  child_inside = let small = c.small in omega (arith, word, small)
+
   pub child_within : at < words_of g.layout
   child_within =
       let there = here.there in
@@ -158,7 +159,8 @@ module _ (k : Key) (pointers headers : List Seen) (slots : List ℕ) (page : Pag
   child_slot late t w h =
       goes_on 30 3 33 k pointers headers slots late (IsReached k pointers (In spot) child.span at)
       (IsFurther k pointers headers page) (reaches.Slot t) (nexts.Down (record { slot = t; span = child.span })) v g w
-      (omega arith) first (led_none k v g (glanced_grip v g gl)) (keeps_glanced pointers headers v g gl) h (
+      (omega arith) first (led_none k v g (glanced_grip v g gl)) (keeps_glanced pointers headers v g gl)
+      (paths_glanced k v g gl) h (
         h.came,
         inl (record {
           inner = c.inner;
@@ -177,11 +179,13 @@ module _ (k : Key) (pointers headers : List Seen) (slots : List ℕ) (page : Pag
   child_bare late n w h =
       goes_on 30 3 33 k pointers headers slots late (IsReached k pointers (In spot) child.span at)
       (IsFurther k pointers headers page) (reaches.Bare n) (nexts.End (ends.Below (bare_at (In spot) child.span at n))) v g w
-      (omega arith) first (led_none k v g (glanced_grip v g gl)) (keeps_glanced pointers headers v g gl) h h.came
+      (omega arith) first (led_none k v g (glanced_grip v g gl)) (keeps_glanced pointers headers v g gl)
+      (paths_glanced k v g gl) h h.came
 
   pub child_refused : (late : List ℕ) (why : RefusalCause) (w : View)
       → GoesSo 3 k pointers headers late (IsReached k pointers (In spot) child.span at) (Err why) g w
       → GoesSo 33 k pointers headers late (IsFurther k pointers headers page) (Err why) v w
   child_refused late why w h =
       goes_refused 30 3 33 k pointers headers slots late (IsReached k pointers (In spot) child.span at)
-      (IsFurther k pointers headers page) why v g w (omega arith) first (led_none k v g (glanced_grip v g gl)) h
+      (IsFurther k pointers headers page) why v g w (omega arith) first (led_none k v g (glanced_grip v g gl))
+      (paths_glanced k v g gl) h

@@ -1,14 +1,12 @@
 -- One page further down, and the way as a whole.
-use Rattle.std.proofs.Common.{◌≡◌, ◌≢◌, ◌⊎◌, ℕ, suc, ◌+◌, ◌*◌, ◌/◌, ◌%◌, ◌^◌, ◌<◌, ◌≤◌, Bool, true, false, List, [], ◌∷◌, length}
-use Rattle.std.proofs.Common.{refl, sym, ap, ◌∙◌, subst, arith, inl, inr, Some, None, ltb}
+use Rattle.std.proofs.Common.{◌≡◌, ◌≢◌, ℕ, suc, ◌+◌, ◌*◌, ◌^◌, ◌<◌, ◌≤◌, Bool, true, false, List, [], ◌∷◌, length}
+use Rattle.std.proofs.Common.{refl, sym, ap, ◌∙◌, subst, arith, inl, inr, ltb}
 use Rattle.std.specs.Prelude.{Ok, Err, Contains, Result}
 use Rattle.std.proofs.lemmas.Bool.Decides.{nat_tests}
 use Rattle.lists.specs.Elements.{in_head}
 use Rattle.serial_model.specs.declared.key.Key.{Key}
-use Rattle.homes.specs.declared.places.Span.{Span}
 use Rattle.tx_sets.specs.declared.seen.Seen.{Seen}
 use Rattle.engine_pages.specs.declared.layout.Layout.{Layout}
-use Rattle.engine_pages.specs.declared.view.Inner.{Inner}
 use Rattle.engine_pages.specs.declared.view.Known.{Known}
 use Rattle.engine_pages.specs.declared.view.Moved.{Moved}
 use Rattle.engine_pages.specs.declared.view.RefusalCause.{RefusalCause}
@@ -18,21 +16,19 @@ use Rattle.engine_pages.specs.declared.view.View.{View}
 use Rattle.engine_pages.specs.declared.view.Way.{Way}
 use Rattle.engine_pages.specs.Layout.{page_at}
 use Rattle.engine_pages.specs.Steps.{seen_at}
-use Rattle.tree_heads.specs.Headers.{HasChildren, HasHeader, HasTwins, Headed, count_of, kind_of, moved_bit, moved_locked}
+use Rattle.tree_heads.specs.Headers.{Headed, count_of, kind_of, moved_bit, moved_locked}
 use Rattle.array_pages.specs.Steps.{IsMetElse}
-use Rattle.tree_walks.specs.declared.descent.Next.{Next}
 use Rattle.tree_walks.specs.declared.descent.Next.TheVariants as nexts
 use Rattle.tree_walks.specs.declared.ways.End.{End}
 use Rattle.tree_walks.specs.declared.ways.End.TheVariants as ends
-use Rattle.tree_walks.specs.declared.ways.Leaf.{Leaf}
 use Rattle.tree_walks.specs.declared.ways.Page.{Page}
 use Rattle.tree_walks.specs.Steps.{GoesSo, IsFurther, IsHalfBelow, IsInnerAt, IsSplitAt, Went}
-use Rattle.tree_walks.specs.Walks.{AreLedTo, CanWalk, HasWalked, IsTreesWord, KeepsMet}
-use Rattle.tree_walks.specs.Ways.{HasCome, IsChildOf, IsHalfOf, IsLeafOn, IsLong, IsMetSo, IsNext, IsOnWay, IsPath, RefusesWalk}
-use Rattle.tree_walks.proofs.HalfLaws.{header_changed}
+use Rattle.tree_walks.specs.Walks.{AreLedTo, CanWalk, IsTreesWord, KeepsMet, OnlyWaysOn}
+use Rattle.tree_walks.specs.Ways.{HasCome, IsMetSo, IsOnWay, IsPath, RefusesWalk}
 use Rattle.tree_walks.proofs.KeepLaws.{keeps_header, keeps_none, keeps_then}
+use Rattle.tree_walks.proofs.PathLaws.{head_paths, paths_same, paths_then}
 use Rattle.tree_walks.proofs.LoadLaws.{IsLoad, head_load, inner_headed, leaf_headed, load_went, split_headed}
-use Rattle.tree_walks.proofs.RefusalLaws.{goes_behind, goes_on, goes_refused, refuses_back}
+use Rattle.tree_walks.proofs.RefusalLaws.{goes_behind, goes_on, goes_refused}
 use Rattle.tree_walks.proofs.StepLaws.{head_word, layout_stays, led_none, led_then, on_stays, went_more, went_self, went_then}
 use Rattle.tree_walks.proofs.StepLaws.{word_stays}
 use Rattle.tree_walks.proofs.WayLaws.{path_stays}
@@ -50,6 +46,9 @@ module _ (k : Key) (pointers headers : List Seen) (slots : List ℕ) (page : Pag
       load_went slots at v n u can
       (word_stays v u at loaded.walked (subst (IsTreesWord v) (sym word) (head_word k v page.slot page.span on)))
       loaded
+
+  pub first_paths : OnlyWaysOn k v u
+  first_paths = head_paths k page.slot page.span at v n u h
 
   pub still_on : IsOnWay k u page.slot page.span
   still_on = on_stays k v u page.slot page.span loaded.walked on
@@ -99,6 +98,7 @@ module _ (k : Key) (pointers headers : List Seen) (slots : List ℕ) (page : Pag
     went = went_more 1 35 slots v u (omega arith) first;
     led = tt;
     keeps = tt;
+    paths = first_paths;
     came = tt;
     cause = by_cause why else;
   }
@@ -137,6 +137,7 @@ module _ (k : Key) (pointers headers : List Seen) (slots : List ℕ) (page : Pag
         went = went_more 1 35 slots v u (omega arith) first;
         led = led_none k v u loaded.grip;
         keeps = head_keeps set;
+        paths = first_paths;
         came = record {
           leaf = record {
             on = still_on;
@@ -177,14 +178,14 @@ module _ (k : Key) (pointers headers : List Seen) (slots : List ℕ) (page : Pag
       → GoesSo 35 k pointers headers late (IsFurther k pointers headers page) (Ok (nexts.Down s)) v w
   head_half set late s w g =
       goes_on 1 4 35 k pointers headers slots late (IsHalfBelow k page) (IsFurther k pointers headers page) s (nexts.Down s) v u w
-      (omega arith) first (led_none k v u loaded.grip) (head_keeps set) g (g.came.0, inr g.came.1)
+      (omega arith) first (led_none k v u loaded.grip) (head_keeps set) first_paths g (g.came.0, inr g.came.1)
 
   pub head_refused : (late : List ℕ) (why : RefusalCause) (w : View)
       → GoesSo 4 k pointers headers late (IsHalfBelow k page) (Err why) u w
       → GoesSo 35 k pointers headers late (IsFurther k pointers headers page) (Err why) v w
   head_refused late why w g =
       goes_refused 1 4 35 k pointers headers slots late (IsHalfBelow k page) (IsFurther k pointers headers page) why v u w
-      (omega arith) first (led_none k v u loaded.grip) g
+      (omega arith) first (led_none k v u loaded.grip) first_paths g
 
 -- ---- from page to page
 
@@ -194,6 +195,7 @@ pub record IsDown
   pub went : Went (35 * level) slots v w
   pub led : AreLedTo k v w
   pub keeps : KeepsMet pointers headers v w
+  pub paths : OnlyWaysOn k v w
   pub above : List Way
   pub many : length above ≡ level
   pub path : IsPath k w (record { slot = page.slot; span = page.span } ∷ above)
@@ -204,6 +206,7 @@ down_first k pointers headers slots v page can on = record {
   went = went_self slots v can;
   led = led_none k v v refl;
   keeps = keeps_none pointers headers v v (λ a. refl);
+  paths = paths_same k v v refl;
   above = [];
   many = refl;
   path = (on, tt, tt);
@@ -217,6 +220,7 @@ down_next k pointers headers slots late v u w page next level d g = record {
   went = went_then (35 * level) 35 (35 * suc level) slots late v u w (omega arith) d.went g.went;
   led = led_then k v u w g.went.walked d.led g.led;
   keeps = keeps_then pointers headers v u w d.went.walked d.keeps g.keeps;
+  paths = paths_then k v u w g.went.walked d.paths g.paths;
   above = record { slot = page.slot; span = page.span } ∷ d.above;
   many = ap suc d.many;
   path = (
@@ -232,7 +236,7 @@ pub down_end : (k : Key) (pointers headers : List Seen) (slots late : List ℕ) 
     → GoesSo 4480 k pointers headers late (HasCome k pointers headers) (Ok end) v w
 down_end k pointers headers slots late v u w page end level less d g =
     goes_on (35 * level) 35 4480 k pointers headers slots late (IsFurther k pointers headers page)
-    (HasCome k pointers headers) (nexts.End end) end v u w (omega (arith, less)) d.went d.led d.keeps g g.came
+    (HasCome k pointers headers) (nexts.End end) end v u w (omega (arith, less)) d.went d.led d.keeps d.paths g g.came
 
 pub down_refused : (k : Key) (pointers headers : List Seen) (slots late : List ℕ) (v u w : View) (page : Page)
     (why : RefusalCause) (level : ℕ) → level < 128 → IsDown k pointers headers slots v u page level
@@ -240,7 +244,7 @@ pub down_refused : (k : Key) (pointers headers : List Seen) (slots late : List �
     → GoesSo 4480 k pointers headers late (HasCome k pointers headers) (Err why) v w
 down_refused k pointers headers slots late v u w page why level less d g =
     goes_refused (35 * level) 35 4480 k pointers headers slots late (IsFurther k pointers headers page)
-    (HasCome k pointers headers) why v u w (omega (arith, less)) d.went d.led g
+    (HasCome k pointers headers) why v u w (omega (arith, less)) d.went d.led d.paths g
 
 -- the pages were as many as there is room for
 pub down_long : (k : Key) (pointers headers : List Seen) (slots : List ℕ) (v w : View) (page : Page)
@@ -250,6 +254,7 @@ down_long k pointers headers slots v w page d = record {
   went = went_more (35 * 128) 4480 slots v w (omega arith) d.went;
   led = tt;
   keeps = tt;
+  paths = d.paths;
   came = tt;
   cause = (inr (record { pages = d.above; many = d.many; path = d.path.2 }), d.led);
 }
@@ -257,8 +262,8 @@ down_long k pointers headers slots v w page d = record {
 -- ---- from the root
 
 pub root_down : (k : Key) (pointers headers : List Seen) (slots late : List ℕ) (page : Page) (v u w : View)
-    (r : Result End RefusalCause) → Went 3 slots v u → AreLedTo k v u → KeepsMet pointers headers v u
+    (r : Result End RefusalCause) → Went 3 slots v u → AreLedTo k v u → KeepsMet pointers headers v u → OnlyWaysOn k v u
     → GoesSo 4480 k pointers headers late (HasCome k pointers headers) r u w
     → GoesSo 4483 k pointers headers late (HasCome k pointers headers) r v w
-root_down k pointers headers slots late page v u w r first led keeps g =
-    goes_behind 3 4480 4483 k pointers headers slots late (HasCome k pointers headers) r v u w (omega arith) first led keeps g
+root_down k pointers headers slots late page v u w r first led keeps paths g =
+    goes_behind 3 4480 4483 k pointers headers slots late (HasCome k pointers headers) r v u w (omega arith) first led keeps paths g

@@ -1,5 +1,5 @@
 -- A slot is entered.
-use Rattle.std.proofs.Common.{◌≡◌, ◌⊎◌, ℕ, ◌+◌, ◌<◌, ◌≤◌, Bool, true, false, true≢false, eqb, eqb-true, eq-eqb, List, [], ◌∷◌, ◌++◌}
+use Rattle.std.proofs.Common.{◌≡◌, ℕ, ◌+◌, ◌<◌, Bool, true, false, true≢false, eqb, eqb-true, eq-eqb, List, [], ◌∷◌, ◌++◌}
 use Rattle.std.proofs.Common.{length, refl, sym, ap, ◌∙◌, subst, arith, inl, inr}
 use Rattle.std.specs.Prelude.{◌||◌, Ok, Err}
 use Rattle.std.proofs.lemmas.Bool.{or_cases, or_left, or_right}
@@ -36,6 +36,7 @@ enter_same t slots v can held = record {
   went = went_more 0 1 slots v v (omega arith) (went_self slots v can);
   held = sym (can.holds t) ∙ held;
   only = λ q now was. absurd (true≢false (sym now ∙ was));
+  ways = refl;
   seen = λ a. refl;
   cause = tt;
 }
@@ -47,6 +48,7 @@ enter_full t slots v can unheld full = record {
   went = went_more 0 1 slots v v (omega arith) (went_self slots v can);
   held = tt;
   only = λ q now was. absurd (true≢false (sym now ∙ was));
+  ways = refl;
   seen = λ a. refl;
   cause = (refl, full, unheld);
 }
@@ -99,6 +101,7 @@ enter_new t slots v w can there is =
       };
       held = ap (λ (z : View). has_slot z.grip.holds t) is ∙ or_left (eqb t t) (has_slot v.grip.holds t) (eq-eqb t t refl);
       only = λ q now was. only q (sym (ap (λ (z : View). has_slot z.grip.holds q) is) ∙ now) was;
+      ways = ap (λ (z : View). z.ways) is;
       seen = λ a. ap (λ (z : View). seen_at z.reads a) is;
       cause = tt;
     }

@@ -1,5 +1,5 @@
 -- A search as a whole.
-use Rattle.std.proofs.Common.{◌≡◌, ◌≢◌, ◌⊎◌, inl, inr, ℕ, ◌+◌, ◌≤◌, Bool, true, List, length, refl, sym, ap, ◌∙◌, subst, arith, Some, None}
+use Rattle.std.proofs.Common.{◌≡◌, inl, inr, ℕ, ◌+◌, ◌≤◌, List, ap, ◌∙◌, subst, arith, Some, None}
 use Rattle.std.specs.Prelude.{Result, Ok, Err, OnOk, IfOk, IfErr}
 use Rattle.serial_model.specs.declared.key.Key.{Key}
 use Rattle.homes.specs.declared.places.Content.{Content}
@@ -13,7 +13,6 @@ use Rattle.engine_pages.specs.declared.view.RefusalCause.{RefusalCause}
 use Rattle.engine_pages.specs.declared.view.RefusalCause.TheVariants as causes
 use Rattle.engine_pages.specs.declared.view.SetName.TheVariants as sets
 use Rattle.engine_pages.specs.declared.view.View.{View}
-use Rattle.engine_pages.specs.Steps.{kept_at}
 use Rattle.tree_heads.specs.Keeps.{head_part}
 use Rattle.tree_records.specs.Reads.{IsThat}
 use Rattle.tree_walks.specs.declared.finding.Found.{Found}
@@ -21,9 +20,10 @@ use Rattle.tree_walks.specs.declared.finding.Found.TheVariants as places
 use Rattle.tree_walks.specs.Finding.{IsAbsentIn, IsFound, IsFoundBelow, IsFoundIn, IsRecordChanged, MeetsOnly, RefusesFind}
 use Rattle.tree_walks.specs.Finds.{KeepsSo}
 use Rattle.tree_walks.specs.Steps.{Went}
-use Rattle.tree_walks.specs.Walks.{AreLedTo, HasWalked, KeepsMet, OnlyTrees}
+use Rattle.tree_walks.specs.Walks.{AreLedTo, HasWalked, KeepsMet, OnlyTrees, OnlyWaysOn}
 use Rattle.tree_walks.specs.Ways.{RefusesWalk}
 use Rattle.tree_walks.proofs.KeepLaws.{keeps_then}
+use Rattle.tree_walks.proofs.PathLaws.{paths_then}
 use Rattle.tree_walks.proofs.RefusalLaws.{refuses_back, saw_back}
 use Rattle.tree_walks.proofs.StepLaws.{layout_stays, led_none, led_then, only_but_then, only_for_then, only_then, walked_then}
 
@@ -132,26 +132,29 @@ meets_then (places.Zero p) v u w walk first second = only_then v u w walk first 
 
 -- the answers of a search, behind steps that kept nothing
 pub finds_behind : (b c most : ℕ) (k : Key) (pointers headers : List Seen) (slots : List ℕ) (r : Result Found RefusalCause)
-    (v u w : View) → b + c ≤ most → Went b slots v u → KeepsMet pointers headers v u → u.grip ≡ v.grip
+    (v u w : View) → b + c ≤ most → Went b slots v u → KeepsMet pointers headers v u → OnlyWaysOn k v u
+    → u.grip ≡ v.grip
     → KeepsSo c k pointers headers slots r u w → KeepsSo most k pointers headers slots r v w
-finds_behind b c most k pointers headers slots (Ok f) v u w few went keeps grip h = record {
+finds_behind b c most k pointers headers slots (Ok f) v u w few went keeps paths grip h = record {
   can = h.can;
   walked = walked_then v u w went.walked h.walked;
   most = let one = went.most in let two = h.most in omega (arith, few, one, two);
   met = only_for_then k v u w h.walked went.met h.met;
   only = meets_then f v u w h.walked went.met h.only;
   keeps = keeps_then pointers headers v u w went.walked keeps h.keeps;
+  paths = paths_then k v u w h.walked paths h.paths;
   grip = h.grip ∙ grip;
   found = found_back b k pointers headers slots v u w went f h.found;
   cause = tt;
 }
-finds_behind b c most k pointers headers slots (Err why) v u w few went keeps grip h = record {
+finds_behind b c most k pointers headers slots (Err why) v u w few went keeps paths grip h = record {
   can = h.can;
   walked = walked_then v u w went.walked h.walked;
   most = let one = went.most in let two = h.most in omega (arith, few, one, two);
   met = only_for_then k v u w h.walked went.met h.met;
   only = tt;
   keeps = tt;
+  paths = paths_then k v u w h.walked paths h.paths;
   grip = h.grip ∙ grip;
   found = tt;
   cause = find_refuses b k pointers headers slots v u w went (led_none k v u grip) h.walked why h.cause;

@@ -1,6 +1,6 @@
 -- From a split leaf to its half.
-use Rattle.std.proofs.Common.{◌≡◌, ◌≢◌, ◌⊎◌, ℕ, ◌+◌, ◌-◌, ◌/◌, ◌%◌, ◌^◌, ◌<◌, ◌≤◌, Bool, true, false, List, length, refl, sym, ap, ◌∙◌}
-use Rattle.std.proofs.Common.{subst, arith, inl, inr, Some, None, ltb, eqb, eqb-true, eq-eqb, true≢false}
+use Rattle.std.proofs.Common.{◌≡◌, ◌≢◌, ◌⊎◌, ℕ, ◌+◌, ◌-◌, ◌/◌, ◌%◌, ◌^◌, ◌<◌, ◌≤◌, Bool, true, false, List, refl, sym, ap, ◌∙◌}
+use Rattle.std.proofs.Common.{subst, arith, inl, inr, Some, ltb, eqb, eqb-true, eq-eqb, true≢false}
 use Rattle.std.specs.Prelude.{Ok, Err, Contains, MatchBool, ◌&&◌, if◌then◌else◌, nat_le}
 use Rattle.std.proofs.lemmas.Bool.{and_parts, leb-true}
 use Rattle.std.proofs.lemmas.Bool.Decides.{nat_tests}
@@ -13,7 +13,6 @@ use Rattle.drop_core.specs.declared.grip.Grip.{Grip}
 use Rattle.drop_core.specs.Event.{lower_span, upper_span}
 use Rattle.drop_core.specs.Table.{has_slot}
 use Rattle.tx_sets.specs.declared.seen.Seen.{Seen}
-use Rattle.tx_sets.specs.Entries.{word_at}
 use Rattle.engine_pages.specs.declared.layout.Layout.{Layout}
 use Rattle.engine_pages.specs.declared.view.Known.{Known}
 use Rattle.engine_pages.specs.declared.view.Moved.{Moved}
@@ -25,15 +24,16 @@ use Rattle.engine_pages.specs.declared.view.Way.{Way}
 use Rattle.engine_pages.specs.Layout.{page_at}
 use Rattle.engine_pages.specs.Pages.{is_tree}
 use Rattle.engine_pages.specs.Pointers.{ways_if}
-use Rattle.engine_pages.specs.Steps.{kept_at, read_at, seen_at}
+use Rattle.engine_pages.specs.Steps.{read_at, seen_at}
 use Rattle.tree_heads.specs.Headers.{HasTwinWays, HasWord, Headed, MetAgain, moved_bit, moved_locked, twin_ways}
 use Rattle.array_pages.specs.Finding.{HasGlanced}
 use Rattle.tree_walks.specs.declared.ways.Page.{Page}
 use Rattle.tree_walks.specs.Steps.{EntersSo, GoesSo, IsFullFor, IsHalfBelow, IsHalfFor, IsSplitAt, Went}
-use Rattle.tree_walks.specs.Walks.{CanWalk, HasWalked, IsTreesWord}
+use Rattle.tree_walks.specs.Walks.{CanWalk, HasWalked, IsTreesWord, OnlyWaysOn}
 use Rattle.tree_walks.specs.Ways.{IsHeaderChanged, IsMetSo, IsOnWay, IsWide, RefusesWalk, half_for, half_span}
 use Rattle.tree_walks.proofs.EnterLaws.{enter_led}
 use Rattle.tree_walks.proofs.KeepLaws.{keeps_header}
+use Rattle.tree_walks.proofs.PathLaws.{again_paths, head_paths, paths_glanced, paths_same, paths_then}
 use Rattle.tree_walks.proofs.LoadLaws.{IsLoad, again_load, glanced_grip, glanced_layout, glanced_moved, glanced_seen}
 use Rattle.tree_walks.proofs.LoadLaws.{glanced_went, head_load, load_went, ways_kept, word_glanced}
 use Rattle.tree_walks.proofs.StepLaws.{head_word, layout_stays, led_new, led_none, led_then, on_stays, slots_stay, tree_stays, walked_then, went_more, went_self}
@@ -231,6 +231,7 @@ module _ (k : Key) (pointers headers : List Seen) (slots : List ℕ) (page : Pag
         went = went_more 1 4 slots v w (omega arith) (load_went slots at v n w can (word_stays v w at l.walked treed) l);
         led = tt;
         keeps = tt;
+        paths = head_paths k page.slot page.span at v n w h;
         came = tt;
         cause = inr (header_changed k headers slots page at header v on word set 0 n leaf v w (went_self slots v can) l knows same met (locked_still header n locked small));
       }
@@ -245,6 +246,7 @@ module _ (k : Key) (pointers headers : List Seen) (slots : List ℕ) (page : Pag
         went = went;
         led = tt;
         keeps = tt;
+        paths = paths_then k v g e h.went.walked (paths_glanced k v g gl) (paths_same k g e h.ways);
         came = tt;
         cause = by_cause why h.cause went.walked;
       }
@@ -294,12 +296,21 @@ module _ (k : Key) (pointers headers : List Seen) (slots : List ℕ) (page : Pag
         went_then 3 1 4 late late v e w (omega arith) before
         (load_went late at e n w h.went.can (word_stays v w at (walked_then v e w before.walked l.walked) treed) l)
 
+    paths : OnlyWaysOn k v w
+    paths =
+        paths_then k v e w l.walked
+        (paths_then k v g e h.went.walked (paths_glanced k v g gl) (paths_same k g e h.ways))
+        (again_paths k page.slot page.span at e n w half.moved l.walked
+        (on_stays k v e page.slot page.span before.walked on)
+        (h.went.walked.moved half.moved half.knows) half.same m)
+
     pub half_changed : (leaf : Known) → Contains v.known leaf → leaf.slot ≡ page.slot → n ≢ header
         → GoesSo 4 k pointers headers late (IsHalfBelow k page) (Err (causes.Conflict at header n)) v w
     half_changed leaf knows same other = record {
       went = went;
       led = tt;
       keeps = tt;
+      paths = paths;
       came = tt;
       cause = inr (header_changed k headers late page at header v on word set 3 n leaf e w before l knows same
           (h.seen at ∙ (glanced_seen v g at gl ∙ met)) (inr other));
@@ -334,6 +345,7 @@ module _ (k : Key) (pointers headers : List Seen) (slots : List ℕ) (page : Pag
           keeps = keeps_header k pointers headers slots page.slot page.span at n v w can on word
               (subst (IsMetSo headers at) (sym same) set) l.met
               (λ a apart. l.others a apart ∙ (h.seen a ∙ glanced_seen v g a gl));
+          paths = paths;
           came = (
             here,
             record {

@@ -3,6 +3,7 @@ pub mod WayLaws
 pub mod RefusalLaws
 pub mod LoadLaws
 pub mod KeepLaws
+pub mod PathLaws
 pub mod EnterLaws
 pub mod ReachLaws
 pub mod HalfLaws

@@ -1,16 +1,12 @@
 -- What the loads of a walk tell, and what entering a slot does.
-use Rattle.std.proofs.Common.{◌≡◌, ◌≢◌, ◌⊎◌, inl, inr, ℕ, zero, suc, ◌+◌, ◌-◌, ◌/◌, ◌%◌, ◌^◌, ◌<◌, ◌≤◌, Bool, true, false, true≢false}
-use Rattle.std.proofs.Common.{cond, eqb, eqb-true, eq-eqb, ltb, List, [], ◌∷◌, ◌++◌, length, refl, sym, ap, ◌∙◌, subst, arith}
+use Rattle.std.proofs.Common.{◌≡◌, ◌≢◌, inl, ℕ, zero, suc, ◌+◌, ◌-◌, ◌/◌, ◌^◌, ◌<◌, ◌≤◌, Bool, true, false}
+use Rattle.std.proofs.Common.{cond, eqb, eq-eqb, ltb, List, refl, sym, ap, ◌∙◌, subst, arith}
 use Rattle.std.proofs.Common.{Option, Some, None}
-use Rattle.std.specs.Prelude.{◌||◌, IfSome, MatchBool, Contains}
-use Rattle.std.proofs.lemmas.Bool.{or_cases, or_left, or_right}
+use Rattle.std.specs.Prelude.{MatchBool, Contains}
 use Rattle.std.proofs.lemmas.Bool.Decides.{nat_tests}
-use Rattle.std.specs.List.{list_any}
 use Rattle.lists.specs.Elements.{in_head, in_tail}
 use Rattle.lists.specs.Fronts.{IsFront, front_refl}
-use Rattle.serial_model.specs.declared.key.Key.{Key}
 use Rattle.homes.specs.declared.places.Span.{Span}
-use Rattle.drop_core.specs.declared.grip.Grip.{Grip}
 use Rattle.drop_core.specs.Table.{has_slot}
 use Rattle.commit_core.specs.declared.seat.Seat.{Seat}
 use Rattle.engine_pages.specs.declared.layout.Layout.{Layout}
@@ -22,10 +18,9 @@ use Rattle.engine_pages.specs.declared.view.View.{View}
 use Rattle.engine_pages.specs.declared.view.Way.{Way}
 use Rattle.engine_pages.specs.Agreement.{TreesAgree}
 use Rattle.engine_pages.specs.Pages.{is_tree}
-use Rattle.engine_pages.specs.Pointers.{HasFollowed, WaysAgree, followed, half_of, is_open_word, leads_more, page_half}
+use Rattle.engine_pages.specs.Pointers.{HasFollowed, WaysAgree, half_of, is_open_word, leads_more, page_half}
 use Rattle.engine_pages.specs.Pointers.{slot_half, ways_if, ways_more}
-use Rattle.engine_pages.specs.Slots.{entered}
-use Rattle.engine_pages.specs.Steps.{glanced, kept_at, read_at, seen_at}
+use Rattle.engine_pages.specs.Steps.{kept_at, read_at, seen_at}
 use Rattle.engine_pages.specs.Views.{IsActive}
 use Rattle.tree_heads.specs.Headers.{HasChildren, HasHeader, HasTwinWays, HasTwins, HasWord, Headed, MetAgain, kind_of}
 use Rattle.tree_heads.specs.Headers.{moved_bit, moved_locked}
@@ -35,7 +30,7 @@ use Rattle.array_pages.proofs.LookLaws.{glanced_is}
 use Rattle.array_pages.proofs.ReadLaws.{kept_here, kept_with, noted_in, seen_other, seen_same}
 use Rattle.tree_walks.specs.Steps.{Went}
 use Rattle.tree_walks.specs.Walks.{CanWalk, HasWalked, IsTreesWord, KeepsWords}
-use Rattle.tree_walks.proofs.StepLaws.{can_after, only_but, walked_self}
+use Rattle.tree_walks.proofs.StepLaws.{can_after, only_but}
 
 -- ---- one load of a word that counts as met
 

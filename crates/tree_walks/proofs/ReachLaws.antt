@@ -1,6 +1,6 @@
 -- One pointer down.
-use Rattle.std.proofs.Common.{◌≡◌, ◌≢◌, ◌⊎◌, ℕ, ◌+◌, ◌-◌, ◌/◌, ◌%◌, ◌^◌, ◌<◌, ◌≤◌, Bool, true, false, List, length, refl, sym, ap, ◌∙◌}
-use Rattle.std.proofs.Common.{subst, arith, inl, inr, Some, None, Option}
+use Rattle.std.proofs.Common.{◌≡◌, ◌≢◌, ℕ, ◌-◌, ◌/◌, ◌^◌, ◌<◌, ◌≤◌, Bool, true, List, length, refl, sym, ap, ◌∙◌}
+use Rattle.std.proofs.Common.{subst, arith, inl, inr, Some, Option}
 use Rattle.std.specs.Prelude.{Ok, Err, Contains, IfSome}
 use Rattle.std.proofs.lemmas.Bool.Decides.{nat_tests}
 use Rattle.lists.specs.Elements.{in_head}
@@ -11,7 +11,6 @@ use Rattle.homes.specs.Homes.{in_span}
 use Rattle.drop_core.specs.declared.grip.Grip.{Grip}
 use Rattle.drop_core.specs.Table.{has_slot}
 use Rattle.tx_sets.specs.declared.seen.Seen.{Seen}
-use Rattle.tx_sets.specs.Entries.{word_at}
 use Rattle.engine_pages.specs.declared.layout.Layout.{Layout}
 use Rattle.engine_pages.specs.declared.view.RefusalCause.{RefusalCause}
 use Rattle.engine_pages.specs.declared.view.RefusalCause.TheVariants as causes
@@ -21,16 +20,16 @@ use Rattle.engine_pages.specs.declared.view.View.{View}
 use Rattle.engine_pages.specs.Layout.{words_of}
 use Rattle.engine_pages.specs.Pages.{is_tree}
 use Rattle.engine_pages.specs.Pointers.{HasFollowed, IsPointerAt, StandsFor, half_of, is_open_word, leads_more, page_half}
-use Rattle.engine_pages.specs.Steps.{kept_at, seen_at}
+use Rattle.engine_pages.specs.Steps.{seen_at}
 use Rattle.dual_pointer.specs.Copies.{IsLeadOf}
 use Rattle.array_pages.specs.Steps.{IsLedTo, IsMetElse}
-use Rattle.tree_walks.specs.declared.walk.Reached.{Reached}
 use Rattle.tree_walks.specs.declared.walk.Reached.TheVariants as reaches
 use Rattle.tree_walks.specs.Steps.{EntersSo, GoesSo, IsFullFor, IsHeldOn, IsReached, Went}
-use Rattle.tree_walks.specs.Walks.{CanWalk, HasWalked, IsNoHeader, IsTreesWord, KeepsMet}
-use Rattle.tree_walks.specs.Ways.{IsMetSo, IsOnWay, IsPointerChanged, IsWayPointer, IsWide, RefusesWalk}
+use Rattle.tree_walks.specs.Walks.{CanWalk, HasWalked, IsNoHeader, IsTreesWord, KeepsMet, LiesInPage, OnlyWaysOn}
+use Rattle.tree_walks.specs.Ways.{IsMetSo, IsOnWay, IsWayPointer, IsWide, RefusesWalk}
 use Rattle.tree_walks.proofs.EnterLaws.{enter_led}
 use Rattle.tree_walks.proofs.KeepLaws.{keeps_none, keeps_pointer}
+use Rattle.tree_walks.proofs.PathLaws.{follow_paths, paths_same, paths_then}
 use Rattle.tree_walks.proofs.LoadLaws.{IsLoad, follow_load, follow_way, half_is, load_went}
 use Rattle.tree_walks.proofs.RefusalLaws.{goes_on, goes_refused, shut_or_other}
 use Rattle.tree_walks.proofs.StepLaws.{layout_stays, led_new, led_none, place_stays, slots_stay, tree_stays, went_more, went_self}
@@ -48,6 +47,7 @@ hold_same k pointers headers slots at word span v can tree led over held = recor
   went = went_more 0 2 slots v v (omega arith) (went_self slots v can);
   led = led_none k v v refl;
   keeps = keeps_none pointers headers v v (λ a. refl);
+  paths = paths_same k v v refl;
   came = record {
     way = led.known (sym (can.holds (word / 2 ^ 32 - 1)) ∙ held);
     tree = tree;
@@ -61,14 +61,15 @@ hold_same k pointers headers slots at word span v can tree led over held = recor
 module _ (k : Key) (pointers headers : List Seen) (slots : List ℕ) (place : At) (at word : ℕ) (span : Span) (v : View)
     (p : IsPointerAt v place span at) (within : at < words_of v.layout)
     (tree : is_tree v.layout.decls span.storage ≡ true) (some : 2 ^ 32 ≤ word) (less : word < 2 ^ 60)
-    (led : IsLedTo word span at v) (over : in_span span k ≡ true) (apart : IsNoHeader v.layout.slots at) where
+    (led : IsLedTo word span at v) (over : in_span span k ≡ true) (apart : IsNoHeader v.layout.slots at)
+    (inside : LiesInPage v.layout.slots place at) where
   abbrev t : ℕ
   t = word / 2 ^ 32 - 1
 
   on_way : (w : View) → HasWalked v w → IsWayPointer k w at
   on_way w walk =
       pointer_stays k v w at walk
-      record { place = place; span = span; is = p; within = within; tree = tree; over = over }
+      record { place = place; span = span; is = p; inside = inside; within = within; tree = tree; over = over }
 
   -- the holds are full
   pub hold_wide : (why : RefusalCause) (e : View) → EntersSo t slots (Err why) v e
@@ -77,6 +78,7 @@ module _ (k : Key) (pointers headers : List Seen) (slots : List ℕ) (place : At
     went = went_more 1 2 slots v e (omega arith) h.went;
     led = tt;
     keeps = tt;
+    paths = paths_same k v e h.ways;
     came = tt;
     cause = by_cause why h.cause;
   }
@@ -113,12 +115,16 @@ module _ (k : Key) (pointers headers : List Seen) (slots : List ℕ) (place : At
         went_then 1 1 2 slots slots v e w (omega arith) h.went
         (load_went slots at e again w h.went.can (word_stays e w at l.walked (word_stays v e at h.went.walked known)) l)
 
+    paths : OnlyWaysOn k v w
+    paths = paths_then k v e w l.walked (paths_same k v e h.ways) (follow_paths k span at e again w over f)
+
     pub hold_changed : again ≢ word → IsMetSo pointers at word
         → GoesSo 2 k pointers headers slots (IsHeldOn k span) (Err (causes.Conflict at word again)) v w
     hold_changed other set = record {
       went = went;
       led = tt;
       keeps = tt;
+      paths = paths;
       came = tt;
       cause = inl (record {
         on = on_way w went.walked;
@@ -150,6 +156,7 @@ module _ (k : Key) (pointers headers : List Seen) (slots : List ℕ) (place : At
               (λ q now was. h.only q (sym (ap (λ (g : Grip). has_slot g.holds q) l.grip) ∙ now) was);
           keeps = keeps_pointer pointers headers at word v w apart set
               (l.met ∙ ap (λ (i : ℕ). let o : Option ℕ = Some i in o) same) (λ a other. l.others a other ∙ h.seen a);
+          paths = paths;
           came = on;
           cause = tt;
         }
@@ -172,9 +179,13 @@ led_at span at v n u f some less =
 module _ (k : Key) (pointers headers : List Seen) (slots : List ℕ) (place : At) (span : Span) (at : ℕ) (v : View) (n : ℕ)
     (u : View) (can : CanWalk slots v) (p : IsPointerAt v place span at) (within : at < words_of v.layout)
     (tree : is_tree v.layout.decls span.storage ≡ true) (known : IsTreesWord v at) (f : HasFollowed span at v n u)
-    (over : in_span span k ≡ true) (apart : IsNoHeader v.layout.slots at) where
+    (over : in_span span k ≡ true) (apart : IsNoHeader v.layout.slots at)
+    (inside : LiesInPage v.layout.slots place at) where
   loaded : IsLoad at v n u
   loaded = follow_load span at v n u f
+
+  first_paths : OnlyWaysOn k v u
+  first_paths = follow_paths k span at v n u over f
 
   first_keeps : IsMetSo pointers at n → KeepsMet pointers headers v u
   first_keeps set = keeps_pointer pointers headers at n v u apart set loaded.met loaded.others
@@ -185,7 +196,7 @@ module _ (k : Key) (pointers headers : List Seen) (slots : List ℕ) (place : At
   way_pointer : (w : View) → HasWalked v w → IsWayPointer k w at
   way_pointer w walk =
       pointer_stays k v w at walk
-      record { place = place; span = span; is = p; within = within; tree = tree; over = over }
+      record { place = place; span = span; is = p; inside = inside; within = within; tree = tree; over = over }
 
   -- the set has it with another word
   pub reach_other : (why : RefusalCause) → IsMetElse pointers at n why
@@ -194,6 +205,7 @@ module _ (k : Key) (pointers headers : List Seen) (slots : List ℕ) (place : At
     went = went_more 1 3 slots v u (omega arith) first;
     led = tt;
     keeps = tt;
+    paths = first_paths;
     came = tt;
     cause = by_cause why else;
   }
@@ -224,6 +236,7 @@ module _ (k : Key) (pointers headers : List Seen) (slots : List ℕ) (place : At
         went = went;
         led = tt;
         keeps = tt;
+        paths = paths_then k v u w l.walked first_paths (follow_paths k span at u later w over g);
         came = tt;
         cause = inl (record {
           on = way_pointer w went.walked;
@@ -248,10 +261,12 @@ module _ (k : Key) (pointers headers : List Seen) (slots : List ℕ) (place : At
     went = went_more 1 3 slots v u (omega arith) first;
     led = led_none k v u loaded.grip;
     keeps = first_keeps set;
+    paths = first_paths;
     came = record {
       is = place_stays v u place span at loaded.walked p;
       known = word_stays v u at loaded.walked known;
       apart = subst (λ (y : Layout). IsNoHeader y.slots at) (sym (layout_stays v u loaded.walked)) apart;
+      inside = subst (λ (y : Layout). LiesInPage y.slots place at) (sym (layout_stays v u loaded.walked)) inside;
       within = subst (λ (y : Layout). at < words_of y) (sym (layout_stays v u loaded.walked)) within;
       tree = tree_stays v u span.storage loaded.walked tree;
       over = over;
@@ -295,11 +310,11 @@ module _ (k : Key) (pointers headers : List Seen) (slots : List ℕ) (place : At
       → GoesSo 3 k pointers headers late (IsReached k pointers place span at) (Ok (reaches.Slot t)) v w
   reach_slot set late t w h =
       goes_on 1 2 3 k pointers headers slots late (IsHeldOn k span) (IsReached k pointers place span at) t (reaches.Slot t) v u w
-      (omega arith) first (led_none k v u loaded.grip) (first_keeps set) h h.came
+      (omega arith) first (led_none k v u loaded.grip) (first_keeps set) first_paths h h.came
 
   pub reach_unheld : (late : List ℕ) (why : RefusalCause) (w : View)
       → GoesSo 2 k pointers headers late (IsHeldOn k span) (Err why) u w
       → GoesSo 3 k pointers headers late (IsReached k pointers place span at) (Err why) v w
   reach_unheld late why w h =
       goes_refused 1 2 3 k pointers headers slots late (IsHeldOn k span) (IsReached k pointers place span at) why v u w
-      (omega arith) first (led_none k v u loaded.grip) h
+      (omega arith) first (led_none k v u loaded.grip) first_paths h

@@ -1,12 +1,12 @@
 -- A record in a leaf, and the header of one that has none.
 use Rattle.std.proofs.Common.{◌≡◌, ◌≢◌, ◌⊎◌, ℕ, ◌+◌, ◌*◌, ◌/◌, ◌%◌, ◌^◌, ◌<◌, ◌≤◌, Bool, true, false, true≢false, cond, eqb, eqb-true, eq-eqb}
-use Rattle.std.proofs.Common.{List, [], ◌∷◌, length, refl, sym, ap, ◌∙◌, subst, arith, inl, inr, Option, Some, None, ltb, not, filter}
-use Rattle.std.specs.Prelude.{◌&&◌, Ok, Err, Contains, MatchBool, unwrap_or, nat_le}
+use Rattle.std.proofs.Common.{List, [], refl, sym, ap, ◌∙◌, subst, arith, inl, inr, Option, Some, None, ltb, not, filter}
+use Rattle.std.specs.Prelude.{◌&&◌, Ok, Err, Contains, MatchBool, unwrap_or}
 use Rattle.std.specs.List.{slice_get}
 use Rattle.std.proofs.lemmas.Bool.{and_from, and_parts}
 use Rattle.std.proofs.lemmas.Bool.Decides.{nat_tests}
 use Rattle.lists.specs.Elements.{at_below, in_filter, in_head, in_push_cases, in_push_new, in_tail}
-use Rattle.lists.specs.Fronts.{IsFront, front_refl, front_same}
+use Rattle.lists.specs.Fronts.{front_refl, front_same}
 use Rattle.serial_model.specs.declared.key.Key.{Key}
 use Rattle.homes.specs.declared.places.Content.{Content}
 use Rattle.homes.specs.declared.places.Span.{Span}
@@ -15,16 +15,13 @@ use Rattle.homes.specs.Homes.{has_key, in_span, same_key}
 use Rattle.homes.specs.Laws.{same_key-self}
 use Rattle.wire_form.specs.Leaves.{tree_leaf, word_in}
 use Rattle.wire_form.specs.Words.{absent_field, number_word}
-use Rattle.commit_core.specs.declared.part.Part.{Part}
 use Rattle.commit_core.specs.declared.part.Word.TheVariants.{Header, Record}
 use Rattle.commit_core.specs.declared.seat.Seat.{Seat}
 use Rattle.commit_core.specs.Keys.{nothing}
-use Rattle.commit_core.specs.Parts.{IsSameOrAbsent, Vouches, covers, found, only, record_part, same_word, with_part}
+use Rattle.commit_core.specs.Parts.{Vouches, covers, found, only, record_part, same_word}
 use Rattle.commit_core.specs.Serial.{last_write}
 use Rattle.tx_sets.specs.declared.seen.Seen.{Seen}
 use Rattle.engine_pages.specs.declared.layout.Layout.{Layout}
-use Rattle.engine_pages.specs.declared.view.Known.{Known}
-use Rattle.engine_pages.specs.declared.view.RefusalCause.{RefusalCause}
 use Rattle.engine_pages.specs.declared.view.RefusalCause.TheVariants as causes
 use Rattle.engine_pages.specs.declared.view.View.{View}
 use Rattle.engine_pages.specs.Agreement.{TreesAgree}
@@ -34,26 +31,26 @@ use Rattle.engine_pages.specs.Pointers.{WaysAgree}
 use Rattle.engine_pages.specs.Records.{IsTreeRecordAt}
 use Rattle.engine_pages.specs.Steps.{kept_at, read_at, seen_at}
 use Rattle.engine_pages.specs.Views.{IsActive}
-use Rattle.page_records.specs.Reads.{LoadedWord, loaded_at, saw, valued}
-use Rattle.tree_heads.specs.Headers.{count_of, kind_of, open_word}
+use Rattle.page_records.specs.Reads.{LoadedWord, saw, valued}
+use Rattle.tree_heads.specs.Headers.{count_of, kind_of}
 use Rattle.tree_heads.specs.Keeps.{HasSeenHeader, SawHeader, head_part, is_open_leaf, saw_header}
 use Rattle.tree_records.specs.ReadLaws.{saw_there}
-use Rattle.tree_records.specs.Reads.{ConfirmedTree, IsKeptThere, IsThat, SawTree, SawTreeFree, is_unlocked}
-use Rattle.array_pages.specs.Walks.{IsLastBetween, SawLast}
+use Rattle.tree_records.specs.Reads.{ConfirmedTree, IsKeptThere, IsThat, SawTree, SawTreeFree}
+use Rattle.array_pages.specs.Walks.{IsLastBetween}
 use Rattle.array_pages.proofs.ReadLaws.{kept_here, kept_other, kept_with, seen_other, seen_same}
-use Rattle.tree_walks.specs.declared.finding.Found.{Found}
 use Rattle.tree_walks.specs.declared.finding.Found.TheVariants as places
 use Rattle.tree_walks.specs.declared.ways.Leaf.{Leaf}
-use Rattle.tree_walks.specs.Finding.{IsAbsentIn, IsFoundIn, IsRecordChanged}
+use Rattle.tree_walks.specs.Finding.{IsFoundIn, IsRecordChanged}
 use Rattle.tree_walks.specs.Finds.{KeepsSo}
 use Rattle.tree_walks.specs.Walks.{CanWalk, HasWalked, IsRecordsWord, IsTreesWord, KeepsMet, KeepsWords, OnlyTrees, OnlyTreesFor}
 use Rattle.tree_walks.specs.Ways.{IsLeafAt, IsLeafOn, IsMetSo, IsOnWay}
 use Rattle.tree_walks.proofs.LoadLaws.{IsLoad, read_load, trees_by}
 use Rattle.tree_walks.proofs.KeepLaws.{keeps_header, keeps_record}
+use Rattle.tree_walks.proofs.PathLaws.{paths_same}
 use Rattle.tree_walks.proofs.StepLaws.{active_stays, can_after, head_word, layout_stays, on_stays, only_but, only_for, walked_then}
 use Rattle.tree_walks.proofs.StepLaws.{went_self, word_stays}
 use Rattle.tree_walks.proofs.HalfLaws.{bounds_of, header_changed}
-use Rattle.tree_walks.proofs.WayLaws.{leaf_stays, record_stays}
+use Rattle.tree_walks.proofs.WayLaws.{record_stays}
 
 -- ---- where the record stands
 
@@ -243,6 +240,7 @@ module _ (k : Key) (pointers headers : List Seen) (slots : List ℕ) (leaf : Lea
         met = only_so w all (λ q one two. b.others q one ∙ a.others q one);
         only = tt;
         keeps = tt;
+        paths = paths_same k v w (ap (λ (z : View). z.ways) h.is ∙ ap (λ (z : View). z.ways) (saw_locked k x at n v u locked sees));
         grip = b.grip ∙ a.grip;
         found = tt;
         cause = inr (changed later u w a.walked b a.words a.met (locked_still n later locked));
@@ -329,6 +327,7 @@ module _ (k : Key) (pointers headers : List Seen) (slots : List ℕ) (leaf : Lea
       met = only_so u walk_first (λ q one two. others_first q one);
       only = λ q one two. inl (others_first q one);
       keeps = keeps_so u (λ q one two. others_first q one);
+      paths = paths_same k v u (ap (λ (z : View). z.ways) s.is);
       grip = grip_first;
       found = found_so 0 u walk_first refl refl refl met_first words_first
           (sym (ap (λ (o : Option ℕ). unwrap_or o 0) (absent_is s.content n small s.word high)));
@@ -392,6 +391,11 @@ module _ (k : Key) (pointers headers : List Seen) (slots : List ℕ) (leaf : Lea
       grip : w.grip ≡ v.grip
       grip = b.grip ∙ (ap (λ (z : View). z.grip) loads ∙ grip_first)
 
+      ways_all : w.ways ≡ v.ways
+      ways_all =
+          ap (λ (z : View). z.ways) confirms.is
+          ∙ (ap (λ (z : View). z.ways) loads ∙ ap (λ (z : View). z.ways) s.is)
+
       others_all : (q : ℕ) → q ≢ at → q ≢ at + 1 → seen_at w.reads q ≡ seen_at v.reads q
       others_all q one two =
           b.others q one
@@ -406,6 +410,7 @@ module _ (k : Key) (pointers headers : List Seen) (slots : List ℕ) (leaf : Lea
         met = only_so w all others_all;
         only = tt;
         keeps = tt;
+        paths = paths_same k v w ways_all;
         grip = grip;
         found = tt;
         cause = inr (changed again t w before b words_before met_before (inr other));
@@ -434,6 +439,7 @@ module _ (k : Key) (pointers headers : List Seen) (slots : List ℕ) (leaf : Lea
         met = only_so w all others_all;
         only = λ q one two. inl (others_all q one two);
         keeps = keeps_so w others_all;
+        paths = paths_same k v w ways_all;
         grip = grip;
         found = found_so value w all
             (ap (λ (z : View). z.history) confirms.is ∙ ap (λ (z : View). z.history) loads)
@@ -528,6 +534,7 @@ module _ (k : Key) (pointers headers : List Seen) (slots : List ℕ) (leaf : Lea
         only = alone;
         keeps = keeps_header k pointers headers slots leaf.slot leaf.span at n v w can lf.on word
             (subst (IsMetSo headers at) (sym same) set_is) seen others;
+        paths = paths_same k v w (ap (λ (z : View). z.ways) h.is);
         grip = grip;
         found = record {
           slot = leaf.slot;
@@ -563,6 +570,7 @@ module _ (k : Key) (pointers headers : List Seen) (slots : List ℕ) (leaf : Lea
         met = only_for k v w (only_but at v w (word_stays v w at a.walked treed) a.others);
         only = tt;
         keeps = tt;
+        paths = paths_same k v w (ap (λ (z : View). z.ways) is);
         grip = a.grip;
         found = tt;
         cause = inl (inr (header_changed k headers slots (record { slot = leaf.slot; span = leaf.span }) at leaf.header v lf.on

@@ -1,11 +1,9 @@
 -- What refused a part of a walk refuses the walk.
-use Rattle.std.proofs.Common.{◌≡◌, ◌≢◌, ◌⊎◌, inl, inr, ℕ, ◌+◌, ◌^◌, ◌<◌, ◌≤◌, Bool, true, false, List, length, refl, sym, ap, ◌∙◌, subst}
-use Rattle.std.proofs.Common.{arith, Option, Some, None, ltb}
+use Rattle.std.proofs.Common.{◌≡◌, ◌≢◌, ◌⊎◌, inl, inr, ℕ, ◌+◌, ◌^◌, ◌<◌, ◌≤◌, Bool, true, false, List, refl, ◌∙◌}
+use Rattle.std.proofs.Common.{arith, Option, ltb}
 use Rattle.std.specs.Prelude.{Result, Ok, Err}
 use Rattle.std.proofs.lemmas.Bool.Decides.{nat_tests}
 use Rattle.serial_model.specs.declared.key.Key.{Key}
-use Rattle.homes.specs.declared.places.Span.{Span}
-use Rattle.drop_core.specs.Table.{has_slot}
 use Rattle.tx_sets.specs.declared.seen.Seen.{Seen}
 use Rattle.engine_pages.specs.declared.view.RefusalCause.{RefusalCause}
 use Rattle.engine_pages.specs.declared.view.RefusalCause.TheVariants as causes
@@ -13,10 +11,11 @@ use Rattle.engine_pages.specs.declared.view.SetName.TheVariants as sets
 use Rattle.engine_pages.specs.declared.view.View.{View}
 use Rattle.array_pages.specs.Walks.{SawLast}
 use Rattle.tree_walks.specs.Steps.{GoesSo, Went}
-use Rattle.tree_walks.specs.Walks.{AreLedTo, HasWalked, KeepsMet}
+use Rattle.tree_walks.specs.Walks.{AreLedTo, HasWalked, KeepsMet, OnlyWaysOn}
 use Rattle.tree_walks.specs.Ways.{IsHeaderChanged, IsPointerChanged, RefusesWalk}
 use Rattle.tree_walks.proofs.KeepLaws.{keeps_then}
-use Rattle.tree_walks.proofs.StepLaws.{led_then, went_more, went_then}
+use Rattle.tree_walks.proofs.PathLaws.{paths_then}
+use Rattle.tree_walks.proofs.StepLaws.{led_then, went_then}
 
 abbrev pub saw_back : (at seen : ℕ) (was : Option ℕ) (v u w : View) → v.steps ≤ u.steps → SawLast at seen was u w
     → SawLast at seen was v w
@@ -72,12 +71,13 @@ refuses_back b k pointers headers slots late (causes.NumberLimit clock) v u w we
 -- a part was refused behind another one
 pub goes_refused : {A B : Type 0} (b c most : ℕ) (k : Key) (pointers headers : List Seen) (slots late : List ℕ)
     (comes : A → View → Type 0) (ends : B → View → Type 0) (why : RefusalCause) (v u w : View) → b + c ≤ most
-    → Went b slots v u → AreLedTo k v u → GoesSo c k pointers headers late comes (Err why) u w
+    → Went b slots v u → AreLedTo k v u → OnlyWaysOn k v u → GoesSo c k pointers headers late comes (Err why) u w
     → GoesSo most k pointers headers late ends (Err why) v w
-goes_refused b c most k pointers headers slots late comes ends why v u w few went led h = record {
+goes_refused b c most k pointers headers slots late comes ends why v u w few went led paths h = record {
   went = went_then b c most slots late v u w few went h.went;
   led = tt;
   keeps = tt;
+  paths = paths_then k v u w h.went.walked paths h.paths;
   came = tt;
   cause = refuses_back b k pointers headers slots late why v u w went led h.went.walked h.cause;
 }
@@ -85,13 +85,14 @@ goes_refused b c most k pointers headers slots late comes ends why v u w few wen
 -- it came to what is told behind another one
 pub goes_on : {A B : Type 0} (b c most : ℕ) (k : Key) (pointers headers : List Seen) (slots late : List ℕ)
     (comes : A → View → Type 0) (ends : B → View → Type 0) (a : A) (e : B) (v u w : View) → b + c ≤ most
-    → Went b slots v u → AreLedTo k v u → KeepsMet pointers headers v u
+    → Went b slots v u → AreLedTo k v u → KeepsMet pointers headers v u → OnlyWaysOn k v u
     → GoesSo c k pointers headers late comes (Ok a) u w → ends e w
     → GoesSo most k pointers headers late ends (Ok e) v w
-goes_on b c most k pointers headers slots late comes ends a e v u w few went led keeps h end = record {
+goes_on b c most k pointers headers slots late comes ends a e v u w few went led keeps paths h end = record {
   went = went_then b c most slots late v u w few went h.went;
   led = led_then k v u w h.went.walked led h.led;
   keeps = keeps_then pointers headers v u w went.walked keeps h.keeps;
+  paths = paths_then k v u w h.went.walked paths h.paths;
   came = end;
   cause = tt;
 }
@@ -99,12 +100,12 @@ goes_on b c most k pointers headers slots late comes ends a e v u w few went led
 -- the same of any answer that is handed on
 pub goes_behind : {A : Type 0} (b c most : ℕ) (k : Key) (pointers headers : List Seen) (slots late : List ℕ)
     (comes : A → View → Type 0) (r : Result A RefusalCause) (v u w : View) → b + c ≤ most → Went b slots v u
-    → AreLedTo k v u → KeepsMet pointers headers v u → GoesSo c k pointers headers late comes r u w
+    → AreLedTo k v u → KeepsMet pointers headers v u → OnlyWaysOn k v u → GoesSo c k pointers headers late comes r u w
     → GoesSo most k pointers headers late comes r v w
-goes_behind b c most k pointers headers slots late comes (Ok a) v u w few went led keeps h =
-    goes_on b c most k pointers headers slots late comes comes a a v u w few went led keeps h h.came
-goes_behind b c most k pointers headers slots late comes (Err why) v u w few went led keeps h =
-    goes_refused b c most k pointers headers slots late comes comes why v u w few went led h
+goes_behind b c most k pointers headers slots late comes (Ok a) v u w few went led keeps paths h =
+    goes_on b c most k pointers headers slots late comes comes a a v u w few went led keeps paths h h.came
+goes_behind b c most k pointers headers slots late comes (Err why) v u w few went led keeps paths h =
+    goes_refused b c most k pointers headers slots late comes comes why v u w few went led paths h
 
 -- ---- words that were loaded again
 

@@ -1,14 +1,12 @@
 -- A key is looked for in a leaf.
-use Rattle.std.proofs.Common.{◌≡◌, ◌≢◌, ℕ, zero, suc, ◌+◌, ◌*◌, ◌%◌, ◌^◌, ◌<◌, ◌≤◌, Bool, true, false, eqb, eqb-true, ne_eqb, eq-eqb, true≢false, List, [], ◌∷◌}
-use Rattle.std.proofs.Common.{length, refl, sym, ap, ◌∙◌, subst, arith, Option, Some, None}
-use Rattle.std.specs.Prelude.{◌&&◌, ◌||◌, nat_le, Contains}
+use Rattle.std.proofs.Common.{◌≡◌, ◌≢◌, ℕ, zero, suc, ◌+◌, ◌*◌, ◌<◌, Bool, true, false, eqb, eqb-true, ne_eqb, eq-eqb, true≢false, List, [], ◌∷◌}
+use Rattle.std.proofs.Common.{length, refl, sym, ap, ◌∙◌, subst, arith, Option, Some}
+use Rattle.std.specs.Prelude.{◌&&◌, ◌||◌}
 use Rattle.std.specs.List.{slice_get}
-use Rattle.std.proofs.lemmas.Bool.{and_parts}
 use Rattle.lists.specs.Elements.{any_in, at_below, at_in}
 use Rattle.serial_model.specs.declared.key.Key.{Key}
-use Rattle.homes.specs.Homes.{has_key, in_span, same_key}
+use Rattle.homes.specs.Homes.{has_key, same_key}
 use Rattle.homes.specs.Laws.{same_key-self}
-use Rattle.wire_form.specs.Leaves.{record_start, tree_leaf}
 use Rattle.engine_pages.specs.declared.view.View.{View}
 use Rattle.tree_heads.specs.Headers.{HasWord, count_of}
 use Rattle.array_pages.specs.Finding.{HasGlanced}

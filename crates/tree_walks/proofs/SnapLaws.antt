@@ -1,6 +1,6 @@
 -- The way down a tree's snapshot pages.
 use Rattle.std.proofs.Common.{◌≡◌, ◌≢◌, ◌⊎◌, inl, inr, ℕ, zero, suc, ◌+◌, ◌-◌, ◌*◌, ◌/◌, ◌%◌, ◌<◌, ◌≤◌, Bool, true, false, true≢false, cond, eqb, eqb-true, List, [], ◌∷◌}
-use Rattle.std.proofs.Common.{◌++◌, length, get_or, map, drop, take, replicate, refl, sym, ap, ◌∙◌, subst, arith, Option, Some, None, ne_eqb, eq-eqb}
+use Rattle.std.proofs.Common.{◌++◌, length, get_or, map, drop, replicate, refl, sym, ap, ◌∙◌, subst, arith, Option, Some, None, ne_eqb, eq-eqb}
 use Rattle.std.specs.Prelude.{nat_le, Contains}
 use Rattle.std.specs.List.{AllByRecursion, flat_map}
 use Rattle.std.proofs.lemmas.Bool.Decides.{nat_tests}
@@ -10,16 +10,16 @@ use Rattle.homes.specs.declared.places.Span.{Span}
 use Rattle.wire_form.specs.declared.records.TreeRecord.{TreeRecord}
 use Rattle.wire_form.specs.Bytes.{padded}
 use Rattle.wire_form.specs.declared.page.PageKind.TheVariants.{TreeInner, TreeLeaf}
-use Rattle.wire_form.specs.Pages.{Children, HasKind, IsChild, IsSeparator, IsTreeInner, IsTreeLeaf, device_header, tree_inner_words}
+use Rattle.wire_form.specs.Pages.{HasKind, IsChild, IsSeparator, device_header, tree_inner_words}
 use Rattle.wire_form.specs.Pages.{tree_leaf_words, tree_record_words}
 use Rattle.wire_form.specs.Words.{number_word}
 use Rattle.snapshot_store.specs.declared.place.PagePlace.{PagePlace}
 use Rattle.snapshot_store.specs.Content.{deepest}
 use Rattle.snapshot_store.specs.Places.{Found, StandsTo, at_key, find, here_or_below, page as page_words, places_below}
-use Rattle.snapshot_store.specs.TreePages.{IsTreePage, Leaf, Record, children, node_below, node_of, record_for, records_at, records_of}
+use Rattle.snapshot_store.specs.TreePages.{IsTreePage, Leaf, children, node_below, node_of, record_for, records_at, records_of}
 use Rattle.snapshot_store.specs.TreePages.{tree_format}
 use Rattle.engine_pages.specs.Resident.{place_for}
-use Rattle.tree_heads.proofs.InnerWords.{below_is, pointer_word, separator_word}
+use Rattle.tree_heads.proofs.InnerWords.{below_is, separator_word}
 use Rattle.tree_walks.specs.declared.snapshots.Stored.{Stored}
 use Rattle.tree_walks.specs.Snapshots.{IsInnerPage, IsLeafPage, IsLooked, IsPicked, read_so}
 
@@ -189,7 +189,7 @@ module _ (pages : List (List ℕ)) (key : ℕ) (whole : Option Found) (page left
   pub there : page ≤ length pages
   there = subst (λ i. i ≤ length pages) b.number s.there
 
-  kind_is : HasKind (TreeLeaf p.low p.high) page (page_words pages page)
+  pub kind_is : HasKind (TreeLeaf p.low p.high) page (page_words pages page)
       ⊎ HasKind (TreeInner p.low p.high) page (page_words pages page)
   kind_is =
       subst (λ i. HasKind (TreeLeaf p.low p.high) i (page_words pages i) ⊎ HasKind (TreeInner p.low p.high) i (page_words pages i))

@@ -1,10 +1,8 @@
 -- What a walk leaves, one step after another.
 use Rattle.std.proofs.Common.{◌≡◌, ◌≢◌, ◌⊎◌, inl, inr, ℕ, ◌+◌, ◌<◌, ◌≤◌, Bool, true, false, true≢false, eqb, eqb-true, eq-eqb}
-use Rattle.std.proofs.Common.{List, [], ◌∷◌, ◌++◌, length, refl, sym, ap, ◌∙◌, subst, arith, Option}
-use Rattle.std.specs.Prelude.{◌||◌}
+use Rattle.std.proofs.Common.{List, length, refl, sym, ap, ◌∙◌, subst, arith}
 use Rattle.std.specs.List.{Contains}
-use Rattle.std.proofs.lemmas.Bool.{or_cases, or_left, or_right}
-use Rattle.lists.specs.Fronts.{IsFront, front_refl, front_then}
+use Rattle.lists.specs.Fronts.{front_refl, front_then}
 use Rattle.serial_model.specs.Decls.{AreDecls}
 use Rattle.serial_model.specs.declared.key.Key.{Key}
 use Rattle.homes.specs.declared.places.At.{At}
@@ -13,7 +11,6 @@ use Rattle.homes.specs.declared.places.Span.{Span}
 use Rattle.homes.specs.declared.places.Spot.{Spot}
 use Rattle.homes.specs.Homes.{in_span}
 use Rattle.commit_core.specs.declared.part.Part.{Part}
-use Rattle.commit_core.specs.declared.seat.Seat.{Seat}
 use Rattle.commit_core.specs.CoreState.{is_trying}
 use Rattle.commit_core.specs.Parts.{Vouches}
 use Rattle.commit_core.specs.Serial.{last_write}
@@ -21,23 +18,18 @@ use Rattle.drop_core.specs.declared.grip.Grip.{Grip}
 use Rattle.drop_core.specs.Table.{has_slot}
 use Rattle.engine_pages.specs.declared.layout.Layout.{Layout}
 use Rattle.engine_pages.specs.declared.view.Inner.{Inner}
-use Rattle.engine_pages.specs.declared.view.Known.{Known}
-use Rattle.engine_pages.specs.declared.view.Lead.{Lead}
-use Rattle.engine_pages.specs.declared.view.Moved.{Moved}
-use Rattle.engine_pages.specs.declared.view.Role.{Role}
 use Rattle.engine_pages.specs.declared.view.View.{View}
 use Rattle.engine_pages.specs.declared.view.Way.{Way}
-use Rattle.engine_pages.specs.Agreement.{KnownAgree, TreesAgree}
+use Rattle.engine_pages.specs.Agreement.{TreesAgree}
 use Rattle.engine_pages.specs.Layout.{page_at}
 use Rattle.engine_pages.specs.Pages.{is_array, is_tree, root_span}
 use Rattle.engine_pages.specs.Pointers.{IsBranchAt, IsChildAt, IsPointerAt, WaysAgree}
-use Rattle.engine_pages.specs.Slots.{entered}
-use Rattle.engine_pages.specs.Steps.{kept_at, seen_at}
+use Rattle.engine_pages.specs.Steps.{seen_at}
 use Rattle.engine_pages.specs.Views.{IsActive}
 use Rattle.page_records.specs.Ends.{IsTreeWordAt}
 use Rattle.array_pages.specs.Walks.{HoldsAre, IsLastBetween}
 use Rattle.tree_walks.specs.Steps.{Went}
-use Rattle.tree_walks.specs.Walks.{AreLedTo, CanWalk, HasWalked, IsPageWord, IsRootWord, IsTreesWord, KeepsWords, OnlyTrees}
+use Rattle.tree_walks.specs.Walks.{AreLedTo, CanWalk, HasWalked, IsPageWord, IsRootWord, IsTreesWord, OnlyTrees}
 use Rattle.tree_walks.specs.Walks.{OnlyTreesBut, OnlyTreesFor}
 use Rattle.tree_walks.specs.Walks.{as_walked}
 use Rattle.tree_walks.specs.Ways.{IsOnWay}

@@ -1,5 +1,5 @@
 -- What is on the way to a key stays on it, as a walk goes on.
-use Rattle.std.proofs.Common.{◌≡◌, ◌⊎◌, inl, inr, ℕ, ◌<◌, List, [], ◌∷◌, sym, ap, ◌∙◌, subst}
+use Rattle.std.proofs.Common.{◌⊎◌, inl, inr, ℕ, ◌<◌, List, [], ◌∷◌, sym, ap, ◌∙◌, subst}
 use Rattle.serial_model.specs.declared.key.Key.{Key}
 use Rattle.homes.specs.declared.places.Spot.{Spot}
 use Rattle.wire_form.specs.Leaves.{tree_leaf, word_in}
@@ -12,7 +12,7 @@ use Rattle.tx_sets.specs.declared.seen.Seen.{Seen}
 use Rattle.engine_pages.specs.Steps.{seen_at}
 use Rattle.array_pages.specs.Finding.{HasGlanced}
 use Rattle.tree_walks.specs.declared.ways.Leaf.{Leaf}
-use Rattle.tree_walks.specs.Walks.{HasWalked}
+use Rattle.tree_walks.specs.Walks.{HasWalked, LiesInPage}
 use Rattle.tree_walks.specs.Ways.{IsChildOf, IsHalfOf, IsLeafAt, IsLeafOn, IsMetSo, IsNext, IsPath, IsWayPointer}
 use Rattle.tree_walks.proofs.StepLaws.{layout_stays, on_stays, place_stays, slots_stay, tree_stays}
 
@@ -21,6 +21,7 @@ pointer_stays k v w at walk p = record {
   place = p.place;
   span = p.span;
   is = place_stays v w p.place p.span at walk p.is;
+  inside = subst (λ (y : Layout). LiesInPage y.slots p.place at) (sym (layout_stays v w walk)) p.inside;
   within = subst (λ (y : Layout). at < words_of y) (sym (layout_stays v w walk)) p.within;
   tree = tree_stays v w p.span.storage walk p.tree;
   over = p.over;

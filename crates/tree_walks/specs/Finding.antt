@@ -1,6 +1,6 @@
 -- What it comes to that a key's record is looked for.
 use Rattle.std.specs.Prelude.{◌≡◌, ◌≢◌, ◌⊎◌, ℕ, ◌+◌, ◌/◌, ◌%◌, ◌^◌, ◌<◌, ◌≤◌, true, false, List, Some, None, Option, unwrap_or}
-use Rattle.std.specs.Prelude.{length, slice_get, Contains, Result, IfOk, IfErr, OnOk}
+use Rattle.std.specs.Prelude.{length, Contains, ⊤}
 use Rattle.serial_model.specs.declared.key.Key.{Key}
 use Rattle.homes.specs.declared.places.At.{At}
 use Rattle.homes.specs.declared.places.Content.{Content}
@@ -15,7 +15,6 @@ use Rattle.commit_core.specs.Parts.{covers, found, record_part, with_part, Vouch
 use Rattle.commit_core.specs.Serial.{last_write}
 use Rattle.tx_sets.specs.declared.seen.Seen.{Seen}
 use Rattle.tx_sets.specs.Entries.{word_at}
-use Rattle.engine_pages.specs.declared.view.Known.{Known}
 use Rattle.engine_pages.specs.declared.view.RefusalCause.{RefusalCause}
 use Rattle.engine_pages.specs.declared.view.RefusalCause.TheVariants as causes
 use Rattle.engine_pages.specs.declared.view.SetName.{SetName}
@@ -33,8 +32,7 @@ use Rattle.array_pages.specs.Walks.{SawLast}
 use Rattle.tree_walks.specs.declared.finding.Found.{Found}
 use Rattle.tree_walks.specs.declared.finding.Found.TheVariants as places
 use Rattle.tree_walks.specs.declared.ways.Bare.{Bare}
-use Rattle.tree_walks.specs.declared.ways.Leaf.{Leaf}
-use Rattle.tree_walks.specs.Walks.{AreLedTo, CanWalk, HasWalked, KeepsWords, OnlyTrees, OnlyTreesBut}
+use Rattle.tree_walks.specs.Walks.{AreLedTo, KeepsWords, OnlyTrees, OnlyTreesBut}
 use Rattle.tree_walks.specs.Ways.{IsBareOn, IsMetSo, IsOnWay, IsWide, RefusesWalk}
 
 -- ---- in a leaf
@@ -120,6 +118,13 @@ MeetsOnly (places.Volatile at word value) v w = OnlyTreesBut at v w
 MeetsOnly (places.Absent header word) v w = OnlyTrees v w
 MeetsOnly (places.Snapshot value number p) v w = OnlyTrees v w
 MeetsOnly (places.Zero p) v w = OnlyTrees v w
+
+-- the record is in memory
+abbrev pub IsVolatile : Found → Type 0
+IsVolatile (places.Volatile at word value) = ⊤
+IsVolatile (places.Absent header word) = ⊥
+IsVolatile (places.Snapshot value number p) = ⊥
+IsVolatile (places.Zero p) = ⊥
 
 -- ---- refusals
 

@@ -9,7 +9,7 @@ use Rattle.engine_pages.specs.declared.view.SetName.TheVariants.{Pointers}
 use Rattle.engine_pages.specs.declared.view.View.{View}
 use Rattle.tree_walks.specs.declared.finding.Found.{Found}
 use Rattle.tree_walks.specs.Finding.{IsFound, MeetsOnly, RefusesFind}
-use Rattle.tree_walks.specs.Walks.{CanWalk, HasWalked, KeepsMet, OnlyTreesFor}
+use Rattle.tree_walks.specs.Walks.{CanWalk, HasWalked, KeepsMet, OnlyTreesFor, OnlyWaysOn}
 
 -- finding a record takes at most so many steps
 abbrev pub find_steps : ℕ
@@ -26,6 +26,7 @@ pub record KeepsSo
   pub met : OnlyTreesFor k v w
   pub only : IfOk r (λ f. MeetsOnly f v w)
   pub keeps : OnOk r (KeepsMet pointers headers v w)
+  pub paths : OnlyWaysOn k v w
   pub grip : w.grip ≡ v.grip
   pub found : IfOk r (λ f. IsFound k pointers headers f v w)
   pub cause : IfErr r (λ why. RefusesFind k pointers headers slots why v w)

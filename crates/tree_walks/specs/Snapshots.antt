@@ -1,5 +1,5 @@
 -- What it comes to that a key is looked for in a tree's snapshot pages.
-use Rattle.std.specs.Prelude.{◌≡◌, ℕ, ◌≤◌, ◌<◌, List, length, get_or, map, Option, Some, None, ⊤}
+use Rattle.std.specs.Prelude.{◌≡◌, ℕ, ◌≤◌, ◌<◌, List, length, get_or, Option, Some, None, ⊤}
 use Rattle.homes.specs.declared.places.Span.{Span}
 use Rattle.wire_form.specs.declared.records.TreeRecord.{TreeRecord}
 use Rattle.wire_form.specs.Pages.{Children, IsTreeInner, IsTreeLeaf, tree_inner_words, tree_leaf_words}

@@ -1,6 +1,6 @@
 -- What the parts of a walk come to.
-use Rattle.std.specs.Prelude.{◌≡◌, ◌⊎◌, ℕ, suc, ◌+◌, ◌-◌, ◌/◌, ◌<◌, ◌≤◌, true, false, List, length, slice_get, Some, Contains}
-use Rattle.std.specs.Prelude.{Result, IfOk, IfErr, OnOk, ⊤}
+use Rattle.std.specs.Prelude.{◌≡◌, ◌⊎◌, ℕ, suc, ◌+◌, ◌<◌, ◌≤◌, true, false, List, length, slice_get, Some, Contains}
+use Rattle.std.specs.Prelude.{Result, IfOk, IfErr, OnOk}
 use Rattle.serial_model.specs.declared.decl.Decl.{Decl}
 use Rattle.serial_model.specs.declared.decl.Decl.TheVariants.{Tree}
 use Rattle.serial_model.specs.declared.key.Key.{Key}
@@ -25,7 +25,7 @@ use Rattle.tree_walks.specs.declared.walk.Reached.{Reached}
 use Rattle.tree_walks.specs.declared.walk.Reached.TheVariants as reaches
 use Rattle.tree_walks.specs.declared.ways.Bare.{Bare}
 use Rattle.tree_walks.specs.declared.ways.Page.{Page}
-use Rattle.tree_walks.specs.Walks.{AreLedTo, CanWalk, HasWalked, KeepsMet, KeepsWords, OnlyTrees}
+use Rattle.tree_walks.specs.Walks.{AreLedTo, CanWalk, HasWalked, KeepsMet, KeepsWords, OnlyTrees, OnlyWaysOn}
 use Rattle.tree_walks.specs.Ways.{HasCome, IsBareOn, IsChildOf, IsHalfOf, IsOnWay, RefusesWalk, half_for, half_span}
 
 -- ---- storages
@@ -58,6 +58,7 @@ pub record GoesSo {A : Type 0}
   pub went : Went bound slots v w
   pub led : OnOk r (AreLedTo k v w)
   pub keeps : OnOk r (KeepsMet pointers headers v w)
+  pub paths : OnlyWaysOn k v w
   pub came : IfOk r (λ a. comes a w)
   pub cause : IfErr r (λ why. RefusesWalk k pointers headers slots why v w)
 
@@ -75,6 +76,7 @@ pub record EntersSo (t : ℕ) (slots : List ℕ) (r : Result (Unit {0}) RefusalC
   pub went : Went 1 slots v w
   pub held : OnOk r (has_slot w.grip.holds t ≡ true)
   pub only : (q : ℕ) → has_slot w.grip.holds q ≡ true → has_slot v.grip.holds q ≡ false → q ≡ t
+  pub ways : w.ways ≡ v.ways
   pub seen : (a : ℕ) → seen_at w.reads a ≡ seen_at v.reads a
   pub cause : IfErr r (λ why. IsFullFor t slots why)
 

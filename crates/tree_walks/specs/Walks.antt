@@ -7,6 +7,7 @@ use Rattle.homes.specs.declared.places.At.{At}
 use Rattle.homes.specs.declared.places.At.TheVariants.{Root, In}
 use Rattle.homes.specs.declared.places.Span.{Span}
 use Rattle.homes.specs.declared.places.Spot.{Spot}
+use Rattle.homes.specs.Homes.{in_span}
 use Rattle.commit_core.specs.declared.part.Part.{Part}
 use Rattle.drop_core.specs.Table.{has_slot}
 use Rattle.tx_sets.specs.declared.seen.Seen.{Seen}
@@ -63,6 +64,22 @@ pub record HasWalked (v w : View) : Type 0 where
   pub pages : IsFront v.pages w.pages
   pub leads : (x : Lead) → Contains v.leads x → Contains w.leads x
   pub is : w ≡ as_walked v w
+
+-- ---- the pages that it came to
+
+-- The page is a half of one on the way to the key, which was split.
+pub record IsTwinOn (k : Key) (w : View) (x : Way) : Type 0 where
+  pub moved : Moved
+  pub knows : Contains w.moved moved
+  pub way : Way
+  pub has : Contains w.ways way
+  pub same : way.slot ≡ moved.slot
+  pub over : in_span way.span k ≡ true
+  pub is : (x.slot ≡ moved.minor) ⊎ (x.slot ≡ moved.major)
+
+-- each way that is new is over the key, or into a half of a page on the way to it
+abbrev pub OnlyWaysOn : Key → View → View → Type 0
+OnlyWaysOn k v w = (x : Way) → Contains w.ways x → Contains v.ways x ⊎ ((in_span x.span k ≡ true) ⊎ IsTwinOn k w x)
 
 -- ---- the words that were met
 

@@ -1,10 +1,9 @@
 -- The way to a key: where it leads to in memory, and why a walk along it is refused.
-use Rattle.std.specs.Prelude.{◌≡◌, ◌≢◌, ◌⊎◌, ℕ, ◌+◌, ◌-◌, ◌/◌, ◌%◌, ◌^◌, ◌<◌, ◌≤◌, true, false, List, [], ◌∷◌, Option, Some, None}
+use Rattle.std.specs.Prelude.{◌≡◌, ◌≢◌, ◌⊎◌, ℕ, ◌-◌, ◌/◌, ◌%◌, ◌^◌, ◌<◌, ◌≤◌, true, false, List, [], ◌∷◌, Option, Some, None}
 use Rattle.std.specs.Prelude.{length, nat_lt, if◌then◌else◌, Contains, ⊤}
 use Rattle.serial_model.specs.declared.key.Key.{Key}
 use Rattle.homes.specs.declared.places.At.{At}
 use Rattle.homes.specs.declared.places.Span.{Span}
-use Rattle.homes.specs.declared.places.Spot.{Spot}
 use Rattle.homes.specs.Homes.{has_key, in_span}
 use Rattle.wire_form.specs.Leaves.{tree_leaf}
 use Rattle.drop_core.specs.Event.{each_once, lower_span, upper_span}
@@ -27,7 +26,7 @@ use Rattle.engine_pages.specs.Steps.{kept_at, seen_at}
 use Rattle.dual_pointer.specs.Copies.{IsLeadOf}
 use Rattle.tree_heads.specs.Headers.{count_of, kind_of, moved_bit, moved_locked}
 use Rattle.array_pages.specs.Walks.{SawLast}
-use Rattle.tree_walks.specs.Walks.{AreLedTo, IsNoHeader, IsTreesWord}
+use Rattle.tree_walks.specs.Walks.{AreLedTo, IsNoHeader, IsTreesWord, LiesInPage}
 use Rattle.tree_walks.specs.declared.ways.Bare.{Bare}
 use Rattle.tree_walks.specs.declared.ways.End.{End}
 use Rattle.tree_walks.specs.declared.ways.End.TheVariants as ends
@@ -48,6 +47,7 @@ pub record IsWayPointer (k : Key) (v : View) (at : ℕ) : Type 0 where
   pub place : At
   pub span : Span
   pub is : IsPointerAt v place span at
+  pub inside : LiesInPage v.layout.slots place at
   pub within : at < words_of v.layout
   pub tree : is_tree v.layout.decls span.storage ≡ true
   pub over : in_span span k ≡ true
@@ -83,6 +83,7 @@ pub record IsBareOn (k : Key) (pointers : List Seen) (x : Bare) (w : View) : Typ
   pub is : IsPointerAt w x.place x.span x.pointer.at
   pub known : IsTreesWord w x.pointer.at
   pub apart : IsNoHeader w.layout.slots x.pointer.at
+  pub inside : LiesInPage w.layout.slots x.place x.pointer.at
   pub within : x.pointer.at < words_of w.layout
   pub tree : is_tree w.layout.decls x.span.storage ≡ true
   pub over : in_span x.span k ≡ true

@@ -4,6 +4,7 @@ ghost use Rattle.engine_pages.specs.Pages.{is_tree};
 ghost use Rattle.engine_pages.specs.Passes.{view, IsPassOf};
 ghost use Rattle.tree_walks.specs.Steps.{GoesSo, IsFurther};
 ghost use Rattle.tree_walks.specs.Walks.{walk_steps, AreLedTo, CanWalk, HasWalked, KeepsMet, KeepsWords, OnlyTrees};
+ghost use Rattle.tree_walks.specs.Walks.{OnlyWaysOn};
 ghost use Rattle.tree_walks.specs.Ways.{HasCome, IsOnWay, RefusesWalk};
 
 use crate::children::go_to_child;
@@ -53,6 +54,7 @@ pub fn go_down(
     ensures led { OnOk result (AreLedTo key (view pass.old) (view pass.new)) }
     ensures keeps { OnOk result
         (KeepsMet pointers.now headers.now (view pass.old) (view pass.new)) }
+    ensures paths { OnlyWaysOn key (view pass.old) (view pass.new) }
     ensures came { IfOk result (λ end. HasCome key pointers.now headers.now end (view pass.new)) }
     ensures cause { IfErr result (λ why.
         RefusesWalk key pointers.now headers.now holds.new why (view pass.old) (view pass.new)) }

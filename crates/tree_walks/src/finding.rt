@@ -3,9 +3,9 @@ ghost use Rattle.std.specs.Prelude.{◌≡◌, ◌+◌, ◌<◌, ◌≤◌, true
 ghost use Rattle.homes.specs.Homes.{has_key};
 ghost use Rattle.engine_pages.specs.Pages.{is_tree};
 ghost use Rattle.engine_pages.specs.Passes.{view, IsPassOf};
-ghost use Rattle.tree_walks.specs.Finding.{IsFound, MeetsOnly, RefusesFind};
+ghost use Rattle.tree_walks.specs.Finding.{IsFound, IsVolatile, MeetsOnly, RefusesFind};
 ghost use Rattle.tree_walks.specs.Finds.{find_steps, IsPointersFull, KeepsSo};
-ghost use Rattle.tree_walks.specs.Walks.{AreLedTo, CanWalk, HasWalked, KeepsMet, OnlyTreesFor};
+ghost use Rattle.tree_walks.specs.Walks.{AreLedTo, CanWalk, HasWalked, KeepsMet, OnlyTreesFor, OnlyWaysOn};
 ghost use Rattle.tree_walks.specs.Ways.{IsBareOn, IsLeafAt, IsLeafOn};
 ghost use Rattle.tx_sets.specs.Entries.{word_at};
 
@@ -79,6 +79,7 @@ pub fn find(
     ensures led { OnOk result (AreLedTo key (view pass.old) (view pass.new)) }
     ensures keeps { OnOk result
         (KeepsMet pointers.now headers.now (view pass.old) (view pass.new)) }
+    ensures paths { OnlyWaysOn key (view pass.old) (view pass.new) }
     ensures found { IfOk result (λ found.
         IsFound key pointers.now headers.now found (view pass.old) (view pass.new)) }
     ensures cause { IfErr result (λ why.
@@ -130,6 +131,7 @@ pub fn read_record(
     requires leaf { (l : IsLeafAt key leaf (view pass.old)) × (slice_get l.keys index ≡ Some key) }
     ensures of { IsPassOf engine.now pass.new }
     ensures keeps { KeepsSo 3 key pointers.now headers.now holds.now result (view pass.old) (view pass.new) }
+    ensures there { IfOk result IsVolatile }
 {
     let spot = Spot {
         slot: leaf.slot,
@@ -215,8 +217,8 @@ fn find_below(
     }
 }
 
-// There is room for a pointer in the set, unless it is in it already.
-fn check_room(pointers: &PointerSet, at: u32) -> Result<(), RefusalCause>
+/// There is room for a pointer in the set, unless it is in it already.
+pub fn check_room(pointers: &PointerSet, at: u32) -> Result<(), RefusalCause>
     ensures room { OnOk result (word_at at pointers.now ≡ None → length pointers.now < 128) }
     ensures full { IfErr result (λ why. IsPointersFull at pointers.now why) }
 {

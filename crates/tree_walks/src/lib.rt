@@ -26,6 +26,7 @@ mod walk;
 mod ways;
 
 pub use descent::{go_down, go_down_from};
-pub use finding::{Found, find, read_record};
+pub use finding::{Found, check_room, find, read_record};
 pub use leaves::search;
+pub use snapshots::child_in;
 pub use ways::{Bare, End, Leaf, Page};

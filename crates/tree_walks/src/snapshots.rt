@@ -61,8 +61,8 @@ pub fn look_up(
     None
 }
 
-// The child of an interior snapshot page that has the key: the one before the first separator above it.
-fn child_in(engine: &Engine, pass: &mut Pass, page: u32, count: u32, key: Key) -> u32
+/// The child of an interior snapshot page that has the key: the one before the first separator above it. At most 30 steps.
+pub fn child_in(engine: &Engine, pass: &mut Pass, page: u32, count: u32, key: Key) -> u32
     requires of { IsPassOf engine.now pass.old }
     requires can { CanLook (view pass.old) }
     requires some { 0 < page }

@@ -8,7 +8,7 @@ ghost use Rattle.engine_pages.specs.Pointers.{IsPointerAt};
 ghost use Rattle.homes.specs.Homes.{in_span};
 ghost use Rattle.serial_model.specs.declared.key.Key.{Key};
 ghost use Rattle.tree_walks.specs.Steps.{EntersSo, GoesSo, IsHeldOn, IsReached};
-ghost use Rattle.tree_walks.specs.Walks.{CanWalk, IsNoHeader, IsTreesWord};
+ghost use Rattle.tree_walks.specs.Walks.{CanWalk, IsNoHeader, IsTreesWord, LiesInPage};
 ghost use Rattle.tree_walks.specs.Ways.{IsMetSo};
 ghost use Rattle.tx_sets.specs.declared.seen.Seen.{Seen};
 
@@ -51,6 +51,7 @@ pub(crate) fn reach(
     requires tree { is_tree (view pass.old).layout.decls span.storage ≡ true }
     requires known { IsTreesWord (view pass.old) at }
     requires apart { IsNoHeader (view pass.old).layout.slots at }
+    requires inside { LiesInPage (view pass.old).layout.slots place at }
     ensures of { IsPassOf engine.now pass.new }
     ensures goes { (k : Key) (headers : List Seen) → in_span span k ≡ true
         → GoesSo 3 k pointers.now headers holds.new (IsReached k pointers.now place span at) result
@@ -89,6 +90,7 @@ fn hold(
     requires tree { is_tree (view pass.old).layout.decls span.storage ≡ true }
     requires known { IsTreesWord (view pass.old) at }
     requires apart { IsNoHeader (view pass.old).layout.slots at }
+    requires inside { LiesInPage (view pass.old).layout.slots place at }
     requires slot { 2 ^ 32 ≤ word }
     requires unshut { word < 2 ^ 60 }
     requires led { IsLedTo word span at (view pass.old) }

@@ -1,5 +1,5 @@
-use Rattle.std.proofs.Common.{◌≡◌, ℕ, ◌+◌, ◌<◌, sym, ap, ◌∙◌, subst, arith, inr}
-use Rattle.std.specs.Prelude.{Err, Ok}
+use Rattle.std.proofs.Common.{◌+◌, ◌<◌, sym, ap, ◌∙◌, subst, arith}
+use Rattle.std.specs.Prelude.{Ok}
 use Rattle.std.proofs.lemmas.Result.{err_from_is_err_and}
 use Rattle.homes.specs.declared.places.At.TheVariants.{In}
 use Rattle.engine_pages.specs.declared.layout.Layout.{Layout}
@@ -7,7 +7,7 @@ use Rattle.engine_pages.specs.Layout.{page_at}
 use Rattle.engine_pages.specs.Passes.{view}
 use Rattle.tree_walks.specs.declared.walk.Reached.TheVariants as reaches
 use Rattle.tree_walks.specs.Steps.{GoesSo, IsReached}
-use Rattle.tree_walks.proofs.ChildLaws.{child_apart, child_bare, child_place, child_refused, child_slot, child_tree}
+use Rattle.tree_walks.proofs.ChildLaws.{child_apart, child_bare, child_inside, child_place, child_refused, child_slot, child_tree}
 use Rattle.tree_walks.proofs.ChildLaws.{child_within, child_word, first}
 use Rattle.tree_walks.proofs.children.go_to_child.Goals as goal
 
@@ -59,6 +59,14 @@ reach-requires-clause-known c =
     let g = view c.pick_child-child.new.pass in
     let word = c.word_at-at.ensures ∙ ap (λ (l : Layout). page_at l.slots c.args.page.slot (4 + c.pick_child-child.result.index)) (sym c.pick_child-child.ensures.of.layout) in
     child_word c.args.key c.args.pointers.now c.args.pointers.now c.args.holds.now c.args.page c.pick_child-child.result c.word_at-at.result v g
+    c.requires.can c.requires.on c.pick_child-child.ensures.glances c.pick_child-child.ensures.most c.pick_child-child.ensures.child word
+
+pub reach-requires-clause-inside : goal.reach-requires-clause-inside
+reach-requires-clause-inside c =
+    let v = view c.args.pass.now in
+    let g = view c.pick_child-child.new.pass in
+    let word = c.word_at-at.ensures ∙ ap (λ (l : Layout). page_at l.slots c.args.page.slot (4 + c.pick_child-child.result.index)) (sym c.pick_child-child.ensures.of.layout) in
+    child_inside c.args.key c.args.pointers.now c.args.pointers.now c.args.holds.now c.args.page c.pick_child-child.result c.word_at-at.result v g
     c.requires.can c.requires.on c.pick_child-child.ensures.glances c.pick_child-child.ensures.most c.pick_child-child.ensures.child word
 
 pub reach-requires-clause-apart : goal.reach-requires-clause-apart

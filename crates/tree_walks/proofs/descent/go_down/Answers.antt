@@ -24,6 +24,9 @@ returns-clause-led c = c.walk_down.ensures.goes.led
 pub returns-clause-keeps : goal.returns-clause-keeps
 returns-clause-keeps c = c.walk_down.ensures.goes.keeps
 
+pub returns-clause-paths : goal.returns-clause-paths
+returns-clause-paths c = c.walk_down.ensures.goes.paths
+
 pub returns-clause-came : goal.returns-clause-came
 returns-clause-came c = c.walk_down.ensures.goes.came
 

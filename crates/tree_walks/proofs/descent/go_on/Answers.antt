@@ -1,11 +1,10 @@
-use Rattle.std.proofs.Common.{ℕ, ◌/◌, ◌%◌, ◌<◌, ◌+◌, ◌*◌, ◌^◌, sym, ap, ◌∙◌, subst, arith}
-use Rattle.std.specs.Prelude.{Err}
+use Rattle.std.proofs.Common.{◌<◌, sym, ap, ◌∙◌, subst, arith}
 use Rattle.std.proofs.lemmas.Result.{err_from_is_err_and}
 use Rattle.engine_pages.specs.declared.layout.Layout.{Layout}
 use Rattle.engine_pages.specs.Layout.{page_at}
 use Rattle.engine_pages.specs.Passes.{view}
 use Rattle.tree_walks.specs.Steps.{IsFurther}
-use Rattle.tree_walks.proofs.DescentLaws.{first, head_half, head_keeps, head_leaf, head_other, head_refused, inner_at, leaf_known, loaded}
+use Rattle.tree_walks.proofs.DescentLaws.{first, first_paths, head_half, head_keeps, head_leaf, head_other, head_refused, inner_at, leaf_known, loaded}
 use Rattle.tree_walks.proofs.DescentLaws.{split_at, split_small, still_on, still_word}
 use Rattle.tree_walks.proofs.RefusalLaws.{goes_behind}
 use Rattle.tree_walks.proofs.StepLaws.{led_none}
@@ -74,6 +73,8 @@ returns-then-kind-ne-LEAF-clause-goes c =
     c.requires.on word c.load_header-header.ensures.loads).grip)
     (head_keeps c.args.key c.args.pointers.now c.args.headers.now c.args.holds.now c.args.page at v n u c.requires.can
     c.requires.on word c.load_header-header.ensures.loads c.in_ok-check_kept.ensures.met)
+    (first_paths c.args.key c.args.pointers.now c.args.headers.now c.args.holds.now c.args.page at v n u c.requires.can
+    c.requires.on word c.load_header-header.ensures.loads)
     (c.go_to_child.ensures.goes c.args.headers.now)
 
 pub returns-then-header-lt-MOVED-clause-goes : goal.returns-then-header-lt-MOVED-clause-goes

@@ -1,9 +1,8 @@
-use Rattle.std.proofs.Common.{◌≡◌, ℕ, ◌+◌, ◌-◌, ◌^◌, ◌<◌, true, refl, sym, ap, ◌∙◌, subst, arith, length}
-use Rattle.std.specs.Prelude.{Err, Ok}
+use Rattle.std.proofs.Common.{◌≡◌, ◌+◌, ◌-◌, ◌^◌, true, refl, sym, subst, arith}
+use Rattle.std.specs.Prelude.{Ok}
 use Rattle.std.proofs.lemmas.Result.{err_from_is_err_and}
 use Rattle.homes.specs.declared.places.At.TheVariants.{Root}
 use Rattle.engine_pages.specs.declared.layout.Layout.{Layout}
-use Rattle.engine_pages.specs.Layout.{words_of}
 use Rattle.engine_pages.specs.Pages.{is_tree}
 use Rattle.engine_pages.specs.Passes.{view}
 use Rattle.tree_walks.specs.declared.walk.Reached.{Reached}
@@ -11,6 +10,7 @@ use Rattle.tree_walks.specs.Steps.{GoesSo, IsReached, IsTreeRoot}
 use Rattle.tree_walks.specs.Ways.{HasCome}
 use Rattle.tree_walks.proofs.DeclLaws.{root_apart, root_few, root_keys, root_over, root_within, root_word, tree_there}
 use Rattle.tree_walks.proofs.DescentLaws.{root_down}
+use Rattle.tree_walks.proofs.PathLaws.{paths_same}
 use Rattle.tree_walks.proofs.RefusalLaws.{goes_refused}
 use Rattle.tree_walks.proofs.StepLaws.{led_none, went_more, went_self}
 use Rattle.tree_walks.proofs.descent.walk_down.Goals as goal
@@ -65,6 +65,9 @@ reach-requires-clause-known c =
     subst (λ (l : Layout). IsTreeRoot l.decls c.args.key.storage root) (sym c.requires.of.layout) c.root_of-root.ensures in
     root_word v c.args.key.storage root c.requires.tree t
 
+pub reach-requires-clause-inside : goal.reach-requires-clause-inside
+reach-requires-clause-inside c = tt
+
 pub reach-requires-clause-apart : goal.reach-requires-clause-apart
 reach-requires-clause-apart c =
     let v = view c.args.pass.now in
@@ -113,7 +116,7 @@ returns-in-Slot-clause-goes c =
     (c.in_ok-reached.ensures.goes c.args.key c.args.headers.now (root_over c.args.key
     (let small = c.ranges.wanted in let same = c.requires.same in omega (arith, small, same))))) in
     root_down c.args.key c.args.pointers.now c.args.headers.now c.reach.new.holds c.go_down_from.new.holds
-    (record { slot = c.in-Slot.slot; span = (record { storage = c.args.key.storage; low = 0; high = 2 ^ 64 - 1 }) }) v u (view c.go_down_from.new.pass) c.go_down_from.result h.went h.led h.keeps
+    (record { slot = c.in-Slot.slot; span = (record { storage = c.args.key.storage; low = 0; high = 2 ^ 64 - 1 }) }) v u (view c.go_down_from.new.pass) c.go_down_from.result h.went h.led h.keeps h.paths
     c.go_down_from.ensures.goes
 
 pub returns-in-Bare-clause-goes : goal.returns-in-Bare-clause-goes
@@ -131,6 +134,7 @@ returns-in-Bare-clause-goes c =
       went = went_more 3 4483 c.reach.new.holds v u (omega arith) h.went;
       led = h.led;
       keeps = h.keeps;
+      paths = h.paths;
       came = h.came;
       cause = tt;
     }
@@ -148,6 +152,6 @@ returns-in_err-reached-clause-goes c =
     (goes_refused 0 3 4483 c.args.key c.args.pointers.now c.args.headers.now c.args.holds.now c.reach.new.holds
     (IsReached c.args.key c.args.pointers.now (Root root) (record { storage = c.args.key.storage; low = 0; high = 2 ^ 64 - 1 }) (10 + root))
     (HasCome c.args.key c.args.pointers.now c.args.headers.now) c.in_err-reached.field-0.0 v v u (omega arith)
-    (went_self c.args.holds.now v c.requires.can) (led_none c.args.key v v refl)
+    (went_self c.args.holds.now v c.requires.can) (led_none c.args.key v v refl) (paths_same c.args.key v v refl)
     (c.in_err-reached.ensures.goes c.args.key c.args.headers.now (root_over c.args.key
     (let small = c.ranges.wanted in let same = c.requires.same in omega (arith, small, same)))))

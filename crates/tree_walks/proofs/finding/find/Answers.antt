@@ -1,10 +1,10 @@
-use Rattle.std.proofs.Common.{◌≡◌, ℕ, ◌+◌, ◌≤◌, sym, ap, ◌∙◌, subst, arith}
-use Rattle.std.specs.Prelude.{Err}
+use Rattle.std.proofs.Common.{subst, arith}
 use Rattle.std.proofs.lemmas.Result.{err_from_is_err_and}
 use Rattle.engine_pages.specs.Passes.{view}
 use Rattle.tree_walks.specs.declared.ways.End.{End}
 use Rattle.tree_walks.specs.Ways.{HasCome}
 use Rattle.tree_walks.proofs.FindLaws.{find_cause, find_found, find_keeps, find_only, finds_led, walk_finds}
+use Rattle.tree_walks.proofs.PathLaws.{paths_then}
 use Rattle.tree_walks.proofs.StepLaws.{only_for, only_for_then, walked_then}
 use Rattle.tree_walks.proofs.finding.find.Goals as goal
 
@@ -62,6 +62,13 @@ returns-in-Leaf-clause-only c =
     let g = c.in_ok-end.ensures.goes in
     let h = c.find_in_leaf.ensures.keeps in
     find_only c.find_in_leaf.result v u w h.walked g.went.met h.only
+
+pub returns-in-Leaf-clause-paths : goal.returns-in-Leaf-clause-paths
+returns-in-Leaf-clause-paths c =
+    let u = view c.walk_down.new.pass in
+    let w = view c.find_in_leaf.new.pass in
+    let h = c.find_in_leaf.ensures.keeps in
+    paths_then c.args.key (view c.args.pass.now) u w h.walked c.in_ok-end.ensures.goes.paths h.paths
 
 pub returns-in-Leaf-clause-keeps : goal.returns-in-Leaf-clause-keeps
 returns-in-Leaf-clause-keeps c =
@@ -138,6 +145,13 @@ returns-in-Below-clause-only c =
     let h = c.find_below.ensures.keeps in
     find_only c.find_below.result v u w h.walked g.went.met h.only
 
+pub returns-in-Below-clause-paths : goal.returns-in-Below-clause-paths
+returns-in-Below-clause-paths c =
+    let u = view c.walk_down.new.pass in
+    let w = view c.find_below.new.pass in
+    let h = c.find_below.ensures.keeps in
+    paths_then c.args.key (view c.args.pass.now) u w h.walked c.in_ok-end.ensures.goes.paths h.paths
+
 pub returns-in-Below-clause-keeps : goal.returns-in-Below-clause-keeps
 returns-in-Below-clause-keeps c =
     let v = view c.args.pass.now in
@@ -201,6 +215,9 @@ returns-in_err-end-clause-only c =
 pub returns-in_err-end-clause-keeps : goal.returns-in_err-end-clause-keeps
 returns-in_err-end-clause-keeps c =
     let p = err_from_is_err_and c.from_residual.result c.from_residual.ensures.1 in rw p.1 tt
+
+pub returns-in_err-end-clause-paths : goal.returns-in_err-end-clause-paths
+returns-in_err-end-clause-paths c = c.in_err-end.ensures.goes.paths
 
 pub returns-in_err-end-clause-led : goal.returns-in_err-end-clause-led
 returns-in_err-end-clause-led c =

@@ -1,9 +1,7 @@
-use Rattle.std.proofs.Common.{◌≡◌, ◌≢◌, ℕ, ◌+◌, ◌<◌, ◌≤◌, List, Option, Some, None, length, refl, sym, ap, ◌∙◌, subst, arith}
-use Rattle.std.specs.Prelude.{Err, Ok}
+use Rattle.std.proofs.Common.{ℕ, Option, Some, None, sym, subst, arith}
+use Rattle.std.specs.Prelude.{Err}
 use Rattle.std.proofs.lemmas.Result.{err_from_is_err_and}
-use Rattle.engine_pages.specs.declared.layout.Layout.{Layout}
 use Rattle.engine_pages.specs.declared.view.RefusalCause.{RefusalCause}
-use Rattle.engine_pages.specs.declared.view.View.{View}
 use Rattle.engine_pages.specs.Passes.{view}
 use Rattle.engine_pages.specs.Resident.{place_for}
 use Rattle.snapshot_store.specs.Content.{deepest}
@@ -12,7 +10,7 @@ use Rattle.snapshot_store.specs.TreePages.{tree_format}
 use Rattle.tree_walks.specs.declared.snapshots.Stored.{Stored}
 use Rattle.tree_walks.specs.Finds.{KeepsSo}
 use Rattle.tree_walks.specs.Snapshots.{IsLooked}
-use Rattle.tree_walks.proofs.BelowLaws.{below_changed, below_found, below_full, below_is, below_looks, below_stands}
+use Rattle.tree_walks.proofs.BelowLaws.{below_changed, below_found, below_full, below_looks, below_stands}
 use Rattle.tree_walks.proofs.BelowLaws.{below_there, below_to}
 use Rattle.tree_walks.proofs.finding.find_below.Goals as goal
 

@@ -1,9 +1,10 @@
-use Rattle.std.proofs.Common.{◌≡◌, ℕ, ◌+◌, ◌≤◌, Option, Some, None, sym, ap, ◌∙◌, subst, arith}
+use Rattle.std.proofs.Common.{ℕ, Option, Some, None, subst, arith}
 use Rattle.engine_pages.specs.Passes.{view}
 use Rattle.tree_walks.specs.Leaves.{IsSearched}
 use Rattle.tree_walks.specs.Ways.{IsLeafAt}
 use Rattle.tree_walks.proofs.FindLaws.{finds_behind}
 use Rattle.tree_walks.proofs.KeepLaws.{keeps_glanced}
+use Rattle.tree_walks.proofs.PathLaws.{paths_glanced}
 use Rattle.tree_walks.proofs.LoadLaws.{glanced_grip, glanced_walked, glanced_went}
 use Rattle.tree_walks.proofs.WayLaws.{leaf_on_glanced, leaf_stays}
 use Rattle.tree_walks.proofs.finding.find_in_leaf.Goals as goal
@@ -36,6 +37,7 @@ returns-in-Some-clause-keeps c =
     (view c.read_record.new.pass) (omega arith)
     (glanced_went 16 c.args.holds.now v u c.requires.can c.search.ensures.glances c.search.ensures.most)
     (keeps_glanced c.args.pointers.now c.args.headers.now v u c.search.ensures.glances)
+    (paths_glanced c.args.key v u c.search.ensures.glances)
     (glanced_grip v u c.search.ensures.glances) c.read_record.ensures.keeps
 
 pub keep_absence-requires-clause-can : goal.keep_absence-requires-clause-can
@@ -67,4 +69,5 @@ returns-in-None-clause-keeps c =
     (view c.keep_absence.new.pass) (omega arith)
     (glanced_went 16 c.args.holds.now v u c.requires.can c.search.ensures.glances c.search.ensures.most)
     (keeps_glanced c.args.pointers.now c.args.headers.now v u c.search.ensures.glances)
+    (paths_glanced c.args.key v u c.search.ensures.glances)
     (glanced_grip v u c.search.ensures.glances) c.keep_absence.ensures.keeps

@@ -1,14 +1,12 @@
-use Rattle.std.proofs.Common.{◌≡◌, ℕ, ◌+◌, ◌*◌, ◌/◌, ◌%◌, ◌^◌, ◌<◌, ◌≤◌, refl, sym, ap, ◌∙◌, subst, arith, inr}
+use Rattle.std.proofs.Common.{◌+◌, ◌*◌, ◌<◌, refl, sym, ap, ◌∙◌, subst, arith, inr}
 use Rattle.std.specs.Prelude.{Err}
 use Rattle.homes.specs.declared.places.Spot.{Spot}
 use Rattle.lists.specs.Elements.{at_below}
 use Rattle.engine_pages.specs.declared.layout.Layout.{Layout}
 use Rattle.engine_pages.specs.declared.view.RefusalCause.{RefusalCause}
-use Rattle.engine_pages.specs.declared.view.View.{View}
 use Rattle.engine_pages.specs.Layout.{page_at}
 use Rattle.engine_pages.specs.Passes.{view}
 use Rattle.tree_walks.specs.Finds.{KeepsSo}
-use Rattle.tree_walks.proofs.LoadLaws.{read_load}
 use Rattle.tree_walks.proofs.RecordLaws.{first_active, first_place, locked_active, locked_place, reads_absent, reads_changed}
 use Rattle.tree_walks.proofs.RecordLaws.{reads_locked, reads_value, record_at, second_active, second_place, there}
 use Rattle.tree_walks.proofs.finding.read_record.Goals as goal

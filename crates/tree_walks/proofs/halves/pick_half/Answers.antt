@@ -1,11 +1,8 @@
-use Rattle.std.proofs.Common.{◌≡◌, ℕ, ◌+◌, ◌-◌, ◌^◌, ◌<◌, ◌≤◌, sym, ap, ◌∙◌, subst, arith, refl}
-use Rattle.std.specs.Prelude.{Contains}
+use Rattle.std.proofs.Common.{◌-◌, ◌<◌, sym, ap, ◌∙◌, subst, arith}
 use Rattle.engine_pages.specs.declared.layout.Layout.{Layout}
-use Rattle.engine_pages.specs.declared.view.View.{View}
 use Rattle.engine_pages.specs.Layout.{page_at}
 use Rattle.engine_pages.specs.Passes.{view}
 use Rattle.array_pages.proofs.LookLaws.{glanced_then}
-use Rattle.tree_walks.specs.Steps.{IsHalfFor}
 use Rattle.tree_walks.proofs.HalfLaws.{lower_half, lower_word, parted_word, split_glanced, upper_half, upper_word}
 use Rattle.tree_walks.proofs.LoadLaws.{glanced_active, glanced_layout, word_glanced, word_steps}
 use Rattle.tree_walks.proofs.halves.pick_half.Goals as goal

@@ -1,11 +1,8 @@
-use Rattle.std.proofs.Common.{◌≡◌, ◌≢◌, ℕ, ◌+◌, ◌*◌, ◌%◌, ◌^◌, ◌<◌, ◌≤◌, sym, ap, ◌∙◌, subst, arith, Some}
-use Rattle.std.specs.List.{slice_get}
+use Rattle.std.proofs.Common.{◌+◌, ◌*◌, ◌<◌, sym, ap, ◌∙◌, subst, arith}
 use Rattle.engine_pages.specs.declared.layout.Layout.{Layout}
 use Rattle.engine_pages.specs.Layout.{page_at}
 use Rattle.engine_pages.specs.Passes.{view}
-use Rattle.serial_model.specs.declared.key.Key.{Key}
 use Rattle.array_pages.proofs.LookLaws.{glanced_self, glanced_then}
-use Rattle.tree_walks.specs.Ways.{IsLeafAt}
 use Rattle.tree_walks.proofs.LoadLaws.{glanced_active, glanced_layout, word_glanced, word_steps}
 use Rattle.tree_walks.proofs.SearchLaws.{searched_all, searched_here, searched_on}
 use Rattle.tree_walks.proofs.leaves.search.Goals as goal

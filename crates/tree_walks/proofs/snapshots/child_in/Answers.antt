@@ -1,11 +1,10 @@
-use Rattle.std.proofs.Common.{◌≡◌, ℕ, suc, ◌+◌, ◌-◌, ◌<◌, ◌≤◌, Bool, true, false, true≢false, eqb, eqb-true, eq-eqb, List, get_or, length, sym, ap, ◌∙◌}
+use Rattle.std.proofs.Common.{◌≡◌, ℕ, ◌+◌, ◌-◌, ◌<◌, ◌≤◌, List, get_or, length, sym, ap, ◌∙◌}
 use Rattle.std.proofs.Common.{subst, arith}
 use Rattle.engine_pages.specs.declared.view.View.{View}
 use Rattle.engine_pages.specs.Passes.{view}
 use Rattle.snapshot_store.specs.Places.{page as page_words}
 use Rattle.array_pages.specs.Snapshots.{CanLook}
 use Rattle.array_pages.proofs.LookLaws.{glanced_is, glanced_self, glanced_then, looks_glanced, pages_glanced}
-use Rattle.tree_walks.specs.Snapshots.{IsInnerPage, IsPicked}
 use Rattle.tree_walks.proofs.LoadLaws.{glanced_active}
 use Rattle.tree_walks.proofs.SnapLaws.{inner_same, passed_more, picked_here, separator_is}
 use Rattle.tree_walks.proofs.snapshots.child_in.Goals as goal

@@ -1,4 +1,4 @@
-use Rattle.std.proofs.Common.{◌≡◌, ℕ, ◌+◌, ◌<◌, ◌≤◌, get_or}
+use Rattle.std.proofs.Common.{ℕ, ◌+◌, ◌<◌, ◌≤◌, get_or}
 use Rattle.engine_pages.specs.declared.engine.Engine.{Engine}
 use Rattle.engine_pages.specs.Passes.{Pass, view, IsPassOf}
 use Rattle.serial_model.specs.declared.key.Key.{Key}

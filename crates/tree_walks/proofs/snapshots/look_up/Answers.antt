@@ -1,13 +1,13 @@
-use Rattle.std.proofs.Common.{◌≡◌, ◌≢◌, ℕ, suc, ◌+◌, ◌-◌, ◌*◌, ◌/◌, ◌%◌, ◌^◌, ◌<◌, ◌≤◌, List, get_or, length, map, refl, sym, ap, ◌∙◌, subst, arith, Option}
+use Rattle.std.proofs.Common.{◌≡◌, ℕ, suc, ◌+◌, ◌-◌, ◌%◌, ◌<◌, ◌≤◌, List, get_or, length, refl, sym, ap, ◌∙◌, subst, arith, Option}
 use Rattle.engine_pages.specs.declared.view.View.{View}
 use Rattle.engine_pages.specs.Passes.{view}
 use Rattle.engine_pages.specs.Resident.{place_for}
 use Rattle.snapshot_store.specs.Content.{deepest}
 use Rattle.snapshot_store.specs.Places.{Found, find, page as page_words}
-use Rattle.snapshot_store.specs.TreePages.{record_for, tree_format}
+use Rattle.snapshot_store.specs.TreePages.{tree_format}
 use Rattle.array_pages.specs.Snapshots.{CanLook}
 use Rattle.array_pages.proofs.LookLaws.{glanced_is, glanced_self, glanced_then, looks_glanced, pages_glanced}
-use Rattle.tree_walks.specs.Snapshots.{IsLooked, read_so}
+use Rattle.tree_walks.specs.Snapshots.{IsLooked}
 use Rattle.tree_walks.proofs.LoadLaws.{glanced_active}
 use Rattle.tree_walks.proofs.SnapLaws.{IsBelow, below_first, below_next, below_none, inner_page, inner_same, leaf_found, leaf_page}
 use Rattle.tree_walks.proofs.SnapLaws.{leaf_same, next_some, none_below, there}

@@ -1,7 +1,6 @@
-use Rattle.std.proofs.Common.{◌≡◌, ℕ, ◌+◌, ◌<◌, ◌≤◌, List, get_or, length, sym, ap, ◌∙◌, arith}
+use Rattle.std.proofs.Common.{◌≡◌, ℕ, ◌+◌, List, get_or, ap, ◌∙◌, arith}
 use Rattle.engine_pages.specs.declared.view.View.{View}
 use Rattle.engine_pages.specs.Passes.{view}
-use Rattle.snapshot_store.specs.Places.{page as page_words}
 use Rattle.tree_heads.proofs.InnerWords.{pointer_word}
 use Rattle.array_pages.proofs.LookLaws.{glanced_is}
 use Rattle.tree_walks.proofs.SnapLaws.{pointer_small}

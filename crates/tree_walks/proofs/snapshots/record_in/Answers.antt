@@ -1,4 +1,4 @@
-use Rattle.std.proofs.Common.{◌≡◌, ◌≢◌, ℕ, ◌+◌, ◌*◌, ◌<◌, ◌≤◌, List, get_or, length, map, refl, sym, ap, ◌∙◌, subst, arith}
+use Rattle.std.proofs.Common.{◌≡◌, ℕ, ◌+◌, ◌*◌, ◌≤◌, List, get_or, length, map, refl, sym, ap, ◌∙◌, subst, arith}
 use Rattle.engine_pages.specs.declared.view.View.{View}
 use Rattle.engine_pages.specs.Passes.{view}
 use Rattle.snapshot_store.specs.Places.{page as page_words}
@@ -7,7 +7,7 @@ use Rattle.array_pages.specs.Snapshots.{CanLook}
 use Rattle.array_pages.proofs.LookLaws.{glanced_is, glanced_self, glanced_then, looks_glanced, pages_glanced}
 use Rattle.tree_walks.specs.Snapshots.{read_so}
 use Rattle.tree_walks.proofs.LoadLaws.{glanced_active}
-use Rattle.tree_walks.proofs.SnapLaws.{left_here, left_next, left_none, no_record, record_word}
+use Rattle.tree_walks.proofs.SnapLaws.{left_here, left_next, left_none, record_word}
 use Rattle.tree_walks.proofs.snapshots.record_in.Goals as goal
 
 pub loop-index-init : goal.loop-index-init

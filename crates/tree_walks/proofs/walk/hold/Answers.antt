@@ -1,4 +1,4 @@
-use Rattle.std.proofs.Common.{ℕ, ◌-◌, ◌/◌, ◌^◌, ◌<◌, ◌≡◌, List, sym, ◌∙◌, subst}
+use Rattle.std.proofs.Common.{◌-◌, ◌<◌, sym, ◌∙◌, subst}
 use Rattle.std.specs.Prelude.{Err}
 use Rattle.std.proofs.lemmas.Result.{err_from_is_err_and}
 use Rattle.engine_pages.specs.declared.layout.Layout.{Layout}
@@ -38,14 +38,14 @@ returns-then-again-word-clause-goes c = λ k pointers headers over set.
     (view c.args.pass.now) (view c.follow-again.new.pass)) (sym c.conflict.ensures)
     (hold_changed k pointers headers c.enter_slot.new.holds c.args.place c.args.at c.args.word c.args.span
     (view c.args.pass.now) c.requires.place c.requires.word c.requires.tree c.requires.slot c.requires.unshut
-    c.requires.led over c.requires.apart (view c.enter_slot.new.pass) c.follow-again.result (view c.follow-again.new.pass)
+    c.requires.led over c.requires.apart c.requires.inside (view c.enter_slot.new.pass) c.follow-again.result (view c.follow-again.new.pass)
     c.in_ok-enter_slot.ensures.enters c.follow-again.ensures.follows c.requires.known c.if-again-word.true set)
 
 pub returns-clause-goes : goal.returns-clause-goes
 returns-clause-goes c = λ k pointers headers over set.
     hold_held k pointers headers c.enter_slot.new.holds c.args.place c.args.at c.args.word c.args.span
     (view c.args.pass.now) c.requires.place c.requires.word c.requires.tree c.requires.slot c.requires.unshut
-    c.requires.led over c.requires.apart (view c.enter_slot.new.pass) c.follow-again.result (view c.follow-again.new.pass)
+    c.requires.led over c.requires.apart c.requires.inside (view c.enter_slot.new.pass) c.follow-again.result (view c.follow-again.new.pass)
     c.in_ok-enter_slot.ensures.enters c.follow-again.ensures.follows c.requires.known c.if-again-word.false set
 
 pub returns-in_err-enter_slot-clause-goes : goal.returns-in_err-enter_slot-clause-goes
@@ -54,5 +54,5 @@ returns-in_err-enter_slot-clause-goes c =
     rw (p.1, p.2) (λ k pointers headers over set.
     hold_wide k pointers headers c.enter_slot.new.holds c.args.place c.args.at c.args.word c.args.span
     (view c.args.pass.now) c.requires.place c.requires.word c.requires.tree c.requires.slot c.requires.unshut
-    c.requires.led over c.requires.apart c.in_err-enter_slot.field-0.0 (view c.enter_slot.new.pass)
+    c.requires.led over c.requires.apart c.requires.inside c.in_err-enter_slot.field-0.0 (view c.enter_slot.new.pass)
     c.in_err-enter_slot.ensures.enters)

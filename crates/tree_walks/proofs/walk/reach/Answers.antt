@@ -1,4 +1,4 @@
-use Rattle.std.proofs.Common.{◌<◌, ◌≡◌, true, sym, subst}
+use Rattle.std.proofs.Common.{◌<◌, sym, subst}
 use Rattle.std.specs.Prelude.{Err}
 use Rattle.std.proofs.lemmas.Result.{err_from_is_err_and}
 use Rattle.engine_pages.specs.declared.layout.Layout.{Layout}
@@ -6,7 +6,7 @@ use Rattle.engine_pages.specs.declared.view.RefusalCause.{RefusalCause}
 use Rattle.engine_pages.specs.Layout.{words_of}
 use Rattle.engine_pages.specs.Passes.{view}
 use Rattle.tree_walks.specs.Steps.{GoesSo, IsReached}
-use Rattle.tree_walks.specs.Walks.{IsNoHeader}
+use Rattle.tree_walks.specs.Walks.{IsNoHeader, LiesInPage}
 use Rattle.tree_walks.proofs.LoadLaws.{follow_load}
 use Rattle.tree_walks.proofs.ReachLaws.{led_at, reach_bare, reach_other, reach_shut, reach_slot, reach_unheld}
 use Rattle.tree_walks.proofs.StepLaws.{active_stays, can_after, layout_stays, place_stays, tree_stays, word_stays}
@@ -47,7 +47,7 @@ returns-then-word-ge-SHUT-clause-goes c = λ k headers over.
     (IsReached k c.args.pointers.now c.args.place c.args.span c.args.at) (Err r) v w) (sym c.conflict.ensures)
     (reach_shut k c.args.pointers.now headers c.args.holds.now c.args.place c.args.span c.args.at v c.follow-word.result u
     c.requires.can c.requires.place c.requires.word c.requires.tree c.requires.known c.follow-word.ensures.follows over
-    c.requires.apart
+    c.requires.apart c.requires.inside
     c.follow-later.result w c.in_ok-check_met.ensures.met c.if-word-ge-SHUT.true c.follow-later.ensures.follows)
 
 pub returns-then-word-lt-SLOT-clause-goes : goal.returns-then-word-lt-SLOT-clause-goes
@@ -56,7 +56,7 @@ returns-then-word-lt-SLOT-clause-goes c = λ k headers over.
     let u = view c.follow-word.new.pass in
     reach_bare k c.args.pointers.now headers c.args.holds.now c.args.place c.args.span c.args.at v c.follow-word.result u
     c.requires.can c.requires.place c.requires.word c.requires.tree c.requires.known c.follow-word.ensures.follows over
-    c.requires.apart
+    c.requires.apart c.requires.inside
     c.in_ok-check_met.ensures.met c.if-word-lt-SLOT.true
 
 pub hold-requires-clause-can : goal.hold-requires-clause-can
@@ -96,6 +96,15 @@ hold-requires-clause-known c =
     word_stays v u c.args.at
     (follow_load c.args.span c.args.at v c.follow-word.result u c.follow-word.ensures.follows).walked c.requires.known
 
+pub hold-requires-clause-inside : goal.hold-requires-clause-inside
+hold-requires-clause-inside c =
+    let v = view c.args.pass.now in
+    let u = view c.follow-word.new.pass in
+    subst (λ (y : Layout). LiesInPage y.slots c.args.place c.args.at)
+    (sym (layout_stays v u
+    (follow_load c.args.span c.args.at v c.follow-word.result u c.follow-word.ensures.follows).walked))
+    c.requires.inside
+
 pub hold-requires-clause-apart : goal.hold-requires-clause-apart
 hold-requires-clause-apart c =
     let v = view c.args.pass.now in
@@ -116,7 +125,7 @@ returns-clause-goes c = λ k headers over.
     let u = view c.follow-word.new.pass in
     reach_slot k c.args.pointers.now headers c.args.holds.now c.args.place c.args.span c.args.at v c.follow-word.result u
     c.requires.can c.requires.place c.requires.word c.requires.tree c.requires.known c.follow-word.ensures.follows over
-    c.requires.apart
+    c.requires.apart c.requires.inside
     c.in_ok-check_met.ensures.met c.hold.new.holds c.in_ok-slot.slot (view c.hold.new.pass)
     (c.in_ok-slot.ensures.goes k c.args.pointers.now headers over c.in_ok-check_met.ensures.met)
 
@@ -128,7 +137,7 @@ returns-in_err-check_met-clause-goes c =
     rw (p.1, p.2) (λ k headers over.
     reach_other k c.args.pointers.now headers c.args.holds.now c.args.place c.args.span c.args.at v c.follow-word.result u
     c.requires.can c.requires.place c.requires.word c.requires.tree c.requires.known c.follow-word.ensures.follows over
-    c.requires.apart
+    c.requires.apart c.requires.inside
     c.in_err-check_met.field-0.0 c.in_err-check_met.ensures.other)
 
 pub returns-in_err-slot-clause-goes : goal.returns-in_err-slot-clause-goes
@@ -139,6 +148,6 @@ returns-in_err-slot-clause-goes c =
     rw (p.1, p.2) (λ k headers over.
     reach_unheld k c.args.pointers.now headers c.args.holds.now c.args.place c.args.span c.args.at v c.follow-word.result u
     c.requires.can c.requires.place c.requires.word c.requires.tree c.requires.known c.follow-word.ensures.follows over
-    c.requires.apart
+    c.requires.apart c.requires.inside
     c.hold.new.holds c.in_err-slot.field-0.0 (view c.hold.new.pass)
     (c.in_err-slot.ensures.goes k c.args.pointers.now headers over c.in_ok-check_met.ensures.met))

@@ -1,0 +1,7 @@
+pub mod SmallestLaws
+pub mod HeadLaws
+pub mod CoverLaws
+pub mod StoredLaws
+pub mod OverLaws
+pub mod RowsLaws
+pub mod BelowReadLaws

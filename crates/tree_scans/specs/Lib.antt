@@ -1,0 +1,5 @@
+pub mod Smallest
+pub mod Heads
+pub mod Below
+pub mod Rows
+pub mod Belows

@@ -37,7 +37,7 @@ use Rattle.foster_tree.specs.Filling.{no_entry}
 use Rattle.foster_tree.specs.Locking.{WorkedIn}
 use Rattle.foster_tree.specs.Splitting.{as_turned, half_of, lower_of, separator_of, twin_words, upper_of, CanTurn, HasTurned}
 use Rattle.foster_tree.proofs.AddLaws.{storage_of}
-use Rattle.foster_tree.proofs.LockLaws.{worked_read, worked_then}
+use Rattle.foster_tree.proofs.LockLaws.{met_first, worked_read, worked_then}
 use Rattle.foster_tree.proofs.LockLists.{has_in, take_in, tooks_keys}
 use Rattle.foster_tree.proofs.PlaceLaws.{high_inside, high_key, low_inside, low_key, ordered, place_high, place_low}
 use Rattle.foster_tree.proofs.StoreLaws.{head_of}
@@ -179,20 +179,25 @@ module _ (t minor major at n : ℕ) (sp : Span) (keys : List Key) (k : Key) (ent
       subst (λ (y : View). y ≡ as_turned t (lower_of minor sp sorted) (upper_of major sp sorted) x (separator_of sorted) v y)
       (sym four) refl
 
+  turned_steps : w.steps ≡ v.steps + 5
+  turned_steps = let steps : w.steps ≡ ((v.steps + 1) + 3) + 1 = ap (λ (z : View). z.steps) all_is in omega (arith, steps)
+
   turned_worked : WorkedIn t v w
   turned_worked =
-      let steps : w.steps ≡ ((v.steps + 1) + 3) + 1 = ap (λ (z : View). z.steps) all_is in
+      let steps = turned_steps in
       worked_then t v (with_reads (with_read v.reads at n) v) w refl
-      (worked_read t 0 at n v (with_reads (with_read v.reads at n) v) (omega arith) header (omega arith) refl (λ y has. has))
+      (worked_read t 0 at n v (with_reads (with_read v.reads at n) v) (met_first 0 (omega arith)) header (omega arith) refl
+      (λ y has. has) refl refl)
       (worked_then t (with_reads (with_read v.reads at n) v)
       (with_reads (with_read (with_read v.reads at n) (page_at v.layout.slots t 3) (minor + 1)) v) w refl
       (worked_read t 3 (page_at v.layout.slots t 3) (minor + 1) (with_reads (with_read v.reads at n) v)
-      (with_reads (with_read (with_read v.reads at n) (page_at v.layout.slots t 3) (minor + 1)) v) (omega arith) refl
-      (omega arith) refl (λ y has. has))
+      (with_reads (with_read (with_read v.reads at n) (page_at v.layout.slots t 3) (minor + 1)) v) (met_first 3 (omega arith)) refl
+      (omega arith) refl (λ y has. has) refl refl)
       (worked_read t 4 (page_at v.layout.slots t 4) (major + 1)
-      (with_reads (with_read (with_read v.reads at n) (page_at v.layout.slots t 3) (minor + 1)) v) w (omega arith) refl
+      (with_reads (with_read (with_read v.reads at n) (page_at v.layout.slots t 3) (minor + 1)) v) w (met_first 4 (omega arith)) refl
       (omega (arith, steps)) (ap (λ (z : View). z.reads) all_is)
-      (λ y has. subst (λ (z : View). Contains z.versions y) (sym all_is) has)))
+      (λ y has. subst (λ (z : View). Contains z.versions y) (sym all_is) has)
+      (ap (λ (z : View). z.role) all_is) (ap (λ (z : View). z.touched) all_is)))
 
   pub has_turned : (index place : ℕ) (slots held : List ℕ)
       → x ≡ half_of k sorted (lower_of minor sp sorted) (upper_of major sp sorted) → in_span x.span k ≡ true
@@ -219,6 +224,7 @@ module _ (t minor major at n : ℕ) (sp : Span) (keys : List Key) (k : Key) (ent
           ≡ page_at v.layout.slots x.slot (1 + (16 + 3 * index)) = omega arith in e);
     };
     worked = turned_worked;
+    steps = turned_steps;
     holds = holds;
     agree = split.agree;
     trees = split.trees;

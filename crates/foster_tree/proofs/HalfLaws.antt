@@ -1,6 +1,6 @@
 -- What it comes to that both halves of a leaf are made, or neither.
-use Rattle.std.proofs.Common.{◌≡◌, ◌≢◌, ℕ, ◌+◌, ◌<◌, ◌≤◌, Bool, true, false, cond, eqb, length, take, drop, List, [], ◌∷◌, refl, sym, ap, ◌∙◌, subst, arith}
-use Rattle.std.proofs.Common.{inl, inr, eq-eqb, true≢false}
+use Rattle.std.proofs.Common.{◌≡◌, ◌≢◌, ℕ, ◌+◌, ◌*◌, ◌++◌, ◌<◌, ◌≤◌, Bool, true, false, cond, eqb, length, take, drop, List, [], ◌∷◌, refl, sym, ap, ◌∙◌, subst, arith}
+use Rattle.std.proofs.Common.{inl, inr, eq-eqb, length-append, true≢false}
 use Rattle.std.specs.Prelude.{not, nat_le, nat_lt, ◌||◌}
 use Rattle.std.specs.List.{Contains}
 use Rattle.std.proofs.lemmas.Bool.{and_parts}
@@ -35,15 +35,22 @@ searched v w = record v { steps = w.steps; last = w.last; looked = w.looked }
 searched_formed : (v w z : View) → w ≡ searched v z → w ≡ searched v w
 searched_formed v w z e = subst (λ (y : View). y ≡ searched v y) (sym e) refl
 
-pub missed_searched : (why : RefusalCause) (v w : View) → RefusesGive why v w → (w ≡ searched v w) × (v.steps ≤ w.steps)
+pub missed_searched : (why : RefusalCause) (v w : View) → RefusesGive why v w
+    → (w ≡ searched v w) × (v.steps ≤ w.steps) × (w.steps ≤ v.steps + (v.layout.slots + 1))
 missed_searched (causes.Conflict at expected seen) v w h =
     let before = h.first.seen in
     let steps : w.steps ≡ (h.seen).steps + 1 = ap (λ (z : View). z.steps) h.only in
-    let more = before.steps in (
+    let more = before.steps in
+    let few = h.first.there in
+    let many : length (h.first.before ++ expected ∷ []) ≡ h.slot + 1 =
+    length-append h.first.before (expected ∷ []) ∙ ap (λ (n : ℕ). n + 1) h.first.count in (
       searched_formed v w (glanced at seen h.seen) (h.only ∙ ap (glanced at seen) before.only),
       omega (arith, steps, more),
+      omega (arith, steps, more, few, many),
     )
-missed_searched (causes.Full held) v w h = let more = h.seen.steps in (h.seen.only, omega (arith, more))
+missed_searched (causes.Full held) v w h =
+    let more = h.seen.steps in
+    let many = h.count in (h.seen.only, omega (arith, more), omega (arith, more, many))
 missed_searched (causes.Wide set) v w h = absurd h
 missed_searched (causes.NumberLimit clock) v w h = absurd h
 
@@ -61,6 +68,7 @@ no_first why v w h =
         looked = refl;
       };
       since = s.1;
+      most = let few = s.2 in omega (arith, few);
       is = s.0;
     }
 
@@ -93,8 +101,9 @@ made_lists made taken copies blanks leaves inners v w = record v {
 
 -- it is given up
 pub no_second : (t : ℕ) (sp : Span) (entries : List Entry) (why : RefusalCause) (v a b c : View) → HasMadeNothing v
-    → HasMadeLeaf t sp entries v a → RefusesGive why a b → c ≡ retired t b → HasMadeNoHalves why v c
-no_second t sp entries why v a b c none made missed gone =
+    → length entries ≤ 16 → HasMadeLeaf t sp entries v a → RefusesGive why a b → c ≡ retired t b
+    → HasMadeNoHalves why v c
+no_second t sp entries why v a b c none few made missed gone =
     let s = missed_searched why a b missed in
     let first : c ≡ retired t (searched (as_made t sp entries v a) b) =
     gone ∙ ap (retired t) (s.0 ∙ ap (λ (z : View). searched z b) made.is) in
@@ -139,6 +148,11 @@ no_second t sp entries why v a b c none made missed gone =
         looked = ap (λ (z : View). z.looked) gone;
       };
       since = omega (arith, steps, since, more);
+      most =
+          let one = made.most in
+          let two : b.steps ≤ a.steps + (v.layout.slots + 1) =
+          subst (λ (y : Layout). b.steps ≤ a.steps + (y.slots + 1)) (ap (λ (z : View). z.layout) made.is) s.2 in
+          omega (arith, steps, one, two, few);
       is = searched_formed v c (retired t b) four;
     }
 
@@ -159,10 +173,10 @@ or_false_left true b e = e
 or_false_left false b e = refl
 
 pub made_both : (minor major : ℕ) (sp : Span) (sorted : List Entry) (v a b : View) → HasMadeNothing v
-    → HasMadeLeaf minor (lower_of minor sp sorted).span (take 8 sorted) v a
+    → length (take 8 sorted) ≤ 16 → length (drop 8 sorted) ≤ 16 → HasMadeLeaf minor (lower_of minor sp sorted).span (take 8 sorted) v a
     → HasMadeLeaf major (upper_of major sp sorted).span (drop 8 sorted) a b
     → HasMadeHalves minor major sp sorted v b
-made_both minor major sp sorted v a b none first next =
+made_both minor major sp sorted v a b none low high first next =
     let made : a.grip.made ≡ minor ∷ v.grip.made = ap (λ (z : View). z.grip.made) first.is in
     let unmade : has_slot (minor ∷ v.grip.made) major ≡ false =
     ap (λ (l : List ℕ). has_slot l major) (sym made) ∙ next.unmade in
@@ -178,6 +192,12 @@ made_both minor major sp sorted v a b none first next =
           true≢false (sym (eq-eqb minor major same)
           ∙ or_false_left (eqb minor major) (has_slot v.grip.made major) unmade);
       since = let x = first.since in let y = next.since in omega (arith, x, y);
+      most =
+          let one = first.most in
+          let two : b.steps ≤ a.steps + (v.layout.slots + (5 + 3 * length (drop 8 sorted))) =
+          subst (λ (y : Layout). b.steps ≤ a.steps + (y.slots + (5 + 3 * length (drop 8 sorted))))
+          (ap (λ (z : View). z.layout) first.is) next.most in
+          omega (arith, one, two, low, high);
       is = both
           ∙ (ap (λ (l : List ℕ). halved_at (major ∷ minor ∷ l) (upper_of major sp sorted ∷ lower_of minor sp sorted ∷ v.new_leaves) v b) none.made
           ∙ ap (λ (l : List NewLeaf). halved_at (major ∷ minor ∷ []) (upper_of major sp sorted ∷ lower_of minor sp sorted ∷ l) v b) none.leaves);

@@ -14,11 +14,15 @@ use Rattle.wire_form.specs.Words.{absent_field, number_in, number_word}
 use Rattle.engine_pages.specs.declared.layout.Layout.{Layout}
 use Rattle.engine_pages.specs.declared.view.Read.{Read}
 use Rattle.engine_pages.specs.declared.view.RefusalCause.TheVariants as causes
+use Rattle.engine_pages.specs.declared.view.Role.{Role}
+use Rattle.engine_pages.specs.declared.view.Touch.{Touch}
 use Rattle.engine_pages.specs.declared.view.Version.{Version}
 use Rattle.engine_pages.specs.declared.view.View.{View}
 use Rattle.engine_pages.specs.Layout.{page_at}
+use Rattle.engine_pages.specs.Pages.{is_tree}
 use Rattle.engine_pages.specs.Records.{IsTreeRecordAt}
 use Rattle.engine_pages.specs.Steps.{kept_at, read_at, seen_at, with_read}
+use Rattle.engine_pages.specs.Views.{seat_number}
 use Rattle.engine_pages.specs.Words.{IsSmall}
 use Rattle.page_records.specs.Locks.{locked, open_bits, IsOpenWord, Locked}
 use Rattle.page_records.specs.Reads.{LoadedWord}
@@ -26,13 +30,27 @@ use Rattle.tree_records.specs.Held.{LoadedHeld}
 use Rattle.array_pages.proofs.ReadLaws.{kept_with, seen_other}
 use Rattle.foster_tree.specs.declared.entries.Entry.{Entry}
 use Rattle.foster_tree.specs.Entries.{content_of, IsEntry}
-use Rattle.foster_tree.specs.Locking.{HasLockedWord, HeldValue, RefusesWord, WorkedIn}
+use Rattle.foster_tree.specs.Locking.{HasLockedWord, HeldValue, IsMetIndex, RefusesWord, WorkedIn}
 
 -- ---- words of one leaf were seen and left
+
+-- a word before the records
+pub met_first : (i : ℕ) → i < 16 → IsMetIndex i
+met_first i less = inl less
+
+-- the record's word
+pub met_word : (i : ℕ) → i < 16 → IsMetIndex ((16 + 3 * i) + 1)
+met_word i less = inr (i, less, inl (let e : (16 + 3 * i) + 1 ≡ 1 + (16 + 3 * i) = omega arith in e))
+
+-- that of its value
+pub met_value : (i : ℕ) → i < 16 → IsMetIndex ((16 + 3 * i) + 2)
+met_value i less = inr (i, less, inr (let e : (16 + 3 * i) + 2 ≡ (1 + (16 + 3 * i)) + 1 = omega arith in e))
 
 pub worked_none : (t : ℕ) (v : View) → WorkedIn t v v
 worked_none t v = record {
   since = omega arith;
+  role = refl;
+  touches = λ x has. inl has;
   words = λ a. refl;
   others = λ a apart. refl;
   versions = λ x has. has;
@@ -41,25 +59,46 @@ worked_none t v = record {
 pub worked_then : (t : ℕ) (v u w : View) → u.layout ≡ v.layout → WorkedIn t v u → WorkedIn t u w → WorkedIn t v w
 worked_then t v u w layout first next = record {
   since = let a = first.since in let b = next.since in omega (arith, a, b);
+  role = next.role ∙ first.role;
   words = λ a. next.words a ∙ first.words a;
   others = λ a apart.
-      next.others a (λ i less. subst (λ (y : Layout). a ≢ page_at y.slots t i) (sym layout) (apart i less))
+      next.others a (λ i is. subst (λ (y : Layout). a ≢ page_at y.slots t i) (sym layout) (apart i is))
       ∙ first.others a apart;
+  touches = λ x has. elim (next.touches x has) [
+    | inl mid ↦ first.touches x mid
+    | inr own ↦ inr (
+      subst (λ (r : Role). x.seat ≡ seat_number r) first.role own.0,
+      subst (λ (y : Layout). is_tree y.decls x.key.storage ≡ true) layout own.1,
+    )
+  ];
   versions = λ x has. next.versions x (first.versions x has);
 }
 
 -- one word was
-pub worked_read : (t i at n : ℕ) (v w : View) → i < 64 → at ≡ page_at v.layout.slots t i → v.steps ≤ w.steps
+pub worked_at : (t i at n : ℕ) (v w : View) → IsMetIndex i → at ≡ page_at v.layout.slots t i → v.steps ≤ w.steps
     → w.reads ≡ with_read v.reads at n → ((x : Version) → Contains v.versions x → Contains w.versions x)
+    → w.role ≡ v.role
+    → ((x : Touch) → Contains w.touched x → Contains v.touched x
+    ⊎ ((x.seat ≡ seat_number v.role) × (is_tree v.layout.decls x.key.storage ≡ true)))
     → WorkedIn t v w
-worked_read t i at n v w index is since reads versions = record {
+worked_at t i at n v w index is since reads versions role touches = record {
   since = since;
+  role = role;
+  touches = touches;
   words = λ a. subst (λ (l : List Read). kept_at l a ≡ kept_at v.reads a) (sym reads) (kept_with v.reads at n a);
   others = λ a apart.
       subst (λ (l : List Read). seen_at l a ≡ seen_at v.reads a) (sym reads)
       (seen_other v.reads at n (kept_at v.reads at) a (λ same. apart i index (same ∙ is)));
   versions = versions;
 }
+
+-- and no lock was taken
+pub worked_read : (t i at n : ℕ) (v w : View) → IsMetIndex i → at ≡ page_at v.layout.slots t i → v.steps ≤ w.steps
+    → w.reads ≡ with_read v.reads at n → ((x : Version) → Contains v.versions x → Contains w.versions x)
+    → w.role ≡ v.role → w.touched ≡ v.touched → WorkedIn t v w
+worked_read t i at n v w index is since reads versions role touched =
+    worked_at t i at n v w index is since reads versions role
+    (λ x has. inl (subst (λ (l : List Touch). Contains l x) touched has))
 
 -- ---- an entry
 
@@ -189,9 +228,12 @@ pub some_value : (k : Key) (at word value : ℕ) (v w : View) → word < 2 ^ 60 
 some_value k at word value v w low h = inl (low, record { number = h.number; small = h.small; says = h.word; is = h.is })
 
 -- a step that met no word
-pub worked_same : (t : ℕ) (v w : View) → v.steps ≤ w.steps → w.reads ≡ v.reads → w.versions ≡ v.versions → WorkedIn t v w
-worked_same t v w since reads versions = record {
+pub worked_same : (t : ℕ) (v w : View) → v.steps ≤ w.steps → w.reads ≡ v.reads → w.versions ≡ v.versions
+    → w.role ≡ v.role → w.touched ≡ v.touched → WorkedIn t v w
+worked_same t v w since reads versions role touched = record {
   since = since;
+  role = role;
+  touches = λ x has. inl (subst (λ (l : List Touch). Contains l x) touched has);
   words = λ a. ap (λ (l : List Read). kept_at l a) reads;
   others = λ a apart. ap (λ (l : List Read). seen_at l a) reads;
   versions = λ x has. subst (λ (l : List Version). Contains l x) (sym versions) has;

@@ -2,7 +2,7 @@
 use Rattle.std.proofs.Common.{◌≡◌, ◌⊎◌, ℕ, ◌+◌, ◌*◌, ◌%◌, ◌^◌, ◌<◌, ◌≤◌, true, List, [], ◌∷◌, ◌++◌, refl, sym, ap, ◌∙◌, subst}
 use Rattle.std.proofs.Common.{arith, get_or, inl, inr, Some, None}
 use Rattle.std.specs.List.{Contains, slice_get}
-use Rattle.lists.specs.Elements.{at_in, in_push_new, in_push_old}
+use Rattle.lists.specs.Elements.{at_in, in_push_cases, in_push_new, in_push_old}
 use Rattle.serial_model.specs.declared.key.Key.{Key}
 use Rattle.serial_model.specs.declared.number.Number.{Number}
 use Rattle.homes.specs.declared.places.Content.{Content}
@@ -12,6 +12,7 @@ use Rattle.wire_form.specs.Words.{number_word}
 use Rattle.engine_pages.specs.declared.layout.Layout.{Layout}
 use Rattle.engine_pages.specs.declared.view.Known.{Known}
 use Rattle.engine_pages.specs.declared.view.Took.{Took}
+use Rattle.engine_pages.specs.declared.view.Touch.{Touch}
 use Rattle.engine_pages.specs.declared.view.Version.{Version}
 use Rattle.engine_pages.specs.declared.view.View.{View}
 use Rattle.engine_pages.specs.declared.view.Way.{Way}
@@ -19,7 +20,8 @@ use Rattle.engine_pages.specs.Layout.{page_at}
 use Rattle.engine_pages.specs.Pages.{is_tree}
 use Rattle.engine_pages.specs.Records.{IsTreeRecordAt}
 use Rattle.engine_pages.specs.Steps.{glanced, read_at}
-use Rattle.engine_pages.specs.Views.{IsActive}
+use Rattle.engine_pages.specs.Touches.{touch}
+use Rattle.engine_pages.specs.Views.{seat_number, IsActive}
 use Rattle.engine_pages.specs.Words.{spot, IsSmall}
 use Rattle.page_records.specs.Locks.{lock_bit, locked, took_at}
 use Rattle.tree_records.specs.Held.{version_of, with_version}
@@ -29,8 +31,8 @@ use Rattle.foster_tree.specs.Entries.{content_of}
 use Rattle.foster_tree.specs.Locking.{as_locked, no_key, HasHeldValue, HasLockedOne, HasLockedWord, HeldValue}
 use Rattle.foster_tree.specs.Locking.{KnowsFull, WorkedIn}
 use Rattle.foster_tree.proofs.AddLaws.{storage_of}
-use Rattle.foster_tree.proofs.LockLaws.{absent_entry, high_is, low_is, number_said, there_entry, worked_read, worked_same}
-use Rattle.foster_tree.proofs.LockLaws.{worked_then}
+use Rattle.foster_tree.proofs.LockLaws.{absent_entry, high_is, low_is, met_value, met_word, number_said, there_entry}
+use Rattle.foster_tree.proofs.LockLaws.{worked_at, worked_read, worked_same, worked_then}
 use Rattle.foster_tree.proofs.LockLists.{has_in, there}
 
 -- the key of the record with this index, as its word says
@@ -75,23 +77,37 @@ module _ (t i place n word : ℕ) (sp : Span) (keys : List Key) (k : Key) (v u x
   word_place : place + 1 ≡ page_at v.layout.slots t ((16 + 3 * i) + 1)
   word_place = let e = placed in omega (arith, e)
 
+  -- the key is one of a tree
+  key_tree : is_tree v.layout.decls k.storage ≡ true
+  key_tree =
+      ap (λ (s : ℕ). is_tree v.layout.decls s)
+      (storage_of sp k (knows.inside k (has_in keys k (at_in keys i k is_at)))) ∙ knows.page.tree
+
   read_first : WorkedIn t u (read_at (place + 1) word u)
   read_first =
-      worked_read t ((16 + 3 * i) + 1) (place + 1) word u (read_at (place + 1) word u) (omega (arith, less))
+      worked_read t ((16 + 3 * i) + 1) (place + 1) word u (read_at (place + 1) word u) (met_word i less)
       (word_place ∙ ap (λ (z : View). page_at z.layout.slots t ((16 + 3 * i) + 1)) (sym loaded.is)) (omega arith) refl
-      (λ y has. has)
+      (λ y has. has) refl refl
 
   read_next : WorkedIn t (read_at (place + 1) word u) x
   read_next =
       subst (λ (z : View). WorkedIn t (read_at (place + 1) word u) z) (sym lock.is)
-      (worked_read t ((16 + 3 * i) + 1) (place + 1) (word + lock_bit) (read_at (place + 1) word u)
-      (locked k (spot t i) (place + 1) word (read_at (place + 1) word u)) (omega (arith, less))
+      (worked_at t ((16 + 3 * i) + 1) (place + 1) (word + lock_bit) (read_at (place + 1) word u)
+      (locked k (spot t i) (place + 1) word (read_at (place + 1) word u)) (met_word i less)
       (word_place ∙ ap (λ (z : View). page_at z.layout.slots t ((16 + 3 * i) + 1)) (sym loaded.is)) (omega arith) refl
-      (λ y has. has))
+      (λ y has. has) refl
+      (λ y has. elim (in_push_cases y (touch (seat_number u.role) k) u.touched has) [
+        | inl old ↦ inl old
+        | inr same ↦ inr (
+          ap (λ (z : Touch). z.seat) (sym same),
+          ap (λ (z : View). is_tree z.layout.decls y.key.storage) loaded.is
+              ∙ (ap (λ (z : Touch). is_tree v.layout.decls z.key.storage) (sym same) ∙ key_tree),
+        )
+      ]))
 
   key_first : WorkedIn t v u
   key_first = subst (λ (z : View). WorkedIn t v z) (sym loaded.is)
-      (worked_same t v (glanced place n v) (omega arith) refl refl)
+      (worked_same t v (glanced place n v) (omega arith) refl refl refl refl)
 
   pub locked_layout : x.layout ≡ v.layout
   locked_layout = ap (λ (z : View). z.layout) lock.is ∙ ap (λ (z : View). z.layout) loaded.is
@@ -143,14 +159,15 @@ module _ (t i place n word : ℕ) (sp : Span) (keys : List Key) (k : Key) (v u x
       let content : content_with h.number value ≡ content_of (record { key = n; word = word; value = value }) =
       value_is n word value h.number lock.number low lock.small lock.says h.says h.small in
       let more : WorkedIn t x w =
-      worked_read t ((16 + 3 * i) + 2) ((place + 1) + 1) value x w (omega (arith, less))
+      worked_read t ((16 + 3 * i) + 2) ((place + 1) + 1) value x w (met_value i less)
       (let e = placed in
       let f : (place + 1) + 1 ≡ page_at v.layout.slots t ((16 + 3 * i) + 2) = omega (arith, e) in
       f ∙ ap (λ (y : Layout). page_at y.slots t ((16 + 3 * i) + 2)) (sym locked_layout))
       (let b : w.steps ≡ x.steps + 1 = ap (λ (z : View). z.steps) h.is in omega (arith, b))
       (ap (λ (z : View). z.reads) h.is)
       (λ y has. subst (λ (l : List Version). Contains l y) (sym versions)
-      (in_push_old y (version_of k h.number value) x.versions has)) in
+      (in_push_old y (version_of k h.number value) x.versions has))
+      (ap (λ (z : View). z.role) h.is) (ap (λ (z : View). z.touched) h.is) in
       record {
         worked = worked_then t v x w locked_layout locked_worked more;
         most =

@@ -23,7 +23,7 @@ use Rattle.foster_tree.specs.Entries.{key_of}
 use Rattle.foster_tree.specs.Filling.{no_entry}
 use Rattle.foster_tree.specs.Locking.{as_locked, no_key, tooks, CanOpenOne, HasOpenedOne, KnowsFull, WorkedIn}
 use Rattle.foster_tree.proofs.AddLaws.{storage_of}
-use Rattle.foster_tree.proofs.LockLaws.{worked_read}
+use Rattle.foster_tree.proofs.LockLaws.{met_word, worked_read}
 use Rattle.foster_tree.proofs.LockLists.{filter_out_last, has_in, once_apart, take_push, there, tooks_keys}
 
 -- a seat without an attempt comes to rest as it is
@@ -93,8 +93,8 @@ pub opened_one : (t i at : ℕ) (k : Key) (e : Entry) (v w : View) → i < 16
     → at ≡ page_at v.layout.slots t ((16 + 3 * i) + 1) → w ≡ opened k at e.word v → HasOpenedOne t k i e v w
 opened_one t i at k e v w less placed is = record {
   worked = subst (λ (z : View). WorkedIn t v z) (sym is)
-      (worked_read t ((16 + 3 * i) + 1) at e.word v (opened k at e.word v) (omega (arith, less)) placed (omega arith) refl
-      (λ x has. has));
+      (worked_read t ((16 + 3 * i) + 1) at e.word v (opened k at e.word v) (met_word i less) placed (omega arith) refl
+      (λ x has. has) refl refl);
   is = is ∙ ap (λ (n : ℕ). opened k n e.word v) placed;
 }
 

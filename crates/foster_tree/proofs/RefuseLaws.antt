@@ -12,7 +12,7 @@ use Rattle.engine_pages.specs.Layout.{page_at}
 use Rattle.engine_pages.specs.Steps.{glanced, kept_at, read_at, seen_at, with_read}
 use Rattle.page_records.specs.Ends.{IsLeafWordAt}
 use Rattle.foster_tree.specs.Locking.{HasNotLockedOne, KnowsFull, RefusesWord}
-use Rattle.foster_tree.proofs.LockLaws.{worked_read, worked_same, worked_then}
+use Rattle.foster_tree.proofs.LockLaws.{met_word, worked_read, worked_same, worked_then}
 use Rattle.array_pages.proofs.ReadLaws.{kept_with, noted_in, seen_same}
 
 -- the view after the loads of a key, and of the record's word twice
@@ -64,13 +64,13 @@ refused_one t i place n at sp keys (causes.Conflict other expected seen) v u w k
     record {
       worked =
           worked_then t v (glanced place n v) (met_twice place n at expected seen v) refl
-          (worked_same t v (glanced place n v) (omega arith) refl refl)
+          (worked_same t v (glanced place n v) (omega arith) refl refl refl refl)
           (worked_then t (glanced place n v) (read_at at expected (glanced place n v))
           (met_twice place n at expected seen v) refl
           (worked_read t ((16 + 3 * i) + 1) at expected (glanced place n v) (read_at at expected (glanced place n v))
-          (omega (arith, less)) placed (omega arith) refl (λ x has. has))
+          (met_word i less) placed (omega arith) refl (λ x has. has) refl refl)
           (worked_read t ((16 + 3 * i) + 1) at seen (read_at at expected (glanced place n v))
-          (met_twice place n at expected seen v) (omega (arith, less)) placed (omega arith) refl (λ x has. has)));
+          (met_twice place n at expected seen v) (met_word i less) placed (omega arith) refl (λ x has. has) refl refl));
       most = omega arith;
       is = refl;
       cause = record {

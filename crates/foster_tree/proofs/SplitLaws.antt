@@ -3,19 +3,22 @@ use Rattle.std.proofs.Common.{◌≡◌, ◌≢◌, ◌⊎◌, ℕ, ◌+◌, ◌
 use Rattle.std.proofs.Common.{refl, sym, ap, ◌∙◌, subst, arith, inl, inr, Some, eq-eqb}
 use Rattle.std.specs.Prelude.{not, nat_lt, ◌||◌}
 use Rattle.std.specs.List.{Contains}
-use Rattle.lists.specs.Elements.{in_head}
+use Rattle.lists.specs.Elements.{in_head, in_tail}
 use Rattle.serial_model.specs.declared.key.Key.{Key}
 use Rattle.homes.specs.declared.places.Span.{Span}
 use Rattle.homes.specs.Homes.{has_key}
 use Rattle.drop_core.specs.Table.{has_slot}
 use Rattle.engine_pages.specs.declared.layout.Layout.{Layout}
 use Rattle.engine_pages.specs.declared.view.Head.{Head}
+use Rattle.engine_pages.specs.declared.view.Inner.{Inner}
+use Rattle.engine_pages.specs.declared.view.Known.{Known}
 use Rattle.engine_pages.specs.declared.view.NewLeaf.{NewLeaf}
 use Rattle.engine_pages.specs.declared.view.RefusalCause.{RefusalCause}
 use Rattle.engine_pages.specs.declared.view.RefusalCause.TheVariants as causes
 use Rattle.engine_pages.specs.declared.view.Role.TheVariants.{Keeper}
 use Rattle.engine_pages.specs.declared.view.View.{View}
 use Rattle.engine_pages.specs.declared.view.Way.{Way}
+use Rattle.engine_pages.specs.Agreement.{KnownAgree, TreesAgree}
 use Rattle.engine_pages.specs.Layout.{page_at}
 use Rattle.engine_pages.specs.Pages.{is_tree}
 use Rattle.engine_pages.specs.Slots.{other_heads}
@@ -32,7 +35,7 @@ use Rattle.foster_tree.specs.Splitting.{upper_of, CanSplitLeaf, CanSplitLocked, 
 use Rattle.foster_tree.specs.Splitting.{HasSplitLeaf, HasSplitLocked, RefusesSplit}
 use Rattle.foster_tree.proofs.AddLaws.{header_changed, locked_one, same_keys}
 use Rattle.foster_tree.proofs.AfterTurn.{half_high, half_low, high_from, low_less}
-use Rattle.foster_tree.proofs.LockLaws.{worked_read, worked_then}
+use Rattle.foster_tree.proofs.LockLaws.{met_first, worked_read, worked_then}
 use Rattle.foster_tree.proofs.OpenMany.{noted_still}
 use Rattle.foster_tree.proofs.RefuseStill.{leaf_word_still}
 use Rattle.foster_tree.proofs.StoreLaws.{head_of}
@@ -58,17 +61,36 @@ pushed_has [] t q = refl
 pushed_has (x ∷ slots) t q =
     ap (λ (b : Bool). eqb x q || b) (pushed_has slots t q) ∙ or_swap (eqb t q) (eqb x q) (has_slot slots q)
 
+-- what is known of pages agrees where the same is known
+trees_as : (v w : View) → w.layout ≡ v.layout → w.known ≡ v.known → w.inners ≡ v.inners → w.ways ≡ v.ways → TreesAgree v
+    → TreesAgree w
+trees_as v w layout known inners ways trees = record {
+  known = subst KnownAgree (sym known) trees.known;
+  inners = λ a b x y. trees.inners a b (subst (λ (l : List Inner). Contains l a) inners x)
+      (subst (λ (l : List Inner). Contains l b) inners y);
+  apart = λ a b x y. trees.apart a b (subst (λ (l : List Known). Contains l a) known x)
+      (subst (λ (l : List Inner). Contains l b) inners y);
+  spans = λ a b x y same tree. trees.spans a b (subst (λ (l : List Way). Contains l a) ways x)
+      (subst (λ (l : List Way). Contains l b) ways y) same
+      (subst (λ (z : Layout). is_tree z.decls a.span.storage ≡ true) layout tree);
+}
+
 -- ---- the header had changed
 
 pub leaf_changed : (slots : List ℕ) (t at word n : ℕ) (sp : Span) (k : Key) (v u : View) → CanSplitLeaf slots v t sp k word
-    → at ≡ page_at v.layout.slots t 0 → u ≡ read_at at n v → n ≢ word → HasNotSplit slots t (causes.Conflict at word n) v u
+    → at ≡ page_at v.layout.slots t 0 → u ≡ read_at at n v → n ≢ word → HasNotSplit slots t word (causes.Conflict at word n) v u
 leaf_changed slots t at word n sp k v u can header now other =
     let steps : u.steps ≡ v.steps + 1 = ap (λ (z : View). z.steps) now in
     record {
-      worked = worked_read t 0 at n v u (omega arith) header (omega (arith, steps)) (ap (λ (z : View). z.reads) now)
-          (λ x has. subst (λ (z : View). Contains z.versions x) (sym now) has);
+      worked = worked_read t 0 at n v u (met_first 0 (omega arith)) header (omega (arith, steps))
+          (ap (λ (z : View). z.reads) now) (λ x has. subst (λ (z : View). Contains z.versions x) (sym now) has)
+          (ap (λ (z : View). z.role) now) (ap (λ (z : View). z.touched) now);
+      most = omega (arith, steps);
+      known = λ x has. subst (λ (z : View). Contains z.known x) (sym now) has;
+      trees = trees_as v u (ap (λ (z : View). z.layout) now) (ap (λ (z : View). z.known) now)
+          (ap (λ (z : View). z.inners) now) (ap (λ (z : View). z.ways) now);
       is = subst (λ (y : View). y ≡ as_tried v y) (sym now) refl;
-      cause = inl (header_changed t at word n sp k v u can.grows header now other);
+      cause = inl (refl, header_changed t at word n sp k v u can.grows header now other);
     }
 
 -- ---- why it wasn't split, told behind the opening of the header
@@ -122,12 +144,12 @@ refused_opened t i at word (causes.Full held) v u s w since header is worked h =
 refused_opened t i at word (causes.Wide set) v u s w since header is worked h = absurd h
 refused_opened t i at word (causes.NumberLimit clock) v u s w since header is worked h = absurd h
 
-cause_of : (slots : List ℕ) (t : ℕ) (why : RefusalCause) (v w : View) → RefusesRecord t why v w ⊎ GaveNone why v w
-    → RefusesSplit slots t why v w
-cause_of slots t (causes.Conflict at expected seen) v w h = inr h
-cause_of slots t (causes.Full held) v w h = elim h [ inl changed ↦ absurd changed.2 | inr gave ↦ gave ]
-cause_of slots t (causes.Wide set) v w h = elim h [ inl changed ↦ absurd changed.2 | inr gave ↦ absurd gave.missed ]
-cause_of slots t (causes.NumberLimit clock) v w h = elim h [ inl changed ↦ absurd changed.2 | inr gave ↦ absurd gave.missed ]
+cause_of : (slots : List ℕ) (t word : ℕ) (why : RefusalCause) (v w : View) → RefusesRecord t why v w ⊎ GaveNone why v w
+    → RefusesSplit slots t word why v w
+cause_of slots t word (causes.Conflict at expected seen) v w h = inr h
+cause_of slots t word (causes.Full held) v w h = elim h [ inl changed ↦ absurd changed.2 | inr gave ↦ gave ]
+cause_of slots t word (causes.Wide set) v w h = elim h [ inl changed ↦ absurd changed.2 | inr gave ↦ absurd gave.missed ]
+cause_of slots t word (causes.NumberLimit clock) v w h = elim h [ inl changed ↦ absurd changed.2 | inr gave ↦ absurd gave.missed ]
 
 -- ---- the header was locked
 
@@ -151,8 +173,9 @@ module _ (slots : List ℕ) (t at word n : ℕ) (sp : Span) (k : Key) (v u : Vie
 
   locked_worked : WorkedIn t v u
   locked_worked =
-      worked_read t 0 at (n + lock_bit) v u (omega arith) header locked_since (ap (λ (z : View). z.reads) h.is)
-      (λ x has. subst (λ (z : View). Contains z.versions x) (sym h.is) has)
+      worked_read t 0 at (n + lock_bit) v u (met_first 0 (omega arith)) header locked_since (ap (λ (z : View). z.reads) h.is)
+      (λ x has. subst (λ (z : View). Contains z.versions x) (sym h.is) has) (ap (λ (z : View). z.role) h.is)
+      (ap (λ (z : View). z.touched) h.is)
 
   leaf_known : KnowsFull u t sp h.keys
   leaf_known = record {
@@ -225,6 +248,11 @@ module _ (slots : List ℕ) (t at word n : ℕ) (sp : Span) (k : Key) (v u : Vie
           index = split.index;
           record_at = split.record_at;
           worked = worked_then t v u w layout_is locked_worked split.worked;
+          most =
+              let one : u.steps ≡ v.steps + 1 = ap (λ (z : View). z.steps) h.is in
+              let more : w.steps ≤ u.steps + (2 * v.layout.slots + 200) =
+              subst (λ (y : Layout). w.steps ≤ u.steps + (2 * y.slots + 200)) layout_is split.most in
+              omega (arith, one, more);
           agree = split.agree;
           trees = split.trees;
           is = subst (λ (y : View). y ≡ as_split t h.keys (lower_of split.minor sp split.sorted)
@@ -260,15 +288,16 @@ module _ (slots : List ℕ) (t at word n : ℕ) (sp : Span) (k : Key) (v u : Vie
     }
 
     -- and what it comes to
-    pub leaf_left : (w : View) → w ≡ head_opened t at word s → HasNotSplit slots t why v w
+    pub leaf_left : (w : View) → w ≡ head_opened t at word s → HasNotSplit slots t word why v w
     leaf_left w is =
         let layout : s.layout ≡ u.layout = ap (λ (z : View). z.layout) none.is in
         let steps : w.steps ≡ s.steps + 1 = ap (λ (z : View). z.steps) is in
         let here : at ≡ page_at s.layout.slots t 0 =
         header ∙ ap (λ (y : Layout). page_at y.slots t 0) (sym (layout ∙ layout_is)) in
         let worked : WorkedIn t s w =
-        worked_read t 0 at word s w (omega arith) here (omega (arith, steps)) (ap (λ (z : View). z.reads) is)
-        (λ x has. subst (λ (z : View). Contains z.versions x) (sym is) has) in
+        worked_read t 0 at word s w (met_first 0 (omega arith)) here (omega (arith, steps)) (ap (λ (z : View). z.reads) is)
+        (λ x has. subst (λ (z : View). Contains z.versions x) (sym is) has) (ap (λ (z : View). z.role) is)
+        (ap (λ (z : View). z.touched) is) in
         let end : View = head_opened t at word (as_tried_locked (head_locked t h.keys h.words at n v) s) in
         let four : w ≡ as_tried v (headed v.heads end) =
         is
@@ -279,8 +308,23 @@ module _ (slots : List ℕ) (t at word n : ℕ) (sp : Span) (k : Key) (v u : Vie
         record {
           worked =
               worked_then t v u w layout_is locked_worked (worked_then t u s w layout none.worked worked);
+          most =
+              let one : u.steps ≡ v.steps + 1 = ap (λ (z : View). z.steps) h.is in
+              let more : s.steps ≤ u.steps + (2 * v.layout.slots + 250) =
+              subst (λ (y : Layout). s.steps ≤ u.steps + (2 * y.slots + 250)) layout_is none.most in
+              omega (arith, one, more, steps);
+          known = λ x has.
+              subst (λ (l : List Known). Contains l x)
+              (sym (ap (λ (z : View). z.known) is
+              ∙ (ap (λ (z : View). z.known) none.is ∙ ap (λ (z : View). z.known) h.is)))
+              (in_tail x (record { slot = t; keys = h.keys }) v.known has);
+          trees = λ before.
+              trees_as u w (ap (λ (z : View). z.layout) is ∙ ap (λ (z : View). z.layout) none.is)
+              (ap (λ (z : View). z.known) is ∙ ap (λ (z : View). z.known) none.is)
+              (ap (λ (z : View). z.inners) is ∙ ap (λ (z : View). z.inners) none.is)
+              (ap (λ (z : View). z.ways) is ∙ ap (λ (z : View). z.ways) none.is) h.trees;
           is = subst (λ (y : View). y ≡ as_tried v y) (sym four) refl;
-          cause = cause_of slots t why v w (elim none.cause [
+          cause = cause_of slots t word why v w (elim none.cause [
             | inl changed ↦
                 inl (
                   changed.0,

@@ -1,5 +1,5 @@
 -- What a split asks of its parts under the header's lock, and what it comes to.
-use Rattle.std.proofs.Common.{◌≡◌, ◌≢◌, ℕ, ◌+◌, ◌<◌, ◌≤◌, List, [], ◌∷◌, length, set, take, refl, sym, ap, ◌∙◌, subst, arith}
+use Rattle.std.proofs.Common.{◌≡◌, ◌≢◌, ℕ, ◌+◌, ◌*◌, ◌<◌, ◌≤◌, List, [], ◌∷◌, length, set, take, refl, sym, ap, ◌∙◌, subst, arith}
 use Rattle.std.proofs.Common.{inl, inr, Some}
 use Rattle.std.specs.List.{slice_get}
 use Rattle.std.proofs.lemmas.List.{get_or-set_other, get_or-set_same, length-set}
@@ -72,6 +72,7 @@ no_records slots t at word sp k why v a can none =
     ∙ ap (λ (l : List Took). as_locked v.seat.locks l v a) (sym can.took)) in
     record {
       worked = none.worked;
+      most = let more = none.most in omega (arith, more);
       is = subst (λ (y : View). y ≡ as_tried_locked v y) (sym three) refl;
       cause = inl none.cause;
     }
@@ -206,8 +207,14 @@ module _ (slots : List ℕ) (t at word : ℕ) (sp : Span) (k : Key) (was : List 
           worked =
               worked_then t v a w layout_is some.worked
               (worked_then t a b w (ap (λ (z : View). z.layout) made.is)
-              (worked_same t a b made.since (ap (λ (z : View). z.reads) made.is) (ap (λ (z : View). z.versions) made.is))
+              (worked_same t a b made.since (ap (λ (z : View). z.reads) made.is) (ap (λ (z : View). z.versions) made.is)
+              (ap (λ (z : View). z.role) made.is) (ap (λ (z : View). z.touched) made.is))
               turned.worked);
+          most =
+              let one = some.most in
+              let two : b.steps ≤ a.steps + (2 * v.layout.slots + 106) =
+              subst (λ (y : Layout). b.steps ≤ a.steps + (2 * y.slots + 106)) layout_is made.most in
+              let three = turned.steps in omega (arith, one, two, three);
           holds = turned.holds;
           agree = turned.agree;
           trees = turned.trees;
@@ -251,8 +258,14 @@ module _ (slots : List ℕ) (t at word : ℕ) (sp : Span) (k : Key) (was : List 
           worked =
               worked_then t v a w layout_is some.worked
               (worked_then t a b w (ap (λ (z : View). z.layout) none.is)
-              (worked_same t a b none.since (ap (λ (z : View). z.reads) none.is) (ap (λ (z : View). z.versions) none.is))
+              (worked_same t a b none.since (ap (λ (z : View). z.reads) none.is) (ap (λ (z : View). z.versions) none.is)
+              (ap (λ (z : View). z.role) none.is) (ap (λ (z : View). z.touched) none.is))
               opened.worked);
+          most =
+              let one = some.most in
+              let two : b.steps ≤ a.steps + (2 * v.layout.slots + 106) =
+              subst (λ (y : Layout). b.steps ≤ a.steps + (2 * y.slots + 106)) layout_is none.most in
+              let three = opened.steps in omega (arith, one, two, three);
           is = opened.is
               ∙ (ap (λ (z : View). as_locked [] [] z w) both_are
               ∙ (ap (λ (l : List Key). tried_at l [] b.looked v w) (sym can.unlocked)

@@ -14,12 +14,14 @@ use Rattle.engine_pages.specs.declared.view.Read.{Read}
 use Rattle.engine_pages.specs.declared.view.RefusalCause.{RefusalCause}
 use Rattle.engine_pages.specs.declared.view.RefusalCause.TheVariants as causes
 use Rattle.engine_pages.specs.declared.view.Took.{Took}
+use Rattle.engine_pages.specs.declared.view.Touch.{Touch}
 use Rattle.engine_pages.specs.declared.view.Version.{Version}
 use Rattle.engine_pages.specs.declared.view.View.{View}
 use Rattle.engine_pages.specs.Layout.{page_at}
+use Rattle.engine_pages.specs.Pages.{is_tree}
 use Rattle.engine_pages.specs.Records.{IsTreeRecordAt}
 use Rattle.engine_pages.specs.Steps.{read_at, seen_at}
-use Rattle.engine_pages.specs.Views.{IsActive}
+use Rattle.engine_pages.specs.Views.{seat_number, IsActive}
 use Rattle.engine_pages.specs.Words.{spot, IsSmall}
 use Rattle.page_records.specs.Locks.{locked, opened, took_at, IsOpenWord}
 use Rattle.tree_records.specs.Held.{with_version}
@@ -51,11 +53,21 @@ pub record CanLockRecords (v : View) (t : ℕ) (sp : Span) (keys : List Key) : T
 
 -- ---- what has changed
 
--- words of the leaf's page alone were seen and left, and what was kept is kept as it was
+-- the word with this index stands before the records of a leaf, or is a record's, or that of its value
+abbrev pub IsMetIndex : ℕ → Type 0
+IsMetIndex i = (i < tree_leaf.first)
+    ⊎ ((j : ℕ) × (j < tree_leaf.room) × ((i ≡ word_in tree_leaf j) ⊎ (i ≡ word_in tree_leaf j + 1)))
+
+-- Such words of the leaf's page alone were seen and left, and what was kept is kept as it was; locks were taken of
+-- records of trees alone.
 pub record WorkedIn (t : ℕ) (v w : View) : Type 0 where
   pub since : v.steps ≤ w.steps
+  pub role : w.role ≡ v.role
   pub words : KeepsWords v w
-  pub others : (a : ℕ) → ((i : ℕ) → i < 64 → a ≢ page_at v.layout.slots t i) → seen_at w.reads a ≡ seen_at v.reads a
+  pub others : (a : ℕ) → ((i : ℕ) → IsMetIndex i → a ≢ page_at v.layout.slots t i)
+      → seen_at w.reads a ≡ seen_at v.reads a
+  pub touches : (x : Touch) → Contains w.touched x → Contains v.touched x
+      ⊎ ((x.seat ≡ seat_number v.role) × (is_tree v.layout.decls x.key.storage ≡ true))
   pub versions : (x : Version) → Contains v.versions x → Contains w.versions x
 
 -- the view v with what locks of records change as w has it, and these locks

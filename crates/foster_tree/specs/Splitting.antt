@@ -1,6 +1,6 @@
 -- What it comes to that a full leaf of a tree is split, with one key more.
-use Rattle.std.specs.Prelude.{◌≡◌, ◌≢◌, ◌⊎◌, ℕ, ◌+◌, ◌<◌, ◌≤◌, true, false, List, [], ◌∷◌, ◌++◌, length, get_or, slice_get, take, drop}
-use Rattle.std.specs.Prelude.{nat_lt, slice_set, if◌then◌else◌, Some, None}
+use Rattle.std.specs.Prelude.{◌≡◌, ◌≢◌, ◌⊎◌, ℕ, ◌+◌, ◌*◌, ◌<◌, ◌≤◌, true, false, List, [], ◌∷◌, ◌++◌, length, get_or, slice_get, take, drop}
+use Rattle.std.specs.Prelude.{nat_lt, slice_set, if◌then◌else◌, Some, None, Contains}
 use Rattle.serial_model.specs.declared.key.Key.{Key}
 use Rattle.homes.specs.declared.places.Span.{Span}
 use Rattle.homes.specs.Homes.{has_key, in_span}
@@ -8,6 +8,7 @@ use Rattle.wire_form.specs.Leaves.{tree_leaf}
 use Rattle.commit_core.specs.declared.seat.Stage.TheVariants.{Idle}
 use Rattle.drop_core.specs.Event.{each_once, is_separator, lower_span, upper_span}
 use Rattle.drop_core.specs.Table.{has_slot}
+use Rattle.engine_pages.specs.declared.view.Known.{Known}
 use Rattle.engine_pages.specs.declared.view.NewLeaf.{NewLeaf}
 use Rattle.engine_pages.specs.declared.view.RefusalCause.{RefusalCause}
 use Rattle.engine_pages.specs.declared.view.RefusalCause.TheVariants as causes
@@ -29,6 +30,11 @@ use Rattle.foster_tree.specs.Entries.{AreInOrder}
 use Rattle.foster_tree.specs.Causes.{IsLeafWordChanged}
 use Rattle.foster_tree.specs.Filling.{leaf_of, no_entry, AreLeafEntries}
 use Rattle.foster_tree.specs.Locking.{tooks, IsRead, KnowsFull, RefusesRecord, WorkedIn}
+
+-- a split takes at most so many steps, where there are so many slots: at each of two searches for a slot one for each
+-- slot, and at most 256 for the locks, the records and the halves
+abbrev pub split_steps : ℕ → ℕ
+split_steps slots = 2 * slots + 256
 
 -- ---- what it asks
 
@@ -76,21 +82,24 @@ as_tried v w = record v {
   looked = w.looked;
 }
 
--- The leaf wasn't split: the header or a record had changed, no slot was given, or the holds are full, of which the
--- call looked before any step.
-abbrev pub RefusesSplit : List ℕ → ℕ → RefusalCause → View → View → Type 0
-RefusesSplit slots t (causes.Conflict at expected seen) v w =
-    IsLeafWordChanged t 0 at expected seen v w
+-- The leaf wasn't split: the header, which was last seen as this word, or a record had changed, no slot was given, or the
+-- holds are full, of which the call looked before any step.
+abbrev pub RefusesSplit : List ℕ → ℕ → ℕ → RefusalCause → View → View → Type 0
+RefusesSplit slots t word (causes.Conflict at expected seen) v w =
+    ((expected ≡ word) × IsLeafWordChanged t 0 at expected seen v w)
     ⊎ (RefusesRecord t (causes.Conflict at expected seen) v w ⊎ GaveNone (causes.Conflict at expected seen) v w)
-RefusesSplit slots t (causes.Full held) v w = GaveNone (causes.Full held) v w
-RefusesSplit slots t (causes.Wide set) v w = (set ≡ Holds) × (length slots ≡ 128) × (w ≡ v)
-RefusesSplit slots t (causes.NumberLimit clock) v w = ⊥
+RefusesSplit slots t word (causes.Full held) v w = GaveNone (causes.Full held) v w
+RefusesSplit slots t word (causes.Wide set) v w = (set ≡ Holds) × (length slots ≡ 128) × (w ≡ v)
+RefusesSplit slots t word (causes.NumberLimit clock) v w = ⊥
 
 -- and nothing is locked or made then
-pub record HasNotSplit (slots : List ℕ) (t : ℕ) (why : RefusalCause) (v w : View) : Type 0 where
+pub record HasNotSplit (slots : List ℕ) (t word : ℕ) (why : RefusalCause) (v w : View) : Type 0 where
   pub worked : WorkedIn t v w
+  pub most : w.steps ≤ v.steps + split_steps v.layout.slots
+  pub known : (x : Known) → Contains v.known x → Contains w.known x
+  pub trees : TreesAgree v → TreesAgree w
   pub is : w ≡ as_tried v w
-  pub cause : RefusesSplit slots t why v w
+  pub cause : RefusesSplit slots t word why v w
 
 -- the view v with what a split changes as w has it: the leaf in slot t with these keys leads to its halves, of which
 -- one is held
@@ -124,6 +133,7 @@ pub record HasSplitLeaf (t : ℕ) (sp : Span) (k : Key) (at : ℕ) (v w : View) 
   pub index : ℕ
   pub record_at : IsTreeRecordAt w k (spot half.slot index) at
   pub worked : WorkedIn t v w
+  pub most : w.steps ≤ v.steps + split_steps v.layout.slots
   pub agree : WaysAgree w.ways
   pub trees : TreesAgree w
   pub is : w ≡ as_split t keys lower upper half separator v w
@@ -167,12 +177,14 @@ pub record HasMadeHalves (minor major : ℕ) (sp : Span) (sorted : List Entry) (
   pub major_unheld : has_slot v.grip.holds major ≡ false
   pub apart : minor ≢ major
   pub since : v.steps ≤ w.steps
+  pub most : w.steps ≤ v.steps + (2 * v.layout.slots + 106)
   pub is : w ≡ as_halved minor major sp sorted v w
 
 -- no slot was given for one of them, and the other one was given up
 pub record HasMadeNoHalves (why : RefusalCause) (v w : View) : Type 0 where
   pub gave : GaveNone why v w
   pub since : v.steps ≤ w.steps
+  pub most : w.steps ≤ v.steps + (2 * v.layout.slots + 106)
   pub is : w ≡ record v { steps = w.steps; last = w.last; looked = w.looked }
 
 -- ---- the turn
@@ -252,6 +264,7 @@ pub record HasTurned
   pub index : ℕ
   pub record_at : IsTreeRecordAt w k (spot half.slot index) at
   pub worked : WorkedIn t v w
+  pub steps : w.steps ≡ v.steps + 5
   pub holds : held ≡ slots ++ half.slot ∷ []
   pub agree : WaysAgree w.ways
   pub trees : TreesAgree w
@@ -307,6 +320,7 @@ pub record HasSplitLocked
   pub index : ℕ
   pub record_at : IsTreeRecordAt w k (spot half.slot index) at
   pub worked : WorkedIn t v w
+  pub most : w.steps ≤ v.steps + (2 * v.layout.slots + 200)
   pub holds : held ≡ slots ++ half.slot ∷ []
   pub agree : WaysAgree w.ways
   pub trees : TreesAgree w
@@ -327,5 +341,6 @@ as_tried_locked v w = record v {
 -- a record had changed, or no slot was given; the header alone is locked then, and nothing made
 pub record HasNotSplitLocked (t : ℕ) (why : RefusalCause) (v w : View) : Type 0 where
   pub worked : WorkedIn t v w
+  pub most : w.steps ≤ v.steps + (2 * v.layout.slots + 250)
   pub is : w ≡ as_tried_locked v w
   pub cause : RefusesRecord t why v w ⊎ GaveNone why v w

@@ -30,4 +30,5 @@ mod splitting;
 pub use adding::add_key;
 pub use entries::Entry;
 pub use filling::make_leaf;
+pub use locking::moved_record;
 pub use splitting::split;

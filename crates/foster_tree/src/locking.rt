@@ -8,6 +8,7 @@ ghost use Rattle.foster_tree.specs.Locking.{AreLocked, CanLockRecords, HasLocked
 ghost use Rattle.foster_tree.specs.Locking.{HasNotLockedOne, HasOpenedOne, HasOpenedSome, HeldValue, KnowsFull};
 ghost use Rattle.foster_tree.specs.Locking.{CanOpenOne, RefusesWord};
 ghost use Rattle.foster_tree.specs.Entries.{key_of};
+ghost use Rattle.engine_pages.specs.declared.view.Moved.{Moved};
 ghost use Rattle.engine_pages.specs.declared.view.View.{View};
 ghost use Rattle.page_records.specs.Locks.{took_at};
 ghost use Rattle.serial_model.specs.declared.key.Key.{Key};
@@ -182,4 +183,37 @@ fn held_value(engine: &Engine, pass: &mut Pass, key: Key, spot: Spot, at: u32, w
         return 0;
     }
     load_held(engine, pass, key, spot, at, word)
+}
+
+/// The conflict at the first record of a leaf that the pass knows to be split, which is locked for good. Its word is
+/// loaded twice: so what is expected there is what the step before saw.
+pub fn moved_record(engine: &Engine, pass: &mut Pass, slot: u32, span: Span) -> RefusalCause
+    requires of { IsPassOf engine.now pass.old }
+    requires can { (keys : List Key) × KnowsFull (view pass.old) slot span keys }
+    requires moved { (x : Moved) × Contains (view pass.old).moved x × (x.slot ≡ slot) }
+    ensures of { IsPassOf engine.now pass.new }
+    ensures missed { HasNotLockedOne slot 0 result (view pass.old) (view pass.new) }
+{
+    let place = word_at(engine, slot, FIRST_RECORD);
+    let number = load_word(engine, pass, slot, FIRST_RECORD, place);
+    let key = Key {
+        storage: span.storage,
+        key: number,
+    };
+    let spot = Spot { slot, index: 0 };
+    meet_moved(engine, pass, key, spot, place + 1)
+}
+
+// The conflict at a record of a leaf that the pass knows to be split.
+fn meet_moved(engine: &Engine, pass: &mut Pass, key: Key, spot: Spot, at: u32) -> RefusalCause
+    requires of { IsPassOf engine.now pass.old }
+    requires active { IsActive (view pass.old).role }
+    requires place { IsTreeRecordAt (view pass.old) key spot at }
+    requires moved { (x : Moved) × Contains (view pass.old).moved x × (x.slot ≡ spot.slot) }
+    ensures of { IsPassOf engine.now pass.new }
+    ensures missed { RefusesWord at result (view pass.old) (view pass.new) }
+{
+    let word = load_record(engine, pass, key, spot, at);
+    let again = load_record(engine, pass, key, spot, at);
+    conflict(at, word, again)
 }

@@ -58,7 +58,7 @@ pub fn split(
     ensures split { IfOk result (λ at. HasSplitLeaf slot span key at (view pass.old) (view pass.new)) }
     ensures kept { OnErr result (holds.new ≡ holds.old) }
     ensures missed { IfErr result (λ why.
-        HasNotSplit holds.old slot why (view pass.old) (view pass.new)) }
+        HasNotSplit holds.old slot word why (view pass.old) (view pass.new)) }
 {
     if holds.is_full() {
         return Err(RefusalCause::Wide {

@@ -17,10 +17,11 @@ use Rattle.array_pages.specs.Steps.{RefusesGive}
 use Rattle.foster_tree.proofs.HalfLaws.{missed_searched}
 use Rattle.tree_walks.specs.declared.ways.Bare.{Bare}
 use Rattle.tree_walks.specs.declared.ways.Page.{Page}
-use Rattle.tree_walks.specs.Walks.{CanWalk, HasWalked}
+use Rattle.tree_walks.specs.Walks.{CanWalk, HasWalked, OnlyWaysOn}
 use Rattle.tree_walks.specs.Ways.{IsBareOn, IsWayPointer}
 use Rattle.tree_walks.proofs.KeepLaws.{keeps_pointer}
 use Rattle.tree_walks.proofs.LoadLaws.{IsLoad, follow_load, load_went, trees_by}
+use Rattle.tree_walks.proofs.PathLaws.{follow_paths, paths_same, paths_then}
 use Rattle.tree_walks.proofs.RefusalLaws.{saw_back}
 use Rattle.tree_walks.proofs.StepLaws.{can_after, led_none, led_then, on_stays, only_self, walked_self, word_stays}
 use Rattle.tree_walks.proofs.WayLaws.{pointer_stays}
@@ -38,6 +39,7 @@ way_of k pointers bare v on = record {
   place = bare.place;
   span = bare.span;
   is = on.is;
+  inside = on.inside;
   within = on.within;
   tree = on.tree;
   over = on.over;
@@ -86,6 +88,7 @@ bring_full k pointers headers slots bare bound v can on full = record {
   went = worked_self bound slots v can;
   led = tt;
   keeps = tt;
+  paths = paths_same k v v refl;
   came = tt;
   cause = (
     inr (
@@ -153,6 +156,7 @@ bring_none k pointers headers slots why v w can h =
       };
       led = tt;
       keeps = tt;
+      paths = paths_same k v w (ap (λ (z : View). z.ways) is);
       came = tt;
       cause = by_cause why h grip;
     }
@@ -172,6 +176,7 @@ bring_missed k pointers headers slots bare t why v w puts = record {
   went = worked_more (v.layout.slots + 134) (v.layout.slots + 135) slots v w (omega arith) puts.went;
   led = tt;
   keeps = tt;
+  paths = puts.paths;
   came = tt;
   cause = puts.cause;
 }
@@ -195,6 +200,10 @@ module _ (k : Key) (pointers headers : List Seen) (slots : List ℕ) (bare : Bar
     went =
         worked_then (v.layout.slots + 134) 1 (v.layout.slots + 135) slots slots v d w (omega arith) puts.went once_more
 
+    paths_more : OnlyWaysOn k v w
+    paths_more =
+        paths_then k v d w l.walked puts.paths (follow_paths k bare.span bare.pointer.at d n w on.over f)
+
     -- it isn't as the set has it
     pub bring_changed : (expected : ℕ) → word_at bare.pointer.at pointers ≡ Some expected → n ≢ expected
         → MakesSo (v.layout.slots + 135) k pointers headers slots (IsOn k)
@@ -203,6 +212,7 @@ module _ (k : Key) (pointers headers : List Seen) (slots : List ℕ) (bare : Bar
       went = went;
       led = tt;
       keeps = tt;
+      paths = paths_more;
       came = tt;
       cause = inl record {
         on = pointer_stays k v w bare.pointer.at went.walked (way_of k pointers bare v on);
@@ -223,6 +233,7 @@ module _ (k : Key) (pointers headers : List Seen) (slots : List ℕ) (bare : Bar
         led = led_then k v d w l.walked puts.led (led_none k d w l.grip);
         keeps = keeps_pointer pointers headers bare.pointer.at n v w on.apart (inr set) l.met
             (λ a apart. l.others a apart ∙ puts.others a apart);
+        paths = paths_more;
         came = subst (λ (p : Page). IsOn k p w) (sym is) (on_stays k d w t bare.span l.walked puts.on);
         cause = tt;
       },
@@ -242,6 +253,7 @@ module _ (k : Key) (pointers headers : List Seen) (slots : List ℕ) (bare : Bar
       went = worked_more (v.layout.slots + 134) (v.layout.slots + 135) slots v d (omega arith) puts.went;
       led = puts.led;
       keeps = keeps_pointer pointers headers bare.pointer.at puts.left.0 v d on.apart (inl none) puts.left.1 puts.others;
+      paths = puts.paths;
       came = subst (λ (p : Page). IsOn k p d) (sym is) puts.on;
       cause = tt;
     },

@@ -17,7 +17,8 @@ use Rattle.tree_walks.specs.declared.ways.Leaf.{Leaf}
 use Rattle.tree_walks.specs.Ways.{IsLeafOn}
 use Rattle.tree_walks.proofs.KeepLaws.{keeps_glanced}
 use Rattle.tree_walks.proofs.LoadLaws.{glanced_grip, glanced_walked, glanced_went}
-use Rattle.tree_walks.proofs.StepLaws.{led_none}
+use Rattle.tree_walks.proofs.PathLaws.{paths_glanced}
+use Rattle.tree_walks.proofs.StepLaws.{led_none, on_stays}
 use Rattle.tree_walks.proofs.WayLaws.{leaf_on_glanced, leaf_stays, record_stays}
 use Rattle.tree_making.specs.declared.making.Made.{Made}
 use Rattle.tree_making.specs.declared.making.Made.TheVariants as mades
@@ -36,6 +37,8 @@ pub found_made : (k : Key) (headers : List Seen) (x : Leaf) (index place : ℕ) 
     → place ≡ page_at v.layout.slots x.slot ((16 + 3 * index) + 1) → IsMade k headers (mades.Record place) w
 found_made k headers x index place v w g l at stands = (
   spot x.slot index,
+  x.span,
+  on_stays k v w x.slot x.span (glanced_walked v w g) l.leaf.on,
   record_stays v w k (spot x.slot index) place (glanced_walked v w g) record {
     way = record { slot = x.slot; span = x.span };
     has = l.leaf.on.way;
@@ -67,11 +70,12 @@ pub leaf_done : (b : ℕ) (k : Key) (pointers headers : List Seen) (slots : List
     → IsMade k headers m w → MakesSo (b + 16) k pointers headers slots (IsMade k headers) (Ok m) v w
 leaf_done b k pointers headers slots x m v u w makes g most made =
     makes_on b 16 (b + 16) k pointers headers slots slots (IsMade k headers) (IsMade k headers) m m v u w (omega arith)
-    makes.went makes.led makes.keeps
+    makes.went makes.led makes.paths makes.keeps
     record {
       went = worked_walk 16 slots slots u w makes.went.can (glanced_went 16 slots u w makes.went.can.walks g most);
       led = led_none k u w (glanced_grip u w g);
       keeps = keeps_glanced pointers headers u w g;
+      paths = paths_glanced k u w g;
       came = made;
       cause = tt;
     }
@@ -92,6 +96,7 @@ refused_more b most k pointers headers slots comes ends why v w few h = record {
   };
   led = tt;
   keeps = tt;
+  paths = h.paths;
   came = tt;
   cause = h.cause;
 }

@@ -8,9 +8,10 @@ use Rattle.engine_pages.specs.declared.view.RefusalCause.TheVariants as causes
 use Rattle.engine_pages.specs.declared.view.SetName.TheVariants as sets
 use Rattle.engine_pages.specs.declared.view.View.{View}
 use Rattle.tree_walks.specs.Steps.{GoesSo, Went}
-use Rattle.tree_walks.specs.Walks.{AreLedTo, CanWalk, HasWalked, KeepsMet}
+use Rattle.tree_walks.specs.Walks.{AreLedTo, CanWalk, HasWalked, KeepsMet, OnlyWaysOn}
 use Rattle.tree_walks.specs.Ways.{RefusesWalk}
 use Rattle.tree_walks.proofs.KeepLaws.{keeps_then}
+use Rattle.tree_walks.proofs.PathLaws.{paths_then}
 use Rattle.tree_walks.proofs.RefusalLaws.{refuses_back}
 use Rattle.tree_walks.proofs.StepLaws.{led_then, only_then, role_stays, stage_stays, walked_then}
 use Rattle.tree_making.specs.Making.{CanMake, MakesSo, RefusesMake, Worked}
@@ -120,6 +121,7 @@ walk_makes c k pointers headers slots late comes (Ok a) u w can h = record {
   went = worked_walk c slots late u w can h.went;
   led = h.led;
   keeps = h.keeps;
+  paths = h.paths;
   came = h.came;
   cause = tt;
 }
@@ -127,6 +129,7 @@ walk_makes c k pointers headers slots late comes (Err why) u w can h = record {
   went = worked_walk c slots late u w can h.went;
   led = tt;
   keeps = tt;
+  paths = h.paths;
   came = tt;
   cause = walk_refuses k pointers headers late why u w h.cause;
 }
@@ -134,12 +137,13 @@ walk_makes c k pointers headers slots late comes (Err why) u w can h = record {
 -- a part was refused behind another one
 pub makes_refused : {A B : Type 0} (b c most : ℕ) (k : Key) (pointers headers : List Seen) (slots late : List ℕ)
     (comes : A → View → Type 0) (ends : B → View → Type 0) (why : RefusalCause) (v u w : View) → b + c ≤ most
-    → Worked b slots v u → AreLedTo k v u → MakesSo c k pointers headers late comes (Err why) u w
+    → Worked b slots v u → AreLedTo k v u → OnlyWaysOn k v u → MakesSo c k pointers headers late comes (Err why) u w
     → MakesSo most k pointers headers late ends (Err why) v w
-makes_refused b c most k pointers headers slots late comes ends why v u w few x led h = record {
+makes_refused b c most k pointers headers slots late comes ends why v u w few x led paths h = record {
   went = worked_then b c most slots late v u w few x h.went;
   led = tt;
   keeps = tt;
+  paths = paths_then k v u w h.went.walked paths h.paths;
   came = tt;
   cause = make_back b k pointers headers slots late why v u w x led h.went.walked h.cause;
 }
@@ -147,13 +151,14 @@ makes_refused b c most k pointers headers slots late comes ends why v u w few x 
 -- it came to what is told behind another one
 pub makes_on : {A B : Type 0} (b c most : ℕ) (k : Key) (pointers headers : List Seen) (slots late : List ℕ)
     (comes : A → View → Type 0) (ends : B → View → Type 0) (a : A) (e : B) (v u w : View) → b + c ≤ most
-    → Worked b slots v u → AreLedTo k v u → KeepsMet pointers headers v u
+    → Worked b slots v u → AreLedTo k v u → OnlyWaysOn k v u → KeepsMet pointers headers v u
     → MakesSo c k pointers headers late comes (Ok a) u w → ends e w
     → MakesSo most k pointers headers late ends (Ok e) v w
-makes_on b c most k pointers headers slots late comes ends a e v u w few x led keeps h end = record {
+makes_on b c most k pointers headers slots late comes ends a e v u w few x led paths keeps h end = record {
   went = worked_then b c most slots late v u w few x h.went;
   led = led_then k v u w h.went.walked led h.led;
   keeps = keeps_then pointers headers v u w x.walked keeps h.keeps;
+  paths = paths_then k v u w h.went.walked paths h.paths;
   came = end;
   cause = tt;
 }
@@ -161,9 +166,9 @@ makes_on b c most k pointers headers slots late comes ends a e v u w few x led k
 -- the same of any answer that is handed on
 pub makes_behind : {A : Type 0} (b c most : ℕ) (k : Key) (pointers headers : List Seen) (slots late : List ℕ)
     (comes : A → View → Type 0) (r : Result A RefusalCause) (v u w : View) → b + c ≤ most → Worked b slots v u
-    → AreLedTo k v u → KeepsMet pointers headers v u → MakesSo c k pointers headers late comes r u w
+    → AreLedTo k v u → OnlyWaysOn k v u → KeepsMet pointers headers v u → MakesSo c k pointers headers late comes r u w
     → MakesSo most k pointers headers late comes r v w
-makes_behind b c most k pointers headers slots late comes (Ok a) v u w few x led keeps h =
-    makes_on b c most k pointers headers slots late comes comes a a v u w few x led keeps h h.came
-makes_behind b c most k pointers headers slots late comes (Err why) v u w few x led keeps h =
-    makes_refused b c most k pointers headers slots late comes comes why v u w few x led h
+makes_behind b c most k pointers headers slots late comes (Ok a) v u w few x led paths keeps h =
+    makes_on b c most k pointers headers slots late comes comes a a v u w few x led paths keeps h h.came
+makes_behind b c most k pointers headers slots late comes (Err why) v u w few x led paths keeps h =
+    makes_refused b c most k pointers headers slots late comes comes why v u w few x led paths h

@@ -1,15 +1,16 @@
 -- What it comes to that a page is put in below a pointer.
-use Rattle.std.proofs.Common.{◌≡◌, ◌≢◌, inl, inr, ℕ, ◌+◌, ◌<◌, Bool, true, false, cond, eqb, eq-eqb}
+use Rattle.std.proofs.Common.{◌≡◌, ◌≢◌, ◌⊎◌, inl, inr, ℕ, ◌+◌, ◌<◌, Bool, true, false, cond, eqb, eq-eqb}
 use Rattle.std.proofs.Common.{List, [], ◌∷◌, ◌++◌, length, refl, sym, ap, ◌∙◌, subst, arith, Option, Some}
 use Rattle.std.specs.Prelude.{not, Ok, Err}
 use Rattle.std.specs.List.{Contains}
 use Rattle.std.proofs.lemmas.Bool.{or_left, or_right}
-use Rattle.lists.specs.Elements.{in_head, in_tail}
+use Rattle.lists.specs.Elements.{in_cases, in_head, in_tail}
 use Rattle.lists.specs.Fronts.{front_refl}
 use Rattle.serial_model.specs.declared.key.Key.{Key}
 use Rattle.homes.specs.declared.places.At.{At}
 use Rattle.homes.specs.declared.places.At.TheVariants.{Root, In}
 use Rattle.homes.specs.declared.places.Span.{Span}
+use Rattle.homes.specs.Homes.{in_span}
 use Rattle.drop_core.specs.Event.{without}
 use Rattle.drop_core.specs.Table.{has_slot}
 use Rattle.tx_sets.specs.declared.seen.Seen.{Seen}
@@ -36,11 +37,21 @@ use Rattle.tree_walks.specs.Walks.{as_walked, HasWalked}
 use Rattle.tree_walks.specs.Ways.{IsBareOn, IsOnWay}
 use Rattle.tree_walks.proofs.EnterLaws.{enter_new}
 use Rattle.tree_walks.proofs.LoadLaws.{trees_by}
+use Rattle.tree_walks.proofs.PathLaws.{paths_same}
 use Rattle.tree_walks.proofs.StepLaws.{can_by, led_new, only_but, slots_stay, tree_stays, word_stays}
 use Rattle.tree_walks.proofs.WayLaws.{pointer_stays}
 use Rattle.tree_making.specs.Making.{CanMake}
 use Rattle.tree_making.specs.Pages.{as_paged, HasPage, PutsSo}
 use Rattle.tree_making.proofs.MakeLaws.{make_after}
+
+-- a way is one of before, or the new one
+way_cases : (b : Bool) (t : ℕ) (sp : Span) (ways : List Way) (x : Way) → Contains (ways_if b t sp ways) x
+    → Contains ways x ⊎ ((let y : Way = record { slot = t; span = sp } in y) ≡ x)
+way_cases true t sp ways x has = elim (in_cases x (record { slot = t; span = sp }) ways has) [
+  | inl same ↦ inr same
+  | inr old ↦ inl old
+]
+way_cases false t sp ways x has = inl has
 
 -- a pointer's place is known where the same pages are
 pub place_same : (v w : View) (x : At) (span : Span) (at : ℕ) → w.layout ≡ v.layout → w.ways ≡ v.ways → w.inners ≡ v.inners
@@ -210,6 +221,11 @@ module _ (k : Key) (pointers headers : List Seen) (slots : List ℕ) (bare : Bar
           met = only_but bare.pointer.at v e (word_stays v e bare.pointer.at walk on.known) others;
         };
         led = led_new k t bare.span v e stands (only_new e holds);
+        paths = λ x has. elim (way_cases (has_slot (t ∷ v.grip.holds) t) t bare.span v.ways x
+            (subst (λ (z : View). Contains z.ways x) is has)) [
+              | inl old ↦ inl old
+              | inr same ↦ inr (inl (subst (λ (y : Way). in_span y.span k ≡ true) same on.over))
+            ];
         others = others;
         left = (
           leading_word n t,
@@ -299,6 +315,7 @@ module _ (k : Key) (pointers headers : List Seen) (slots : List ℕ) (bare : Bar
           met = only_but bare.pointer.at v f (word_stays v f bare.pointer.at walk on.known) others;
         };
         led = tt;
+        paths = paths_same k v f (ap (λ (z : View). z.ways) is);
         others = others;
         left = tt;
         more = tt;
@@ -309,6 +326,7 @@ module _ (k : Key) (pointers headers : List Seen) (slots : List ℕ) (bare : Bar
                 place = bare.place;
                 span = bare.span;
                 is = on.is;
+                inside = on.inside;
                 within = on.within;
                 tree = on.tree;
                 over = on.over;

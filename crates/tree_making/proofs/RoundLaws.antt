@@ -131,7 +131,8 @@ module _ (k : Key) (pointers headers : List Seen) (slots : List ℕ) (end : End)
         (unheld v.layout.slots u.grip.holds) (way_steps v.layout.slots) h.room
         (fewer_left v u w h.makes.went.walked makes.went.walked more);
     makes = makes_behind h.bound (page_steps v.layout.slots) (h.bound + page_steps v.layout.slots) k pointers headers
-        slots late (HasCome k pointers headers) (Ok next) v u w (omega arith) h.makes.went h.makes.led h.makes.keeps
+        slots late (HasCome k pointers headers) (Ok next) v u w (omega arith) h.makes.went h.makes.led h.makes.paths
+        h.makes.keeps
         (subst (λ (y : Layout). MakesSo (page_steps y.slots) k pointers headers late (HasCome k pointers headers) (Ok next)
         u w) (layout_stays v u h.makes.went.walked) makes);
   }
@@ -144,7 +145,7 @@ module _ (k : Key) (pointers headers : List Seen) (slots : List ℕ) (end : End)
       makes_refused h.bound (page_steps v.layout.slots) (way_steps v.layout.slots) k pointers headers slots late
       (HasCome k pointers headers) (IsLeafOn k headers) why v u w
       (bound_one h.bound (unheld v.layout.slots u.grip.holds) (page_steps v.layout.slots) (way_steps v.layout.slots) h.room)
-      h.makes.went h.makes.led
+      h.makes.went h.makes.led h.makes.paths
       (subst (λ (y : Layout). MakesSo (page_steps y.slots) k pointers headers late (HasCome k pointers headers) (Err why)
       u w) (layout_stays v u h.makes.went.walked) makes)
 
@@ -157,6 +158,7 @@ module _ (k : Key) (pointers headers : List Seen) (slots : List ℕ) (end : End)
         h.room) h.makes.went;
     led = h.makes.led;
     keeps = h.makes.keeps;
+    paths = h.makes.paths;
     came = subst (λ (e : End). HasCome k pointers headers e u) is h.makes.came;
     cause = tt;
   }

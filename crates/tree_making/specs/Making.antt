@@ -2,6 +2,7 @@
 use Rattle.std.specs.Prelude.{◌≡◌, ◌⊎◌, ℕ, ◌+◌, ◌*◌, ◌^◌, ◌<◌, ◌≤◌, false, List, [], length, Option, Result, Some}
 use Rattle.std.specs.Prelude.{IfOk, IfErr, OnOk}
 use Rattle.serial_model.specs.declared.key.Key.{Key}
+use Rattle.homes.specs.declared.places.Span.{Span}
 use Rattle.homes.specs.declared.places.Spot.{Spot}
 use Rattle.homes.specs.Homes.{has_key}
 use Rattle.commit_core.specs.declared.seat.Stage.TheVariants.{Idle}
@@ -16,7 +17,7 @@ use Rattle.engine_pages.specs.Records.{IsTreeRecordAt}
 use Rattle.engine_pages.specs.Steps.{seen_at}
 use Rattle.page_pool.specs.Pool.{IsChanged, IsFull}
 use Rattle.tree_walks.specs.declared.ways.Page.{Page}
-use Rattle.tree_walks.specs.Walks.{walk_steps, AreLedTo, CanWalk, HasWalked, KeepsMet, KeepsWords, OnlyTrees}
+use Rattle.tree_walks.specs.Walks.{walk_steps, AreLedTo, CanWalk, HasWalked, KeepsMet, KeepsWords, OnlyTrees, OnlyWaysOn}
 use Rattle.tree_walks.specs.Ways.{IsHeaderChanged, IsHeldWide, IsLeafOn, IsOnWay, IsPointerChanged, IsWayPointer}
 use Rattle.foster_tree.specs.Splitting.{HasMadeNothing}
 use Rattle.tree_making.specs.declared.making.Made.{Made}
@@ -36,10 +37,11 @@ pub record CanMake (slots : List ℕ) (v : View) : Type 0 where
 
 -- ---- what it comes to
 
--- The key's record stands in a leaf that the pass holds, and its word is here; or the leaf in memory on the way to the
+-- The key's record stands in a leaf on the way to the key, which the pass holds, and its word is here; or the leaf in memory on the way to the
 -- key, which wasn't split, has no record of it.
 abbrev pub IsMade : Key → List Seen → Made → View → Type 0
-IsMade k headers (mades.Record at) w = (x : Spot) × IsTreeRecordAt w k x at
+IsMade k headers (mades.Record at) w =
+    (x : Spot) × (sp : Span) × IsOnWay k w x.slot sp × IsTreeRecordAt w k x at
 IsMade k headers (mades.Lacking leaf) w = (h : IsLeafOn k headers leaf w) × (has_key h.leaf.keys k ≡ false)
 
 -- ---- refusals
@@ -103,6 +105,7 @@ pub record MakesSo {A : Type 0}
   pub went : Worked bound slots v w
   pub led : OnOk r (AreLedTo k v w)
   pub keeps : OnOk r (KeepsMet pointers headers v w)
+  pub paths : OnlyWaysOn k v w
   pub came : IfOk r (λ a. comes a w)
   pub cause : IfErr r (λ why. RefusesMake k pointers headers slots why v w)
 

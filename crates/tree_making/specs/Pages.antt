@@ -19,7 +19,7 @@ use Rattle.dual_pointer.specs.Copies.{IsLeadOf}
 use Rattle.dual_pointer.specs.Installs.{IsInnerFor, IsLeafFor}
 use Rattle.array_pages.specs.Snapshots.{CanLook}
 use Rattle.tree_walks.specs.declared.ways.Bare.{Bare}
-use Rattle.tree_walks.specs.Walks.{AreLedTo}
+use Rattle.tree_walks.specs.Walks.{AreLedTo, OnlyWaysOn}
 use Rattle.tree_walks.specs.Ways.{IsOnWay}
 use Rattle.serial_model.specs.Decls.{AreDecls}
 use Rattle.foster_tree.specs.Splitting.{HasMadeNothing}
@@ -79,6 +79,7 @@ pub record PutsSo
     (r : Result (Unit {0}) RefusalCause) (v w : View) : Type 0 where
   pub went : Worked (v.layout.slots + 134) slots v w
   pub led : OnOk r (AreLedTo k v w)
+  pub paths : OnlyWaysOn k v w
   pub others : (a : ℕ) → a ≢ bare.pointer.at → seen_at w.reads a ≡ seen_at v.reads a
   pub left : OnOk r ((n : ℕ) × (seen_at w.reads bare.pointer.at ≡ Some n))
   pub more : OnOk r (HoldsMore v w)

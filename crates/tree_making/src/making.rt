@@ -8,7 +8,7 @@ ghost use Rattle.engine_pages.specs.Views.{IsActive};
 ghost use Rattle.tree_making.specs.Making.{make_steps, page_steps, way_steps, CanMake, IsMade, MakesSo};
 ghost use Rattle.tree_making.specs.Making.{RefusesMake};
 ghost use Rattle.tree_making.specs.Pages.{HoldsMore};
-ghost use Rattle.tree_walks.specs.Walks.{AreLedTo, HasWalked, KeepsMet, KeepsWords, OnlyTrees};
+ghost use Rattle.tree_walks.specs.Walks.{AreLedTo, HasWalked, KeepsMet, KeepsWords, OnlyTrees, OnlyWaysOn};
 ghost use Rattle.tree_walks.specs.Ways.{HasCome, IsBareOn, IsLeafOn};
 ghost use Rattle.tx_sets.specs.declared.seen.Seen.{Seen};
 
@@ -59,6 +59,7 @@ pub fn make_volatile(
     ensures words { KeepsWords (view pass.old) (view pass.new) }
     ensures met { OnlyTrees (view pass.old) (view pass.new) }
     ensures led { OnOk result (AreLedTo key (view pass.old) (view pass.new)) }
+    ensures paths { OnlyWaysOn key (view pass.old) (view pass.new) }
     ensures keeps { OnOk result
         (KeepsMet pointers.now headers.now (view pass.old) (view pass.new)) }
     ensures made { IfOk result (λ made. IsMade key headers.now made (view pass.new)) }

@@ -24,7 +24,8 @@ retire-requires-clause-may c =
 pub returns-in-Ok-clause-made : goal.returns-in-Ok-clause-made
 returns-in-Ok-clause-made c = (
   made_both c.in_ok-minor.minor c.in-Ok.major c.args.span c.args.sorted.now (view c.args.pass.now)
-      (view c.make_leaf.new.pass) (view c.make_leaf-2.new.pass) c.requires.nothing c.in_ok-minor.ensures.made
+      (view c.make_leaf.new.pass) (view c.make_leaf-2.new.pass) c.requires.nothing c.requires.halves.lower.few
+      c.requires.halves.upper.few c.in_ok-minor.ensures.made
       (subst (λ (l : List Entry). HasMadeLeaf c.in-Ok.major (upper_span c.args.span (separator_of c.args.sorted.now)) l
       (view c.make_leaf.new.pass) (view c.make_leaf-2.new.pass)) (mid_is c.args.sorted.now c.requires.halves.many)
       c.in-Ok.ensures.made),

@@ -20,7 +20,7 @@ returns-then-seen-word-clause-missed c =
     let u = view c.lock_header-seen.new.pass in
     let placed : c.word_at-at.result ≡ page_at v.layout.slots c.args.slot 0 =
     c.word_at-at.ensures ∙ ap (λ (l : Layout). page_at l.slots c.args.slot 0) (sym c.requires.of.layout) in
-    subst (λ (r : RefusalCause). HasNotSplit c.args.holds.now c.args.slot r v u) (sym c.conflict.ensures)
+    subst (λ (r : RefusalCause). HasNotSplit c.args.holds.now c.args.slot c.args.word r v u) (sym c.conflict.ensures)
     (leaf_changed c.args.holds.now c.args.slot c.word_at-at.result c.args.word c.lock_header-seen.result c.args.span
     c.args.key v u c.requires.can placed
     (was_changed c.args.slot c.word_at-at.result c.args.word c.lock_header-seen.result c.args.span v u

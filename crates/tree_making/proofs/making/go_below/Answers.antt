@@ -38,7 +38,7 @@ returns-clause-makes c =
     makes_behind (v.layout.slots + 135) 4480 (page_steps v.layout.slots) c.args.key c.args.pointers.now
     c.args.headers.now c.bring.new.holds c.go_down_from.new.holds
     (HasCome c.args.key c.args.pointers.now c.args.headers.now) c.go_down_from.result v u w (omega arith) brings.went
-    brings.led brings.keeps
+    brings.led brings.paths brings.keeps
     (walk_makes 4480 c.args.key c.args.pointers.now c.args.headers.now c.bring.new.holds c.go_down_from.new.holds
     (HasCome c.args.key c.args.pointers.now c.args.headers.now) c.go_down_from.result u w brings.went.can
     c.go_down_from.ensures.goes)

@@ -34,6 +34,7 @@ returns-in_err-end-clause-makes c =
       };
       led = tt;
       keeps = tt;
+      paths = c.in_err-end.ensures.paths;
       came = tt;
       cause = c.in_err-end.ensures.cause;
     }))
@@ -57,6 +58,7 @@ loop-end-init c = record {
         };
         led = c.in_ok-end.ensures.led;
         keeps = c.in_ok-end.ensures.keeps;
+        paths = c.in_ok-end.ensures.paths;
         came = c.in_ok-end.ensures.came;
         cause = tt;
       });

@@ -1,7 +1,7 @@
 -- Where records of arrays and of trees stand: each word is of one key, and from its place and its key follows which record
 -- it is of.
 use Rattle.std.proofs.Common.{◌≡◌, ◌≢◌, inl, inr, ℕ, ◌+◌, ◌-◌, ◌*◌, ◌/◌, ◌%◌, ◌<◌, Bool, true, false, cond}
-use Rattle.std.proofs.Common.{List, [], Some, refl, sym, ap, ◌∙◌, subst, arith}
+use Rattle.std.proofs.Common.{List, [], ◌∷◌, zero, suc, length, Some, refl, sym, ap, ◌∙◌, subst, arith}
 use Rattle.std.specs.Prelude.{Contains, slice_get, ◌⊎◌}
 use Rattle.lists.specs.Elements.{at_in, in_none}
 use Rattle.serial_model.specs.declared.key.Key.{Key}
@@ -13,17 +13,21 @@ use Rattle.wire_form.specs.Leaves.{tree_leaf, word_in}
 use Rattle.engine_pages.specs.declared.view.Inner.{Inner}
 use Rattle.engine_pages.specs.declared.view.View.{View}
 use Rattle.engine_pages.specs.declared.view.Way.{Way}
+use Rattle.engine_pages.specs.declared.engine.Engine.{Engine}
+use Rattle.engine_pages.specs.declared.layout.Layout.{Layout}
+use Rattle.engine_pages.specs.Passes.{Pass, view, IsPassOf}
 use Rattle.engine_pages.specs.Agreement.{KnownAgree, TreesAgree}
 use Rattle.engine_pages.specs.Layout.{page_at}
-use Rattle.engine_pages.specs.Pages.{decl_of, is_array}
+use Rattle.engine_pages.specs.Pages.{decl_of, is_array, is_tree}
+use Rattle.page_records.specs.Ends.{IsLeafWordAt}
 use Rattle.engine_pages.specs.Pointers.{WaysAgree, one_kind}
 use Rattle.engine_pages.specs.Records.{IsAnyRecordAt, IsRecordAt, IsTreeRecordAt, IsTreeRecordIn}
 use Rattle.engine_pages.specs.Steps.{seen_at}
 use Rattle.tx_sets.specs.declared.sets.Sets.{Sets}
 use Rattle.page_commit.specs.Live.{read_word, IsHeadIn, IsLive, IsTreeWordIn, StandsIn}
-use Rattle.page_commit.specs.Places.{ground, spot_at, spot_for, tree_spot, word_of, Ground, IsAnyKeyIn, IsKeyIn}
-use Rattle.page_commit.specs.Places.{IsKeyAt, IsPointerIn, IsTreeKeyIn}
-use Rattle.page_commit.proofs.GrowLaws.{entry_at, key_grown, no_value, record_stands, tree_key_grown, value_stands}
+use Rattle.page_commit.specs.Places.{ground, slot_of, spot_at, spot_for, tree_spot, word_of, Ground, IsAnyKeyIn, IsKeyIn}
+use Rattle.page_commit.specs.Places.{IsAnyKeyAt, IsPointerIn, IsTreeKeyIn}
+use Rattle.page_commit.proofs.GrowLaws.{entry_at, no_value, record_stands, value_stands}
 use Rattle.page_commit.proofs.GrowLaws.{KnowsMore}
 use Rattle.page_commit.proofs.PlaceLaws.{key_array, no_pointer, one_key, one_place}
 
@@ -78,11 +82,11 @@ tree_record g k at p = record {
 -- ---- kinds
 
 -- the way into a tree's leaf is over keys of its storage
-tree_storage : (g : Ground) (k : Key) (at : ℕ) → (p : IsTreeKeyIn g k at) → p.way.span.storage ≡ k.storage
+pub tree_storage : (g : Ground) (k : Key) (at : ℕ) → (p : IsTreeKeyIn g k at) → p.way.span.storage ≡ k.storage
 tree_storage g k at p = sym (in_span-parts p.way.span k p.over).0
 
 -- a way into an array's page isn't one into a tree's leaf
-no_both : (g : Ground) (k : Key) (at : ℕ) (way : Way) → WaysAgree g.ways → (p : IsTreeKeyIn g k at)
+pub no_both : (g : Ground) (k : Key) (at : ℕ) (way : Way) → WaysAgree g.ways → (p : IsTreeKeyIn g k at)
     → Contains g.ways way → way.slot ≡ p.way.slot → is_array g.layout.decls way.span.storage ≡ true → ⊥
 no_both g k at way agree p has slot array =
     let same = agree way p.way has p.has slot in
@@ -144,24 +148,26 @@ any_one_place g k q at other agree (inr a) (inr b) same =
     ∙ (ap (λ (x : Spot). page_at g.layout.slots x.slot (word_in tree_leaf x.index)) spot
     ∙ sym b.word)
 
--- a record's word is no pointer's of an array
-pub any_no_pointer : (g : Ground) (k : Key) (sp : Span) (at : ℕ) → WaysAgree g.ways → IsAnyKeyIn g k at
-    → IsPointerIn g sp at → ⊥
-any_no_pointer g k sp at agree (inl a) p = no_pointer g k sp at agree a p
-any_no_pointer g k sp at agree (inr a) (inl r) =
+none_at : (i : ℕ) (k : Key) → slice_get [] i ≡ Some k → ⊥
+none_at i k is = in_none k (at_in [] i k is)
+
+-- a record's word is no pointer's
+pub any_no_pointer : (v : View) (k : Key) (sp : Span) (at : ℕ) → WaysAgree v.ways → TreesAgree v
+    → IsAnyKeyIn (ground v) k at → IsPointerIn (ground v) sp at → ⊥
+any_no_pointer v k sp at agree trees (inl a) p = no_pointer (ground v) k sp at agree a p
+any_no_pointer v k sp at agree trees (inr a) (inl r) =
     let w : at
-    ≡ ((32 + g.layout.slots) + 64 * ((at - (32 + g.layout.slots)) / 64))
-    + (1 + (16 + 3 * (((at - (32 + g.layout.slots)) % 64 - 17) / 3))) = a.word in
+    ≡ ((32 + v.layout.slots) + 64 * ((at - (32 + v.layout.slots)) / 64))
+    + (1 + (16 + 3 * (((at - (32 + v.layout.slots)) % 64 - 17) / 3))) = a.word in
     let few = r.few in let is : at ≡ 10 + r.root = r.word in absurd (omega (arith, w, few, is))
-any_no_pointer g k sp at agree (inr a) (inr c) =
-    no_both g k at c.way agree a c.has (c.slot ∙ sym a.slot) c.kind
+any_no_pointer v k sp at agree trees (inr a) (inr (inl c)) =
+    no_both (ground v) k at c.way agree a c.has (c.slot ∙ sym a.slot) c.kind
+any_no_pointer v k sp at agree trees (inr a) (inr (inr b)) =
+    let none : a.leaf.keys ≡ [] = trees.apart a.leaf b.inner a.knows b.knows (a.same ∙ sym b.same) in
+    none_at (tree_spot v.layout.slots at).index k
+    (subst (λ (l : List Key). slice_get l (tree_spot v.layout.slots at).index ≡ Some k) none a.key)
 
 -- ---- what stays, and where it stands
-
-pub any_grown : (v w : View) (k : Key) (at : ℕ) → KnowsMore v w → IsAnyKeyIn (ground v) k at
-    → IsAnyKeyIn (ground w) k at
-any_grown v w k at more (inl p) = inl (key_grown v w k at more p)
-any_grown v w k at more (inr p) = inr (tree_key_grown v w k at more p)
 
 pub any_stands : (v : View) (k : Key) (at : ℕ) → IsAnyKeyIn (ground v) k at → StandsIn (ground v) at
 any_stands v k at (inl p) = record_stands v k at p
@@ -208,9 +214,6 @@ any_no_value v k q at other agree (inr a) (inr b) = λ same.
     absurd (omega (arith, index, further, one, two, same))
 
 -- ---- words beside records
-
-none_at : (i : ℕ) (k : Key) → slice_get [] i ≡ Some k → ⊥
-none_at i k is = in_none k (at_in [] i k is)
 
 -- what stands before records, or in an interior page, is no record's word
 pub head_apart : (v : View) (k : Key) (at : ℕ) → WaysAgree v.ways → TreesAgree v → IsAnyKeyIn (ground v) k at
@@ -261,6 +264,48 @@ pub met_tree : (sets : Sets) (v w : View) (k : Key) (at n : ℕ) → IsLive sets
     → IsTreeKeyIn (ground w) k at → read_word at sets.reads ≡ Some n → seen_at v.reads at ≡ Some n
 met_tree sets v w k at n live more agree p is =
     let e = entry_at sets.reads at n is in
-    let r = live.parts.reads e.0 e.1 in
-    let here : IsKeyAt v e.0.key at = subst (IsKeyAt v e.0.key) e.2 r.2.place in
-    live.met.arrays e.0.key at here refl ∙ is
+    by_place e.0.key (subst (IsAnyKeyAt v e.0.key) e.2 (live.parts.reads e.0 e.1).2.place)
+  where
+    by_place : (q : Key) → IsAnyKeyAt v q at → seen_at v.reads at ≡ Some n
+    by_place q (inl a) = live.met.arrays q at a refl ∙ is
+    by_place q (inr t) = live.met.trees q at n t refl is
+
+-- ---- a word of a known leaf
+
+below_length : (keys : List Key) (i : ℕ) (k : Key) → slice_get keys i ≡ Some k → i < length keys
+below_length [] i k is = absurd (none_at i k is)
+below_length (x ∷ keys) zero k is = omega arith
+below_length (x ∷ keys) (suc i) k is = let rest = below_length keys i k is in omega (arith, rest)
+
+-- the record's word is one of a known leaf
+pub leaf_of : (v : View) (k : Key) (at : ℕ) → IsTreeKeyIn (ground v) k at
+    → IsLeafWordAt v (slot_of v.layout.slots at) (word_in tree_leaf (tree_spot v.layout.slots at).index) at
+leaf_of v k at p =
+    let kind : is_tree v.layout.decls p.way.span.storage ≡ true =
+    subst (λ (s : ℕ). is_tree v.layout.decls s ≡ true) (sym (tree_storage (ground v) k at p)) p.kind in
+    let low : ((at - (32 + v.layout.slots)) % 64 - 17) / 3 < 16 = p.index in record {
+      word = record {
+        way = p.way;
+        has = p.has;
+        slot = p.slot;
+        kind = kind;
+        there = p.there;
+        index = let less : 1 + (16 + 3 * (((at - (32 + v.layout.slots)) % 64 - 17) / 3)) < 64 = omega (arith, low) in less;
+        word = p.word;
+      };
+      leaf = p.leaf;
+      knows = p.knows;
+      same = p.same;
+      is = inr (
+        (tree_spot v.layout.slots at).index,
+        below_length p.leaf.keys (tree_spot v.layout.slots at).index k p.key,
+        refl,
+      );
+    }
+
+-- ---- the place that a call picks
+
+-- it is the same in all passes of an engine
+pub spot_same : (e : Engine) (p q : Pass) (k : Key) (at : ℕ) → IsPassOf e p → IsPassOf e q
+    → spot_for (view p).layout k at ≡ spot_for (view q).layout k at
+spot_same e p q k at of of' = ap (λ (l : Layout). spot_for l k at) (of.layout ∙ sym of'.layout)

@@ -14,6 +14,7 @@ use Rattle.array_pages.specs.Making.{CanMake, HasMade}
 use Rattle.array_pages.specs.Spans.{IsArrayKey}
 use Rattle.array_pages.specs.Walks.{AreLedTo, HasWalked, KeepsWords, OnlyWaysTo}
 use Rattle.page_commit.specs.Live.{entry_places, AreMet, AreParts, ArePointersKept, ArePointersMet, IsLive}
+use Rattle.engine_pages.specs.Pointers.{WaysAgree}
 use Rattle.page_commit.specs.HeaderParts.{AreHeaders}
 use Rattle.page_commit.specs.Keeping.{HasBrought}
 use Rattle.page_commit.proofs.GrowLaws.{key_here, knows_more, met_pointer_grown, read_grown, spot_of_word}
@@ -24,10 +25,11 @@ use Rattle.page_commit.proofs.WalkedLaws.{beside_arrays}
 use Rattle.page_commit.proofs.WalkedLaws.{only_walked_same, points_walked}
 
 -- the parts are those that were kept, where the pass knows more
-pub parts_grown : (sets new : Sets) (v w : View) → IsLive sets v → KnowsMore v w → new.reads ≡ sets.reads
+pub parts_grown : (sets new : Sets) (v w : View) → IsLive sets v → WaysAgree w.ways → KnowsMore v w
+    → new.reads ≡ sets.reads
     → new.pointers ≡ sets.pointers → new.headers ≡ sets.headers → w.seat.kept ≡ v.seat.kept
     → AreParts new w w.seat.kept
-parts_grown sets new v w live more reads pointers headers kept = subst (AreParts new w) (sym kept) record {
+parts_grown sets new v w live agree more reads pointers headers kept = subst (AreParts new w) (sym kept) record {
   known = λ part has. elim (live.parts.known part has) [
     | inl r ↦ inl (
       r.0,
@@ -38,7 +40,7 @@ parts_grown sets new v w live more reads pointers headers kept = subst (AreParts
       | inl r ↦ inl (
         r.0,
         subst (λ (l : List Seen). Contains l r.0) (sym pointers) r.1,
-        met_pointer_grown v w r.0 part live.decls more r.2,
+        met_pointer_grown v w r.0 part live.decls agree more r.2,
       )
       | inr r ↦ inr (
         r.0,
@@ -52,7 +54,7 @@ parts_grown sets new v w live more reads pointers headers kept = subst (AreParts
       (r.0, r.1, read_grown v w e r.0 more r.2);
   pointers = λ p has.
       let r = live.parts.pointers p (subst (λ (l : List Seen). Contains l p) pointers has) in
-      (r.0, r.1, met_pointer_grown v w p r.0 live.decls more r.2);
+      (r.0, r.1, met_pointer_grown v w p r.0 live.decls agree more r.2);
   headers = λ h has.
       let r = live.parts.headers h (subst (λ (l : List Seen). Contains l h) headers has) in
       (r.0, r.1, header_grown v w h r.0 more r.2);
@@ -68,13 +70,14 @@ brought sets new v w k at live walk can kept words paths led made reads pointers
     let agree = can.walks.agree in
     let decls = can.walks.declared in record {
       live = live_walked sets new v w live walk can.walks record {
-        parts = parts_grown sets new v w live more reads pointers headers kept;
+        parts = parts_grown sets new v w live agree more reads pointers headers kept;
         places = subst (λ (l : List ReadEntry). AreDistinct (entry_places l)) (sym reads) live.places;
         once = subst (λ (l : List Seen). AreDistinct (places_of l)) (sym pointers) live.once;
         writes = writes;
         met = subst (λ (l : List ReadEntry). AreMet l [] w) (sym reads)
             (met_only sets v w live more agree can.walks.trees decls (beside_arrays v w made.others));
-        points = subst (λ (l : List Seen). ArePointersMet l w) (sym pointers) (points_walked sets v w live made.keeps);
+        points = subst (λ (l : List Seen). ArePointersMet l w) (sym pointers) (points_walked sets v w live more agree decls
+            (λ sp p has b. made.others p.at) made.keeps);
         kept = subst (λ (l : List Seen). ArePointersKept l w) (sym pointers) (kept_walked sets v w live words);
         headers = subst (λ (l : List Seen). AreHeaders l w) (sym headers)
             (headers_walked sets v w live more agree decls made.others (λ h has. words h.at));
@@ -85,6 +88,7 @@ brought sets new v w k at live walk can kept words paths led made reads pointers
       paths = paths;
       held = held_to k sets.holds new.holds v w live.holds can.walks.holds led;
       kept = kept;
+      touched = ap (λ (y : View). y.touched) walk.is;
       reads = reads;
       pointers = pointers;
       writes = writes;

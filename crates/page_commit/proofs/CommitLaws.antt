@@ -1,6 +1,6 @@
 -- A commit as its calls follow each other: by the slices of the sets, and where a lock or a check failed.
 use Rattle.std.proofs.Common.{◌≡◌, ◌⊎◌, inl, inr, ℕ, zero, suc, ◌+◌, ◌≤◌, true, false, true≢false, List, [], ◌∷◌}
-use Rattle.std.proofs.Common.{◌++◌, length, take, sym, ap, ◌∙◌, subst, arith, refl}
+use Rattle.std.proofs.Common.{◌++◌, length, take, sym, ap, ◌∙◌, subst, arith, refl, Some, None}
 use Rattle.std.specs.Prelude.{Contains, ◌||◌}
 use Rattle.std.specs.List.{AllByRecursion}
 use Rattle.std.proofs.lemmas.Bool.{cases_Bool, or_left, or_right}
@@ -31,18 +31,23 @@ use Rattle.engine_pages.specs.declared.view.Touch.{Touch}
 use Rattle.engine_pages.specs.Views.{seat_number, IsActive}
 use Rattle.page_commit.specs.Committing.{changes_of, touches_of, HasCommitted, RefusesCommit, TookOnly, IsRecordOf}
 use Rattle.page_commit.specs.Live.{AreMet, IsWriteOf, IsLive, HasHolds}
-use Rattle.page_commit.specs.Refusing.{HasRefused, IsConflict, IsConflictAt, IsPointerConflict}
+use Rattle.page_commit.specs.Refusing.{HasRefused, IsConflictAt, IsPointerConflict, IsTreeConflict}
 use Rattle.page_commit.specs.Steps.{AreAsRead, AreSmall, KeepOthers, CanCommit, HasLocked, HasLockedAll, HasLocks}
 use Rattle.page_commit.specs.Steps.{HasGivenUp, HasTried, HasChecked, HasFailed, HasDecided, HasPublished}
-use Rattle.page_commit.specs.Steps.{CheckConflict, HasLeft, HasMet, StaysAside, TellsOf}
+use Rattle.page_commit.specs.Steps.{CheckConflict, HasLeft, HasMet, IsRecordConflict, IsUnkept, StaysAside, TellsOf}
 use Rattle.page_commit.proofs.Lists.{take_all}
-use Rattle.page_commit.proofs.LockLaws.{conflict_since, conflict_then}
+use Rattle.page_commit.proofs.LockLaws.{conflict_since, conflict_then, tree_then}
 use Rattle.page_commit.proofs.DecisionLaws.{committed, is_chosen}
-use Rattle.page_commit.proofs.DrawLaws.{active_locked, active_worker, are_small, can_draw, is_free, is_tried}
+use Rattle.page_commit.proofs.DrawLaws.{active_locked, active_worker, are_small, are_unkept, can_draw, is_free, is_tried}
 use Rattle.page_commit.proofs.GiveUpLaws.{failed_locks, failed_refused, has_locks}
 use Rattle.std.proofs.lemmas.List.{append-nil}
 use Rattle.homes.specs.declared.places.Span.{Span}
-use Rattle.page_commit.specs.Places.{ground, IsKeyAt, IsPointerIn}
+use Rattle.page_commit.specs.Places.{ground, slot_of, tree_spot, IsAnyKeyAt, IsKeyAt, IsPointerIn}
+use Rattle.page_commit.proofs.AnyPlaces.{leaf_of, tree_kind}
+use Rattle.page_commit.proofs.PlaceLaws.{key_array}
+use Rattle.wire_form.specs.Leaves.{tree_leaf, word_in}
+use Rattle.engine_pages.specs.declared.layout.Layout.{Layout}
+use Rattle.engine_pages.specs.Pages.{is_array}
 use Rattle.page_commit.proofs.LeaveLaws.{holds_stay, same_then, SamePages}
 use Rattle.page_commit.proofs.PageLaws.{checked_pages, chosen_pages, drawn_pages, failed_pages, locked_pages}
 use Rattle.page_commit.proofs.PageLaws.{published_pages}
@@ -78,8 +83,14 @@ pub apart_slice : (sets : Sets) (ws : List Write) → ws ≡ sets.writes
 apart_slice sets ws is apart =
     subst (λ (l : List Write). AreDistinct (Rattle.tx_sets.specs.Entries.record_places_of l)) (sym is) apart
 
-pub small_slice : (sets : Sets) (reads : List ReadEntry) (v : View) → IsLive sets v → reads ≡ sets.reads → AreSmall reads
-small_slice sets reads v live is = subst AreSmall (sym is) (are_small sets v live)
+pub small_slice : (sets : Sets) (reads : List ReadEntry) (v : View) → IsLive sets v → reads ≡ sets.reads
+    → AreSmall reads (ground v)
+small_slice sets reads v live is =
+    subst (λ (l : List ReadEntry). AreSmall l (ground v)) (sym is) (are_small sets v live)
+
+pub unkept_slice : (sets : Sets) (ws : List Write) (v : View) → IsLive sets v → ws ≡ sets.writes
+    → AllByRecursion (IsUnkept v) ws
+unkept_slice sets ws v live is = subst (AllByRecursion (IsUnkept v)) (sym is) (are_unkept sets v live)
 
 pub met_slice : (sets : Sets) (reads : List ReadEntry) (v : View) → IsLive sets v → reads ≡ sets.reads → AreMet reads [] v
 met_slice sets reads v live is = subst (λ (l : List ReadEntry). AreMet l [] v) (sym is) live.met
@@ -90,10 +101,10 @@ locked_slice sets reads ws found v w is h = subst (λ (l : List ReadEntry). HasL
 
 pub conflict_slice : (sets : Sets) (reads : List ReadEntry) (ws : List Write) (at expected seen : ℕ) (v w : View)
     → reads ≡ sets.reads
-    → (one : Write) × Contains ws one × (one.at ≡ at) × IsConflict reads at expected seen v w
-    → (one : Write) × Contains ws one × (one.at ≡ at) × IsConflict sets.reads at expected seen v w
+    → (one : Write) × Contains ws one × (one.at ≡ at) × IsRecordConflict reads one.key at expected seen v w
+    → (one : Write) × Contains ws one × (one.at ≡ at) × IsRecordConflict sets.reads one.key at expected seen v w
 conflict_slice sets reads ws at expected seen v w is c =
-    (c.0, c.1, c.2, subst (λ (l : List ReadEntry). IsConflict l at expected seen v w) is c.3)
+    (c.0, c.1, c.2, subst (λ (l : List ReadEntry). IsRecordConflict l (c.0).key at expected seen v w) is c.3)
 
 -- ---- whose locks were taken
 
@@ -165,9 +176,10 @@ all_in P (y ∷ xs) x all has = elim (in_cases x y xs has) [
 ]
 
 pub stopped_place : (sets : Sets) (ws all : List Write) (found : List ℕ) (one : Write) (at : ℕ) (v w : View)
-    → IsLive sets v → HasLocked ws found v w → all ≡ sets.writes → Contains all one → one.at ≡ at → IsKeyAt w one.key at
+    → IsLive sets v → HasLocked ws found v w → all ≡ sets.writes → Contains all one → one.at ≡ at
+    → IsAnyKeyAt w one.key at
 stopped_place sets ws all found one at v w live h is has same =
-    subst (IsKeyAt w one.key) same
+    subst (IsAnyKeyAt w one.key) same
     (all_in (IsWriteOf (ground w)) all one (stopped_places sets ws all found v w live h is) has).place
 
 -- the key that is told of a conflict at a record
@@ -218,57 +230,121 @@ pub stopped_cause : (sets : Sets) (n : ℕ) (all : List Write) (found : List ℕ
     (why : RefusalCause) (v w x : View) → IsLive sets v
     → all ≡ sets.writes → HasLocked (take n all) found v w → writes_at at (take n all) ≡ false
     → HasGivenUp (take n all) why w x
-    → (one : Write) × Contains all one × (one.at ≡ at) × IsConflict sets.reads at expected seen v w
+    → (one : Write) × Contains all one × (one.at ≡ at) × IsRecordConflict sets.reads one.key at expected seen v w
     → why ≡ Conflict at expected seen → RefusesCommit sets sets.writes why v x
 stopped_cause sets n all found at expected seen why v w x live is h apart g c same =
-    let ws : List Write = take n all in
-    let one : Write = c.0 in
-    let inside : Contains sets.writes one = subst (λ (l : List Write). Contains l one) is c.1 in
     subst (λ (r : RefusalCause). RefusesCommit sets sets.writes r v x) (sym same) (
-      inl (
-        one.key,
-        inr (one, inside, refl, c.2),
-        record {
-          conflict = conflict_then sets.reads ws at expected seen v w x (last_same ws why w x g)
-              (kept_others ws why w x g) apart c.3;
-          blamed = told_key ws why one.key at expected seen v w x (ap (λ (y : View). y.role) h.is)
-              (ap (λ (y : View). y.blamed) h.is) same
-              (stopped_place sets ws all found one at v w live h is c.1 c.2) g;
-        },
-      ),
+      by_side (stopped_place sets ws all found c.0 at v w live h is c.1 c.2) c.3,
       took_only sets.writes ws v x
           (λ k has. subst (λ (l : List Write). has_write k l ≡ true) is (write_in_take n all k has))
           (touched_same ws why w x g ∙ ap (λ (y : View). y.touched) h.is),
     )
+  where
+    ws : List Write
+    ws = take n all
+
+    inside : Contains sets.writes c.0
+    inside = subst (λ (l : List Write). Contains l c.0) is c.1
+
+    layout : w.layout ≡ v.layout
+    layout = ap (λ (y : View). y.layout) h.is
+
+    blamed : w.blamed ≡ v.blamed
+    blamed = ap (λ (y : View). y.blamed) h.is
+
+    by_side : IsAnyKeyAt w c.0.key at → IsRecordConflict sets.reads c.0.key at expected seen v w
+        → ((k : Key) × IsRecordOf sets.reads sets.writes k at × IsConflictAt sets.reads k at expected seen v x
+        × (is_array v.layout.decls k.storage ≡ true))
+        ⊎ (((Rattle.tx_sets.specs.Entries.has_word at sets.pointers ≡ true)
+        × IsPointerConflict sets.pointers at expected seen v x × (x.blamed ≡ v.blamed))
+        ⊎ (((Rattle.tx_sets.specs.Entries.has_word at sets.headers ≡ true)
+        × IsPointerConflict sets.headers at expected seen v x × (x.blamed ≡ v.blamed))
+        ⊎ ((k : Key) × IsRecordOf sets.reads sets.writes k at × IsTreeConflict sets.reads at expected seen v x
+        × (x.blamed ≡ v.blamed) × (is_array v.layout.decls k.storage ≡ false))))
+    by_side (inl p) (inl r) = inl (
+      c.0.key,
+      inr (c.0, inside, refl, c.2),
+      record {
+        conflict = conflict_then sets.reads ws at expected seen v w x (last_same ws why w x g)
+            (kept_others ws why w x g) apart r.1;
+        blamed = told_key ws why c.0.key at expected seen v w x (ap (λ (y : View). y.role) h.is) blamed same p g;
+      },
+      subst (λ (l : Layout). is_array l.decls c.0.key.storage ≡ true) layout (key_array (ground w) c.0.key at p),
+    )
+    by_side (inr p) (inr r) = inr (inr (inr (
+      c.0.key,
+      inr (c.0, inside, refl, c.2),
+      tree_then sets.reads ws at expected seen v v w x (omega arith) (last_same ws why w x g)
+          (kept_others ws why w x g) apart r.1,
+      told_tree ws why (slot_of w.layout.slots at) (word_in tree_leaf (tree_spot w.layout.slots at).index) at expected seen
+          v w x blamed same (leaf_of w c.0.key at p).word g,
+      r.0,
+    )))
+    by_side (inl p) (inr r) =
+        absurd (true≢false (sym (subst (λ (l : Layout). is_array l.decls c.0.key.storage ≡ true) layout
+        (key_array (ground w) c.0.key at p)) ∙ r.0))
+    by_side (inr p) (inl r) =
+        absurd (true≢false (sym r.0 ∙ subst (λ (l : Layout). is_array l.decls c.0.key.storage ≡ false) layout
+        (tree_kind (ground w) c.0.key at p)))
 
 -- ---- where a check failed, or a lock: what was met
 
 pub stopped_met : (sets : Sets) (ws all : List Write) (found : List ℕ) (at expected seen : ℕ) (v w : View)
     → IsLive sets v → all ≡ sets.writes → HasLocked ws found v w
-    → (one : Write) × Contains all one × (one.at ≡ at) × IsConflict sets.reads at expected seen v w
+    → (one : Write) × Contains all one × (one.at ≡ at) × IsRecordConflict sets.reads one.key at expected seen v w
     → HasMet at expected seen w
 stopped_met sets ws all found at expected seen v w live is h c =
-    let f = c.3 in
-    inl (
-      c.0.key,
-      record {
-        place = stopped_place sets ws all found c.0 at v w live h is c.1 c.2;
-        step = f.step;
-        last = f.last;
-        was = f.was;
-        kept = f.kept;
-        stands = f.stands;
-        known = f.known;
-        cause = f.cause;
-      },
-    )
+    by_side (stopped_place sets ws all found c.0 at v w live h is c.1 c.2) c.3
+  where
+    layout : w.layout ≡ v.layout
+    layout = ap (λ (y : View). y.layout) h.is
+
+    by_side : IsAnyKeyAt w c.0.key at → IsRecordConflict sets.reads c.0.key at expected seen v w → HasMet at expected seen w
+    by_side (inl p) (inl r) =
+        let f = r.1 in
+        inl (
+          c.0.key,
+          record {
+            place = p;
+            step = f.step;
+            last = f.last;
+            was = f.was;
+            kept = f.kept;
+            stands = f.stands;
+            known = f.known;
+            cause = f.cause;
+          },
+        )
+    by_side (inr p) (inr r) =
+        let f = r.1 in
+        inr (inr (
+          slot_of w.layout.slots at,
+          word_in tree_leaf (tree_spot w.layout.slots at).index,
+          record {
+            place = leaf_of w c.0.key at p;
+            unheld = ap (λ (y : View). y.heads) h.is ∙ live.holds.heads;
+            step = f.step;
+            last = f.last;
+            was = Some expected;
+            kept = None;
+            stands = f.stands;
+            known = inr (refl, refl);
+            cause = f.cause;
+          },
+        ))
+    by_side (inl p) (inr r) =
+        absurd (true≢false (sym (subst (λ (l : Layout). is_array l.decls c.0.key.storage ≡ true) layout
+        (key_array (ground w) c.0.key at p)) ∙ r.0))
+    by_side (inr p) (inl r) =
+        absurd (true≢false (sym r.0 ∙ subst (λ (l : Layout). is_array l.decls c.0.key.storage ≡ false) layout
+        (tree_kind (ground w) c.0.key at p)))
 
 pub checked_met : (sets : Sets) (at expected seen : ℕ) (x y : View) → CheckConflict sets at expected seen x y
     → HasMet at expected seen y
 checked_met sets at expected seen x y (inl c) = inl (c.0.key, c.4)
 checked_met sets at expected seen x y (inr (inl c)) = inr (inl c.2)
-checked_met sets at expected seen x y (inr (inr c)) =
-    inr (inr (Rattle.page_commit.specs.Places.slot_of x.layout.slots at, 0, c.2))
+checked_met sets at expected seen x y (inr (inr (inl c))) = inr (inr (slot_of x.layout.slots at, 0, c.2))
+checked_met sets at expected seen x y (inr (inr (inr c))) = inr (inr (c.4, c.5, c.6))
 
 -- ---- the commit of what is locked
 
@@ -454,6 +530,10 @@ check_cause sets found ws changes n at expected seen why v w x y z can d f is ap
     blamed = ap (λ (u : View). u.blamed) f.is
         ∙ (ap (λ (u : View). u.blamed) d.is ∙ ap (λ (u : View). u.blamed) can.locked.is)
 
+    layout : y.layout ≡ v.layout
+    layout = ap (λ (u : View). u.layout) f.is
+        ∙ (ap (λ (u : View). u.layout) d.is ∙ ap (λ (u : View). u.layout) can.locked.is)
+
     on_word : (l : List Seen) → IsPointerConflict l at expected seen x y → IsPointerConflict l at expected seen v z
     on_word l m = record {
       step = m.step;
@@ -468,11 +548,14 @@ check_cause sets found ws changes n at expected seen why v w x y z can d f is ap
     }
 
     by_conflict : CheckConflict sets at expected seen x y
-        → ((k : Key) × IsRecordOf sets.reads sets.writes k at × IsConflictAt sets.reads k at expected seen v z)
+        → ((k : Key) × IsRecordOf sets.reads sets.writes k at × IsConflictAt sets.reads k at expected seen v z
+        × (is_array v.layout.decls k.storage ≡ true))
         ⊎ (((Rattle.tx_sets.specs.Entries.has_word at sets.pointers ≡ true)
         × IsPointerConflict sets.pointers at expected seen v z × (z.blamed ≡ v.blamed))
-        ⊎ ((Rattle.tx_sets.specs.Entries.has_word at sets.headers ≡ true)
-        × IsPointerConflict sets.headers at expected seen v z × (z.blamed ≡ v.blamed)))
+        ⊎ (((Rattle.tx_sets.specs.Entries.has_word at sets.headers ≡ true)
+        × IsPointerConflict sets.headers at expected seen v z × (z.blamed ≡ v.blamed))
+        ⊎ ((k : Key) × IsRecordOf sets.reads sets.writes k at × IsTreeConflict sets.reads at expected seen v z
+        × (z.blamed ≡ v.blamed) × (is_array v.layout.decls k.storage ≡ false))))
     by_conflict (inl m) = inl (
       m.0.key,
       inl (m.0, m.1, refl, m.2),
@@ -481,15 +564,24 @@ check_cause sets found ws changes n at expected seen why v w x y z can d f is ap
             (kept_others sets.writes why y z g') apart (conflict_since sets.reads at expected seen v x y since m.3);
         blamed = told_key sets.writes why m.0.key at expected seen v y z role blamed same m.4.place g';
       },
+      subst (λ (l : Layout). is_array l.decls m.0.key.storage ≡ true) layout (key_array (ground y) m.0.key at m.4.place),
     )
     by_conflict (inr (inl m)) = inr (inl (
       m.0,
       on_word sets.pointers m.1,
       told_none sets.writes why m.2.span at expected seen v y z blamed same m.2.place g',
     ))
-    by_conflict (inr (inr m)) = inr (inr (
+    by_conflict (inr (inr (inl m))) = inr (inr (inl (
       m.0,
       on_word sets.headers m.1,
-      told_tree sets.writes why (Rattle.page_commit.specs.Places.slot_of x.layout.slots at) 0 at expected seen v y z
-          blamed same m.2.place.word g',
-    ))
+      told_tree sets.writes why (slot_of x.layout.slots at) 0 at expected seen v y z blamed same m.2.place.word g',
+    )))
+    by_conflict (inr (inr (inr m))) = inr (inr (inr (
+      m.0.key,
+      inl (m.0, m.1, refl, m.2),
+      tree_then sets.reads sets.writes at expected seen v x y z since (last_same sets.writes why y z g')
+          (kept_others sets.writes why y z g') apart m.3,
+      told_tree sets.writes why m.4 m.5 at expected seen v y z blamed same m.6.place.word g',
+      subst (λ (l : Layout). is_array l.decls m.0.key.storage ≡ false)
+          (ap (λ (u : View). u.layout) d.is ∙ ap (λ (u : View). u.layout) can.locked.is) m.7,
+    )))

@@ -20,7 +20,7 @@ use Rattle.page_commit.specs.Committing.{RefusesCommit, TookOnly, IsRecordOf, Is
 use Rattle.page_commit.specs.HeaderParts.{AreHeaders}
 use Rattle.page_commit.specs.Live.{AreParts, AreMet, IsWriteOf, IsLive, entry_places, ArePointersKept, ArePointersMet}
 use Rattle.page_commit.specs.Live.{HasHolds, KeepsOnly}
-use Rattle.page_commit.specs.Refusing.{HasRefused, IsConflictAt, IsPointerConflict}
+use Rattle.page_commit.specs.Refusing.{HasRefused, IsConflictAt, IsPointerConflict, IsTreeConflict}
 use Rattle.page_commit.specs.Steps.{CanCommit}
 use Rattle.page_commit.proofs.StepLaws.{all_steps, all_most}
 use Rattle.lists.specs.Each.{AreDistinct}
@@ -93,6 +93,7 @@ refuses_dropped sets new ws (Conflict at expected seen) v w reads pointers heade
       subst (λ (l : List Write). IsRecordOf sets.reads l m.0 at) writes
           (subst (λ (l : List ReadEntry). IsRecordOf l new.writes m.0 at) reads m.1),
       subst (λ (l : List ReadEntry). IsConflictAt l m.0 at expected seen v w) reads m.2,
+      m.3,
     )
     | inr o ↦ inr (elim o [
       | inl m ↦ inl (
@@ -100,11 +101,21 @@ refuses_dropped sets new ws (Conflict at expected seen) v w reads pointers heade
         subst (λ (l : List Seen). IsPointerConflict l at expected seen v w) pointers m.1,
         m.2,
       )
-      | inr m ↦ inr (
-        subst (λ (l : List Seen). Rattle.tx_sets.specs.Entries.has_word at l ≡ true) headers m.0,
-        subst (λ (l : List Seen). IsPointerConflict l at expected seen v w) headers m.1,
-        m.2,
-      )
+      | inr n ↦ inr (elim n [
+        | inl m ↦ inl (
+          subst (λ (l : List Seen). Rattle.tx_sets.specs.Entries.has_word at l ≡ true) headers m.0,
+          subst (λ (l : List Seen). IsPointerConflict l at expected seen v w) headers m.1,
+          m.2,
+        )
+        | inr m ↦ inr (
+          m.0,
+          subst (λ (l : List Write). IsRecordOf sets.reads l m.0 at) writes
+              (subst (λ (l : List ReadEntry). IsRecordOf l new.writes m.0 at) reads m.1),
+          subst (λ (l : List ReadEntry). IsTreeConflict l at expected seen v w) reads m.2,
+          m.3,
+          m.4,
+        )
+      ])
     ])
   ],
   subst (λ (l : List Write). TookOnly l v w) writes r.1,

@@ -101,10 +101,11 @@ is_chosen sets found changes n m v w x y z live h d is k c =
         at = there;
         writes_are = is;
         word = sym d.found;
+        small = d.small;
         locks = ap (λ (u : View). u.seat.locks) c.is ∙ (settled_locks s ∙ locks);
         took = ap (λ (u : View). u.took) c.is ∙ (ap (λ (u : View). u.took) k.is
             ∙ (ap (λ (u : View). u.took) d.is ∙ (ap (λ (u : View). u.took) h.is
-            ∙ ap (λ (l : Layout). tooks_of l.slots sets.writes found) (sym (ap (λ (u : View). u.layout) c.is
+            ∙ ap (λ (l : Layout). tooks_of l sets.writes found) (sym (ap (λ (u : View). u.layout) c.is
             ∙ (ap (λ (u : View). u.layout) k.is ∙ (ap (λ (u : View). u.layout) d.is ∙ ap (λ (u : View). u.layout) h.is)))))));
         count = h.count;
         begun = λ some. ap (λ (u : View). u.seat.stage) c.is ∙ (by_some sets.writes some s locks ∙ decided);

@@ -1,10 +1,10 @@
 -- What a commit draws with: the keys that are locked are those of its changes, and what it read is its attempt's.
-use Rattle.std.proofs.Common.{◌≡◌, inl, inr, ℕ, Bool, true, false, true≢false, cond, List, [], ◌∷◌, map, length, Some}
+use Rattle.std.proofs.Common.{◌≡◌, inl, inr, ℕ, Bool, true, false, true≢false, cond, List, [], ◌∷◌, map, length, Some, None}
 use Rattle.std.proofs.Common.{refl, sym, ap, ◌∙◌, subst}
 use Rattle.std.specs.Prelude.{Contains, ◌==◌, ◌<◌, ◌^◌, is_some}
 use Rattle.std.specs.List.{slice_get, list_all, find, AllByRecursion}
 use Rattle.std.specs.Option.{option_map}
-use Rattle.std.proofs.lemmas.Bool.{cases_Bool, and_from, ne_eqb, or_from, or_left, or_right}
+use Rattle.std.proofs.lemmas.Bool.{cases_Bool, and_from, eqb-true, ne_eqb, or_from, or_left, or_right}
 use Rattle.lists.specs.Elements.{in_none, in_head, in_tail, in_cases, at_push_new}
 use Rattle.serial_model.specs.declared.number.Change.{Change}
 use Rattle.homes.specs.Homes.{same_key, has_key}
@@ -28,15 +28,20 @@ use Rattle.page_records.specs.Ends.{worker_of}
 use Rattle.engine_pages.specs.Views.{IsActive}
 use Rattle.page_commit.specs.Committing.{changes_of}
 use Rattle.homes.specs.declared.places.Span.{Span}
+use Rattle.engine_pages.specs.Pages.{is_array}
 use Rattle.engine_pages.specs.Pointers.{WaysAgree}
+use Rattle.page_records.specs.Locks.{IsOpenWord}
+use Rattle.serial_model.specs.declared.key.Key.{Key}
 use Rattle.engine_pages.specs.Steps.{kept_at, seen_at}
-use Rattle.page_commit.specs.Places.{ground, Ground, IsKeyIn, IsPointerIn, IsTreeKeyIn}
+use Rattle.page_commit.specs.Places.{ground, Ground, IsAnyKeyIn, IsKeyIn, IsPointerIn, IsTreeKeyIn}
 use Rattle.page_commit.specs.Live.{read_word, AreMet, ArePointersMet, IsLive, IsMetPointer, IsWriteOf}
-use Rattle.page_commit.specs.Steps.{keys_of, tooks_of, AreAsRead, AreSmall, HasLocked, HasTried, IsFree, StaysAside}
-use Rattle.page_commit.proofs.CheckLaws.{number_small}
+use Rattle.page_commit.specs.Steps.{keys_of, tooks_of, AreAsRead, AreSmall, HasLocked, HasTried, IsFree, IsUnkept}
+use Rattle.page_commit.specs.Steps.{StaysAside}
+use Rattle.page_commit.proofs.CheckLaws.{number_open}
 use Rattle.page_commit.specs.HeaderParts.{AreHeaders}
-use Rattle.page_commit.proofs.HeaderLaws.{head_clear, headers_aside}
-use Rattle.page_commit.proofs.PlaceLaws.{no_pointer}
+use Rattle.page_commit.proofs.HeaderLaws.{head_clear, headers_aside, tree_unkept}
+use Rattle.page_commit.proofs.AnyPlaces.{any_no_pointer, any_one_key}
+use Rattle.page_commit.proofs.PlaceLaws.{key_array}
 use Rattle.page_commit.proofs.StayLaws.{grounds, parts_stay, writes_stay}
 
 -- ---- before the locks
@@ -57,34 +62,55 @@ some_is a c same = cc
 
 found_by : (f : ReadEntry) (reads : List ReadEntry) (at n : ℕ) (b : Bool) → (f.at == at) ≡ b
     → read_word at (f ∷ reads) ≡ Some n
-    → (read_word at reads ≡ Some n → (e : ReadEntry) × Contains reads e × (e.word ≡ n))
-    → (e : ReadEntry) × Contains (f ∷ reads) e × (e.word ≡ n)
+    → (read_word at reads ≡ Some n → (e : ReadEntry) × Contains reads e × (e.word ≡ n) × (e.at ≡ at))
+    → (e : ReadEntry) × Contains (f ∷ reads) e × (e.word ≡ n) × (e.at ≡ at)
 found_by f reads at n true hit is rest = (
   f,
   in_head f reads,
   some_is f.word n (sym (ap (λ b. option_map (λ (x : ReadEntry). x.word)
       (cond b (Some f) (find (λ (x : ReadEntry). x.at == at) reads))) hit) ∙ is),
+  eqb-true f.at at hit,
 )
 found_by f reads at n false miss is rest =
     let later = rest (sym (ap (λ b. option_map (λ (x : ReadEntry). x.word)
     (cond b (Some f) (find (λ (x : ReadEntry). x.at == at) reads))) miss) ∙ is) in
-    (later.0, in_tail later.0 f reads later.1, later.2)
+    (later.0, in_tail later.0 f reads later.1, later.2, later.3)
 
 pub idle_live : (sets : Sets) (v : View) → IsLive sets v → can_begin v.seat.stage ≡ true
 idle_live sets v live = ap can_begin live.stage
 
 -- a word that was read is that of an entry
 pub found_entry : (reads : List ReadEntry) (at n : ℕ) → read_word at reads ≡ Some n
-    → (e : ReadEntry) × Contains reads e × (e.word ≡ n)
+    → (e : ReadEntry) × Contains reads e × (e.word ≡ n) × (e.at ≡ at)
 found_entry [] at n is = absurd cc
 found_entry (f ∷ reads) at n is = found_by f reads at n (f.at == at) refl is (found_entry reads at n)
 
 -- the words that were read had no lock
-pub are_small : (sets : Sets) (v : View) → IsLive sets v → AreSmall sets.reads
-are_small sets v live at n is =
+pub are_small : (sets : Sets) (v : View) → IsLive sets v → AreSmall sets.reads (ground v)
+are_small sets v live k at n place is =
     let e = found_entry sets.reads at n is in
     let p = live.parts.reads e.0 e.1 in
-    subst (λ m. m < 2 ^ 60) e.2 (number_small p.2.content e.0.word p.2.shown)
+    let key : (e.0).key ≡ k =
+    any_one_key (ground v) (e.0).key k at live.agree live.trees.known
+    (subst (IsAnyKeyIn (ground v) (e.0).key) e.3 p.2.place) place in
+    let small = number_open v.layout.decls (e.0).key p.2.content (e.0).word p.2.shown in (
+      subst IsOpenWord e.2 small.0,
+      λ array. subst (λ m. m < 2 ^ 60) e.2
+          (small.1 (subst (λ (q : Key). is_array v.layout.decls q.storage ≡ true) (sym key) array)),
+    )
+
+-- nothing is kept of the words of trees' records that are to be written
+pub are_unkept : (sets : Sets) (v : View) → IsLive sets v → AllByRecursion (IsUnkept v) sets.writes
+are_unkept sets v live = each sets.writes live.writes
+  where
+    by_place : (w : Write) → IsAnyKeyIn (ground v) w.key w.at → is_array v.layout.decls w.key.storage ≡ false
+        → kept_at v.reads w.at ≡ None
+    by_place w (inl p) tree = absurd (true≢false (sym (key_array (ground v) w.key w.at p) ∙ tree))
+    by_place w (inr p) tree = tree_unkept sets v v.seat.kept w.key w.at live.parts live.agree live.trees live.only p
+
+    each : (ws : List Write) → AllByRecursion (IsWriteOf (ground v)) ws → AllByRecursion (IsUnkept v) ws
+    each [] all = tt
+    each (w ∷ ws) all = (by_place w all.0.place, each ws all.1)
 
 -- ---- the locks are the keys of the changes
 
@@ -128,11 +154,12 @@ same_keys_of ws =
     (λ w m. key_locked ws w m))
 
 values_are : (g : Ground) (ws : List Write) → AllByRecursion (IsWriteOf g) ws → (c : Change)
-    → Contains (changes_of ws) c → is_some c.value ≡ true
+    → Contains (changes_of ws) c → is_array g.layout.decls c.key.storage ≡ true → is_some c.value ≡ true
 values_are g [] all c in' = absurd (in_none c in')
 values_are g (x ∷ xs) all c in' =
     elim (in_cases c (record { key = x.key; value = x.value }) (changes_of xs) in') [
-      | inl same ↦ subst (λ (y : Change). is_some y.value ≡ true) same all.0.value
+      | inl same ↦ subst (λ (y : Change). is_array g.layout.decls y.key.storage ≡ true → is_some y.value ≡ true) same
+          all.0.value
       | inr later ↦ values_are g xs all.1 c later
     ]
 
@@ -143,8 +170,9 @@ can_draw sets found changes v w live h is = record {
   idle = ap (λ (y : View). can_begin y.seat.stage) h.is ∙ ap can_begin live.stage;
   locked = ap (λ (y : View). same_keys y.seat.locks changes) h.is
       ∙ (ap (same_keys (keys_of sets.writes)) is ∙ same_keys_of sets.writes);
-  values = λ c in' array. values_are (ground v) sets.writes live.writes c (subst (λ (l : List Change). Contains l c) is
-      in');
+  values = λ c in' array. values_are (ground v) sets.writes live.writes c
+      (subst (λ (l : List Change). Contains l c) is in')
+      (subst (λ (l : Layout). is_array l.decls c.key.storage ≡ true) (ap (λ (y : View). y.layout) h.is) array);
 }
 
 pub active_locked : (ws : List Write) (found : List ℕ) (v w : View) → IsActive v.role → HasLocked ws found v w
@@ -177,8 +205,8 @@ still_points sets v w live aside p in' =
     all_clear sp [] all place = refl
     all_clear sp (q ∷ ws) all place =
         or_from (q.at == p.at) (writes_at p.at ws)
-        (ne_eqb q.at p.at (λ same. no_pointer (ground v) q.key sp p.at live.agree
-        (subst (IsKeyIn (ground v) q.key) same all.0.place) place))
+        (ne_eqb q.at p.at (λ same. any_no_pointer v q.key sp p.at live.agree live.trees
+        (subst (IsAnyKeyIn (ground v) q.key) same all.0.place) place))
         (all_clear sp ws all.1 place)
 
     clear_of : (part : Part) × Contains v.seat.kept part × IsMetPointer v p part → writes_at p.at sets.writes ≡ false
@@ -223,10 +251,12 @@ is_tried sets found changes n v w x live h are aside d =
       found = found;
       count = h.count;
       took = ap (λ (y : View). y.took) d.is ∙ (ap (λ (y : View). y.took) h.is
-          ∙ ap (λ (l : Layout). tooks_of l.slots sets.writes found) (sym layout));
+          ∙ ap (λ (l : Layout). tooks_of l sets.writes found) (sym layout));
       read = are;
       met = still_met sets v x live layout ways known inners aside';
       points = still_points sets v x live aside';
       heads = still_heads sets v x live aside' (λ at. ap (λ l. kept_at l at) reads
           ∙ (ap (λ (y : View). kept_at y.reads at) h.is ∙ h.kept at));
+      only = λ at m is. live.only at m (sym (ap (λ l. kept_at l at) reads
+          ∙ (ap (λ (y : View). kept_at y.reads at) h.is ∙ h.kept at)) ∙ is);
     }

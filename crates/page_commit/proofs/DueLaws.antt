@@ -29,6 +29,7 @@ use Rattle.page_records.specs.Ends.{is_left, IsDue}
 use Rattle.array_pages.specs.Finding.{IsFoundIn, IsRecordChanged, RefusesFind}
 use Rattle.array_pages.specs.Making.{IsMadeWide, NoneUsable, RefusesMake}
 use Rattle.array_pages.specs.Walks.{HasWalked, IsPointerChanged, IsWayPlace, IsWide}
+use Rattle.tx_sets.specs.Gathered.{has_read_room}
 use Rattle.page_commit.specs.Places.{IsKeyAt}
 use Rattle.page_commit.specs.Live.{read_word, IsLive}
 use Rattle.page_commit.specs.Refusing.{IsConflictAt, IsPointerConflict, TellsOnly}
@@ -38,7 +39,7 @@ use Rattle.page_commit.specs.Steps.{HasGivenUp, TellsOf}
 use Rattle.page_commit.proofs.CheckLaws.{number_small}
 use Rattle.page_commit.proofs.CommitLaws.{kept_others, last_same, told_key, told_none, touched_same}
 use Rattle.page_commit.proofs.GiveUpLaws.{none_left}
-use Rattle.page_commit.proofs.GrowLaws.{key_here, knows_more, met_before, no_entry, none_read, pointer_here}
+use Rattle.page_commit.proofs.GrowLaws.{branch_apart, branch_grown, key_here, knows_more, met_before, no_entry, none_read, pointer_here}
 use Rattle.page_commit.proofs.KeepLaws.{in_pointers}
 use Rattle.page_commit.proofs.WalkedLaws.{set_points}
 use Rattle.engine_pages.specs.Pointers.{WaysAgree, any_pointer}
@@ -72,7 +73,12 @@ pointer_known sets k at expected seen v w h p = by_known p.known
     by_known (inl word) =
         let q : Seen = record { at = at; word = expected } in
         let has : Contains sets.pointers q = in_pointers sets.pointers q word in
-        by_before (h.live.kept q has) (p.before (set_points sets v q h.live has) word (h.live.points q has))
+        by_before (h.live.kept q has) (elim (set_points sets v q h.live has) [
+          | inl here ↦ p.before here word (h.live.points q has)
+          | inr b ↦
+              absurd (branch_apart w b.0 at h.agree h.decls (branch_grown v w b.0 at (knows_more v w h.walk) b.1)
+              (record { place = p.place.place; span = p.place.span; is = p.place.is }))
+        ])
     by_known (inr was) = inl (sym (ap (λ (o : Option ℕ). unwrap_or o seen) was.1))
 
 pub pointer_due : (sets : Sets) (k : Key) (at expected seen : ℕ) (v w : View) → Walked sets v w
@@ -360,7 +366,7 @@ module _ (why : RefusalCause) (sets : Sets) (v w x : View) (h : Walked sets v w)
   }
 
 -- a word that was met is in the list
-seen_in : (reads : List Read) (at n : ℕ) → seen_at reads at ≡ Some n
+pub seen_in : (reads : List Read) (at n : ℕ) → seen_at reads at ≡ Some n
     → (r : Read) × Contains reads r × (r.word ≡ at) × (r.seen ≡ n)
 seen_in [] at n is = absurd cc
 seen_in (f ∷ reads) at n is = by_test (f.word == at) refl is (seen_in reads at n)
@@ -412,7 +418,7 @@ needs_hold k slots makes why at word w x g on saw unshut leads unheld =
 
 find_wide : (set : SetName) (sets new : Sets) (k : Key) (v w x : View) → HasGivenUp [] (refusals.Wide set) w x
     → IsWide k sets.pointers new.holds set v w
-    → ((set ≡ Reads) × (length sets.reads ≡ 256) × IsInMemory k x)
+    → ((set ≡ Reads) × (has_read_room sets ≡ false) × IsInMemory k x)
     ⊎ (((set ≡ Holds) × (length new.holds ≡ 128) × NeedsHold k new.holds false x)
     ⊎ ((set ≡ Pointers) × (length sets.pointers ≡ 128) × NeedsPointer k sets.pointers x))
 find_wide Reads sets new k v w x g h = absurd h
@@ -467,7 +473,7 @@ find_cause (refusals.NumberLimit clock) sets new k v w x h none unwritten r g = 
 -- the record was found in a page in memory, and there was no room for its entry
 pub entry_cause : (sets new : Sets) (k : Key) (at word value : ℕ) (v w x : View) → Walked sets v w
     → has_read k sets.reads ≡ false → has_write k sets.writes ≡ false → IsFoundIn k at word value v w
-    → length sets.reads ≡ 256 → HasGivenUp [] (refusals.Wide Reads) w x
+    → has_read_room sets ≡ false → HasGivenUp [] (refusals.Wide Reads) w x
     → RefusesRead sets new k (refusals.Wide Reads) v x
 entry_cause sets new k at word value v w x h none unwritten f full g =
     let why : RefusalCause = refusals.Wide Reads in

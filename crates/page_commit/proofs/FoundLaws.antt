@@ -1,7 +1,7 @@
 -- A read of a key that was not met before: what was found, the sets with it, and the value.
-use Rattle.std.proofs.Common.{◌≡◌, ◌⊎◌, inl, inr, ℕ, ◌<◌, ◌≤◌, Bool, true, false, true≢false, List, [], ◌∷◌, ◌++◌, length}
+use Rattle.std.proofs.Common.{◌≡◌, ◌⊎◌, inl, inr, ℕ, ◌<◌, Bool, true, false, true≢false, List, [], ◌∷◌, ◌++◌, length}
 use Rattle.std.proofs.Common.{refl, sym, ap, ◌∙◌, subst, cond, Option, Some, None, arith}
-use Rattle.std.specs.Prelude.{Contains, unwrap_or, ◌==◌, ◌||◌, Result, Ok, Err, OnOk, IsOk, is_some}
+use Rattle.std.specs.Prelude.{Contains, unwrap_or, ◌==◌, ◌||◌, not, Result, Ok, Err, OnOk, IsOk, is_some}
 use Rattle.std.specs.List.{find}
 use Rattle.std.proofs.lemmas.Bool.{and_from, cases_Bool, eqb-true, eq-eqb, or_parts}
 use Rattle.std.proofs.lemmas.Bool.Decides.{nat_tests}
@@ -22,6 +22,7 @@ use Rattle.tx_sets.specs.declared.reads.ReadEntry.{ReadEntry}
 use Rattle.tx_sets.specs.declared.seen.Seen.{Seen}
 use Rattle.tx_sets.specs.declared.sets.Sets.{Sets}
 use Rattle.tx_sets.specs.Entries.{has_read, has_word, has_write, places_of, read_of, word_at, IsPushed}
+use Rattle.tx_sets.specs.Gathered.{has_read_room}
 use Rattle.engine_pages.specs.declared.layout.Layout.{Layout}
 use Rattle.engine_pages.specs.declared.view.RefusalCause.TheVariants as refusals
 use Rattle.engine_pages.specs.declared.view.SetName.TheVariants.{Reads}
@@ -34,8 +35,12 @@ use Rattle.array_pages.specs.declared.finding.Found.TheVariants as places
 use Rattle.array_pages.specs.Finding.{IsFound, IsFoundBelow, IsFoundIn}
 use Rattle.array_pages.specs.Spans.{IsArrayKey}
 use Rattle.array_pages.specs.Walks.{AreLedTo, CanWalk, HasWalked, IsWayPlace, KeepsMet, MeetsSo, OnlyWaysTo}
-use Rattle.page_commit.specs.Places.{ground, spot_at, IsKeyAt, IsPointerIn}
-use Rattle.page_commit.specs.Live.{ArePointersKept, ArePointersMet, IsLive, IsMetPointer, IsReadPart, KeepsOnly}
+use Rattle.array_pages.proofs.WalkLaws.{walked_self}
+use Rattle.page_commit.specs.Places.{ground, spot_for, IsKeyAt, IsPointerIn}
+use Rattle.page_records.specs.Locks.{array_absence}
+use Rattle.page_commit.proofs.AnyPlaces.{array_spot}
+use Rattle.page_commit.proofs.PlaceLaws.{key_array}
+use Rattle.page_commit.specs.Live.{ArePointersKept, ArePointersMet, IsLive, IsMetPointer, IsReadPart, IsWordOf, KeepsOnly}
 use Rattle.page_commit.specs.Calls.{RefusesRead}
 use Rattle.page_commit.specs.HeaderParts.{AreHeaders}
 use Rattle.page_commit.specs.Steps.{HasGivenUp}
@@ -50,7 +55,9 @@ use Rattle.page_commit.proofs.WalkedLaws.{held_same, held_to, inside_entry, insi
 use Rattle.page_commit.proofs.WalkedLaws.{headers_beside, headers_walked, met_entry, met_only}
 use Rattle.page_commit.proofs.HeaderLaws.{header_grown, no_head_pointer}
 use Rattle.page_commit.proofs.WalkedLaws.{beside_arrays, beside_but}
-use Rattle.page_commit.proofs.WalkedLaws.{only_walked, only_walked_same, places_push, pointers_push, points_walked}
+use Rattle.page_commit.proofs.BelowLaws.{below_array}
+use Rattle.page_commit.proofs.WalkedLaws.{only_walked, only_walked_same, places_push, pointers_push, points_beside}
+use Rattle.page_commit.proofs.WalkedLaws.{points_walked}
 
 -- ---- keys that were read, or not
 
@@ -110,7 +117,7 @@ by_record ps k x c among = record {
 
 -- nothing was walked
 pub nothing_walked : (v : View) → OnlyWalked v v
-nothing_walked v = only_walked v v (Rattle.array_pages.proofs.WalkLaws.walked_self v)
+nothing_walked v = only_walked v v (walked_self v)
 
 pub value_again : (sets : Sets) (v : View) (k : Key) (e : ReadEntry) → IsLive sets v → read_of k sets.reads ≡ Some e
     → HasValue k e.value sets sets v v
@@ -127,10 +134,11 @@ value_again sets v k e live is = record {
   pointers = inl refl;
   writes = refl;
   headers = refl;
+  touched = refl;
   content = part.2.content.value;
   value_is = part.2.value;
   vouched = subst (λ (q : Key). Vouched v.seat.kept q part.2.content.value) there.1
-      (by_record v.seat.kept e.key (spot_at v.layout.slots e.at) part.2.content
+      (by_record v.seat.kept e.key (spot_for v.layout e.key e.at) part.2.content
       (subst (λ (q : Part). Contains v.seat.kept q) part.2.is part.1));
 }
   where
@@ -164,15 +172,26 @@ module _ (sets new : Sets) (v w : View) (k : Key) (at word value : ℕ) (live : 
   other : (x : ReadEntry) → Contains sets.reads x → x.at ≡ at → ⊥
   other = no_entry sets v w k at live (knows_more v w walk) can.agree place none
 
-  part_is : w.seat.kept ≡ with_part v.seat.kept (record_part k (spot_at w.layout.slots at) f.content)
+  part_is : w.seat.kept ≡ with_part v.seat.kept (record_part k (spot_for w.layout k at) f.content)
   part_is =
       f.kept
-      ∙ ap (λ (x : Spot). with_part v.seat.kept (record_part k x f.content)) (spot_of_word w k f.spot at f.place)
+      ∙ ap (λ (x : Spot). with_part v.seat.kept (record_part k x f.content))
+      (spot_of_word w k f.spot at f.place ∙ sym (array_spot (ground w) k at place))
+
+  -- the word of an array has no bit of absence
+  shown_of : IsWordOf w.layout.decls k f.content word
+  shown_of = record {
+    small = f.shown.small;
+    number =
+        let number = f.shown.number in
+        let none = array_absence w.layout.decls k f.content.value (key_array (ground w) k at place) in
+        omega (arith, number, none);
+  }
 
   pub live_entry : IsLive new w
   live_entry = live_walked sets new v w live walk can record {
-    parts = entry_parts sets new v w e f.content live.decls (knows_more v w walk) live.parts place other f.shown f.has reads
-        pointers headers part_is;
+    parts = entry_parts sets new v w e f.content live.decls can.agree (knows_more v w walk) live.parts (inl place) other
+        shown_of f.has reads pointers headers part_is;
     places = subst (λ (l : List ReadEntry). AreDistinct (Rattle.page_commit.specs.Live.entry_places l)) (sym reads)
         (places_push sets.reads e live.places other);
     once = subst (λ (l : List Seen). AreDistinct (places_of l)) (sym pointers) live.once;
@@ -180,7 +199,8 @@ module _ (sets new : Sets) (v w : View) (k : Key) (at word value : ℕ) (live : 
     met = subst (λ (l : List ReadEntry). Rattle.page_commit.specs.Live.AreMet l [] w) (sym reads)
         (met_entry sets v w e live (knows_more v w walk) can.agree can.trees can.declared (inl place) other f.met
         (beside_but at v w f.others));
-    points = subst (λ (l : List Seen). ArePointersMet l w) (sym pointers) (points_walked sets v w live keeps);
+    points = subst (λ (l : List Seen). ArePointersMet l w) (sym pointers) (points_beside sets v w k at live
+        (knows_more v w walk) can.agree can.declared place f.others keeps);
     kept = subst (λ (l : List Seen). ArePointersKept l w) (sym pointers) (kept_walked sets v w live f.words);
     headers = subst (λ (l : List Seen). AreHeaders l w) (sym headers)
         (headers_beside sets v w k at live (knows_more v w walk) can.agree can.declared place f.others f.words);
@@ -198,16 +218,18 @@ module _ (sets new : Sets) (v w : View) (k : Key) (at word value : ℕ) (live : 
     again = λ x of. absurd (none_some x (sym (unread k sets.reads none) ∙ of));
     anew = λ fresh. f.has ∙ ap (λ (c : Content). unwrap_or c.value 0) f.last;
     places = λ q a p. key_grown v w q a (knows_more v w walk) p;
-    keeps = entry_stays sets new v w e f.content live.decls (knows_more v w walk) live.parts place other part_is;
+    keeps = entry_stays sets new v w e f.content live.decls can.agree (knows_more v w walk) live.parts (inl place) other
+        part_is;
     reads = inr (e, refl, reads);
     pointers = inl pointers;
     writes = writes;
     headers = headers;
+    touched = ap (λ (y : View). y.touched) walk.is;
     content = f.content.value;
     value_is = f.has;
-    vouched = by_record w.seat.kept k (spot_at w.layout.slots at) f.content
-        (subst (λ (l : List Part). Contains l (record_part k (spot_at w.layout.slots at) f.content)) (sym part_is)
-        (kept_new v.seat.kept (record_part k (spot_at w.layout.slots at) f.content)));
+    vouched = by_record w.seat.kept k (spot_for w.layout k at) f.content
+        (subst (λ (l : List Part). Contains l (record_part k (spot_for w.layout k at) f.content)) (sym part_is)
+        (kept_new v.seat.kept (record_part k (spot_for w.layout k at) f.content)));
   }
     where
       none_some : (x : ReadEntry) → None ≡ Some x → ⊥
@@ -224,12 +246,15 @@ below_met k c pointers p v w are fits f = record {
   within = f.within;
   bare = f.bare;
   of = subst (λ x. IsPointerPart w x f.span p.word f.part) (place_of_word w f.place f.span p.at are f.is) f.of;
-  array = ap (λ (i : ℕ). is_array w.layout.decls i) (sym (in_span-parts f.span k f.over).0) ∙ fits.array;
+  kind = inl array;
   stands = f.stands;
   inside = f.inside;
   all = f.covers_all;
-  says = f.says;
+  says = λ q over. f.says q over ∙ sym (below_array w.layout.decls w.pages f.span p.word q array);
 }
+  where
+    array : is_array w.layout.decls f.span.storage ≡ true
+    array = ap (λ (i : ℕ). is_array w.layout.decls i) (sym (in_span-parts f.span k f.over).0) ∙ fits.array
 
 module _ (sets new : Sets) (v w : View) (k : Key) (c : Content) (p : Seen) (answer : ℕ) (live : IsLive sets v)
     (walk : HasWalked v w) (can : CanWalk new.holds w) (fits : IsArrayKey w.layout.decls k)
@@ -255,12 +280,13 @@ module _ (sets new : Sets) (v w : View) (k : Key) (c : Content) (p : Seen) (answ
           let no : None ≡ Some q.word = sym m.0 ∙ found in absurd (cc)))
 
   cases : (q : Seen) → Contains new.pointers q → Contains sets.pointers q ⊎ (p ≡ q)
-  cases q has = pointer_cases sets new v w p f.part live.decls can.agree (knows_more v w walk) live.parts live.once met meets
+  cases q has = pointer_cases sets new v w p f.part live.decls can.agree can.trees (knows_more v w walk) live.parts live.once met meets
       q has
 
   pub points_below : ArePointersMet new.pointers w
   points_below q has = elim (cases q has) [
-    | inl old ↦ points_walked sets v w live keeps q old
+    | inl old ↦ points_walked sets v w live (knows_more v w walk) can.agree can.declared (λ sp x has b. f.others x.at)
+        keeps q old
     | inr same ↦ subst (λ (z : Seen). seen_at w.reads z.at ≡ Some z.word) same f.saw
   ]
 
@@ -274,7 +300,7 @@ module _ (sets new : Sets) (v w : View) (k : Key) (c : Content) (p : Seen) (answ
           → kept_at w.reads q.at ≡ Some q.word
       by_test q old true hit =
           subst (λ (z : Seen). kept_at w.reads z.at ≡ Some z.word)
-          (sym (same_pointer sets new v w p f.part live.decls can.agree (knows_more v w walk) live.parts live.once met meets
+          (sym (same_pointer sets new v w p f.part live.decls can.agree can.trees (knows_more v w walk) live.parts live.once met meets
           q old (eqb-true q.at p.at hit))) f.word_kept
       by_test q old false miss =
           f.words q.at (λ same. true≢false (sym (eq-eqb q.at p.at same) ∙ miss)) ∙ live.kept q old
@@ -294,14 +320,14 @@ module _ (sets new : Sets) (v w : View) (k : Key) (c : Content) (p : Seen) (answ
       new_word same =
           subst (λ (m : ℕ). has_word m new.pointers ≡ true) (sym same)
           (Rattle.page_commit.proofs.PointerLaws.has_pointer new.pointers p
-          (pointer_has sets new v w p f.part live.decls can.agree (knows_more v w walk) live.parts live.once met meets))
+          (pointer_has sets new v w p f.part live.decls can.agree can.trees (knows_more v w walk) live.parts live.once met meets))
 
       old_word : has_word a sets.pointers ≡ true → has_word a new.pointers ≡ true
       old_word has =
           let q = any_is (λ (s : Seen). s.at == a) sets.pointers has in
           subst (λ (m : ℕ). has_word m new.pointers ≡ true) (eqb-true q.0.at a q.2)
           (Rattle.page_commit.proofs.PointerLaws.has_pointer new.pointers q.0
-          (pointer_old sets new v w p f.part live.decls can.agree (knows_more v w walk) live.parts live.once met meets
+          (pointer_old sets new v w p f.part live.decls can.agree can.trees (knows_more v w walk) live.parts live.once met meets
           q.0 q.1))
 
       by_test : (b : Bool) → (a == p.at) ≡ b → (has_word a new.pointers ≡ true) ⊎ (has_word a new.headers ≡ true)
@@ -314,7 +340,7 @@ module _ (sets new : Sets) (v w : View) (k : Key) (c : Content) (p : Seen) (answ
 
   pub live_below : IsLive new w
   live_below = live_walked sets new v w live walk can record {
-    parts = pointer_parts sets new v w p f.part live.decls can.agree (knows_more v w walk) live.parts live.once met meets
+    parts = pointer_parts sets new v w p f.part live.decls can.agree can.trees (knows_more v w walk) live.parts live.once met meets
         reads headers f.kept;
     places = subst (λ (l : List ReadEntry). AreDistinct (Rattle.page_commit.specs.Live.entry_places l)) (sym reads)
         live.places;
@@ -340,12 +366,13 @@ module _ (sets new : Sets) (v w : View) (k : Key) (c : Content) (p : Seen) (answ
     again = λ x of. absurd (none_some x (sym (unread k sets.reads none) ∙ of));
     anew = λ fresh. is ∙ ap (λ (o : Option ℕ). unwrap_or o 0) f.last;
     places = λ q a place. key_grown v w q a (knows_more v w walk) place;
-    keeps = pointer_stays sets new v w p f.part live.decls can.agree (knows_more v w walk) live.parts live.once met meets
+    keeps = pointer_stays sets new v w p f.part live.decls can.agree can.trees (knows_more v w walk) live.parts live.once met meets
         f.kept;
     reads = inl reads;
     pointers = elim meets [ inl m ↦ inl m.1 | inr m ↦ inr (p, m.1, on_before) ];
     writes = writes;
     headers = headers;
+    touched = ap (λ (y : View). y.touched) walk.is;
     content = c.value;
     value_is = is;
     vouched = record {
@@ -405,14 +432,18 @@ meets_found (places.Volatile at word value) pointers k v w f = tt
 meets_found (places.Snapshot value number p) pointers k v w f = f.met
 meets_found (places.Zero p) pointers k v w f = f.met
 
-below_full : (b : Bool) (n most : ℕ) → b ≡ (n == most) → n ≤ most → b ≡ false → n < most
-below_full b n most test le short = grind (arith, nat_tests)
+not_false : (b : Bool) → not b ≡ false → b ≡ true
+not_false true none = refl
+not_false false none = absurd (true≢false none)
 
-pub room_found : (f : Found) (b : Bool) (reads : List ReadEntry) → b ≡ lacks_entry reads f → length reads ≤ 256 → b ≡ false
-    → HasRoomFor reads f
-room_found (places.Volatile at word value) b reads test le short = below_full b (length reads) 256 test le short
-room_found (places.Snapshot value number p) b reads test le short = tt
-room_found (places.Zero p) b reads test le short = tt
+pub room_found : (f : Found) (b : Bool) (sets : Sets) → b ≡ lacks_entry sets f → b ≡ false → HasRoomFor sets f
+room_found (places.Volatile at word value) b sets test short = not_false (has_read_room sets) (sym test ∙ short)
+room_found (places.Snapshot value number p) b sets test short = tt
+room_found (places.Zero p) b sets test short = tt
+
+-- with room for one of both there is room for a record
+pub room_below : (sets : Sets) → has_read_room sets ≡ true → length sets.reads < 256
+room_below sets room = grind (arith, nat_tests, room)
 
 on_ok : {P E : Type 0} (r : Result (Unit {0}) E) → OnOk r P → IsOk r → P
 on_ok (Ok x) p ok = p
@@ -436,7 +467,7 @@ no_word at (x ∷ seen) none =
     parts.0
     ∙ no_word at seen parts.1
 
-has_no_word : (at : ℕ) (seen : List Seen) → word_at at seen ≡ None → has_word at seen ≡ false
+pub has_no_word : (at : ℕ) (seen : List Seen) → word_at at seen ≡ None → has_word at seen ≡ false
 has_no_word at [] none = refl
 has_no_word at (x ∷ seen) none = by_test (x.at == at) refl none (has_no_word at seen)
   where
@@ -466,16 +497,17 @@ pointer_same p seen has so = elim so [
 
 -- ---- no room for an entry
 
-full_is : (b : Bool) (n : ℕ) → b ≡ (n == 256) → b ≡ true → n ≡ 256
-full_is b n test full = eqb-true n 256 (sym test ∙ full)
+not_true : (b : Bool) → not b ≡ true → b ≡ false
+not_true true none = absurd (true≢false (sym none))
+not_true false none = refl
 
 -- only a record in a page in memory lacks its entry
 pub wide_cause : (f : Found) (b : Bool) (sets new : Sets) (k : Key) (v w x : View) → Walked sets v w
     → has_read k sets.reads ≡ false → has_write k sets.writes ≡ false → IsFound k sets.pointers f v w
-    → b ≡ lacks_entry sets.reads f → b ≡ true → HasGivenUp [] (refusals.Wide Reads) w x
+    → b ≡ lacks_entry sets f → b ≡ true → HasGivenUp [] (refusals.Wide Reads) w x
     → RefusesRead sets new k (refusals.Wide Reads) v x
 wide_cause (places.Volatile at word value) b sets new k v w x h none unwritten f test full g =
-    entry_cause sets new k at word value v w x h none unwritten f (full_is b (length sets.reads) test full) g
+    entry_cause sets new k at word value v w x h none unwritten f (not_true (has_read_room sets) (sym test ∙ full)) g
 wide_cause (places.Snapshot value number p) b sets new k v w x h none unwritten f test full g =
     absurd (true≢false (sym full ∙ test))
 wide_cause (places.Zero p) b sets new k v w x h none unwritten f test full g = absurd (true≢false (sym full ∙ test))

@@ -28,13 +28,13 @@ use Rattle.engine_pages.specs.declared.view.View.{View}
 use Rattle.engine_pages.specs.declared.view.Way.{Way}
 use Rattle.engine_pages.specs.Layout.{page_at}
 use Rattle.engine_pages.specs.Pages.{is_tree}
-use Rattle.engine_pages.specs.Pointers.{WaysAgree, any_pointer}
+use Rattle.engine_pages.specs.Pointers.{WaysAgree}
 use Rattle.engine_pages.specs.Touches.{has_took, touch}
 use Rattle.engine_pages.specs.Views.{seat_number, IsResting}
 use Rattle.page_records.specs.Attempts.{HasDrawn, attempt_of}
 use Rattle.page_records.specs.Ends.{forgot_for, is_left, worker_of, HasForgotten, IsDue, IsLeafWordAt, IsMetFor}
 use Rattle.page_records.specs.Ends.{IsTreeWordAt}
-use Rattle.page_commit.specs.Places.{ground, pointer_at, spot_at, IsKeyAt, IsPointerIn}
+use Rattle.page_commit.specs.Places.{ground, spot_at, IsKeyAt, IsPointerIn}
 use Rattle.page_commit.specs.Between.{HasSeen}
 use Rattle.page_commit.specs.Live.{HasHolds, IsLive}
 use Rattle.page_commit.specs.Refusing.{HasRefused, TellsOnly}
@@ -43,7 +43,7 @@ use Rattle.page_commit.specs.Steps.{HasFailed, HasMet, IsFree, TellsOf}
 use Rattle.page_commit.proofs.LeaveLaws.{holds_stay, left_agree, left_holds, same_then, SamePages}
 use Rattle.page_commit.proofs.LeaveLaws.{left_trees, trees_stay}
 use Rattle.page_commit.proofs.PageLaws.{drawn_pages, failed_pages, forgotten_pages, locked_pages, unlocked_pages}
-use Rattle.page_commit.proofs.PlaceLaws.{pointer_there}
+use Rattle.page_commit.proofs.PlaceLaws.{place_in, pointer_in_place}
 use Rattle.page_commit.proofs.Settling.{settled_locks, settled_marks, settled_begin, settled_ends}
 use Rattle.engine_pages.specs.declared.view.RefusalCause.TheVariants as refusals
 
@@ -55,7 +55,7 @@ has_locks ws found v w free h = record {
   count = h.count;
   locks = ap (λ (y : View). y.seat.locks) h.is;
   took = ap (λ (y : View). y.took) h.is
-      ∙ ap (λ (l : Layout). tooks_of l.slots ws found) (sym (ap (λ (y : View). y.layout) h.is));
+      ∙ ap (λ (l : Layout). tooks_of l ws found) (sym (ap (λ (y : View). y.layout) h.is));
   idle = ap (λ (y : View). can_begin y.seat.stage) h.is ∙ ap can_begin free.stage;
   none = λ _. ap (λ (y : View). y.seat.stage) h.is ∙ free.stage;
 }
@@ -65,8 +65,7 @@ pub tells_of : (why : RefusalCause) (met : List Touch) (v : View) → IsMetFor (
 tells_of (refusals.Conflict at expected seen) met v of = (
   (λ k place. of.keyed k (spot_at v.layout.slots at) place),
   (λ sp place.
-      of.pointer (pointer_at v.layout.slots at) sp
-      (any_pointer v (pointer_at v.layout.slots at) sp at (pointer_there v sp at place))),
+      of.pointer (place_in (ground v) sp at place) sp (pointer_in_place v sp at place)),
   (λ t low is. of.slot t low is),
   (λ t i place. of.tree t i place),
 )
@@ -193,14 +192,14 @@ is_due ws at expected seen v w (inl m) gone apart h =
       },
     )
 is_due ws at expected seen v w (inr (inl m)) gone apart h =
+    let p : IsPointerIn (ground w) m.span at = subst (λ (y : View). IsPointerIn (ground y) m.span at) (sym h.is) m.place in
+    let x : At = place_in (ground w) m.span at p in
     inr (inl (
-      pointer_at w.layout.slots at,
+      x,
       m.span,
       record {
-        place = any_pointer w (pointer_at w.layout.slots at) m.span at
-            (pointer_there w m.span at (subst (λ (y : View). IsPointerIn (ground y) m.span at) (sym h.is) m.place));
-        here = ap (λ (y : View). is_left y.gone (pointer_at w.layout.slots at)) h.is
-            ∙ (ap (λ l. is_left l (pointer_at w.layout.slots at)) gone ∙ none_left (pointer_at w.layout.slots at));
+        place = pointer_in_place w m.span at p;
+        here = ap (λ (y : View). is_left y.gone x) h.is ∙ (ap (λ l. is_left l x) gone ∙ none_left x);
         step = m.step;
         last = ap (λ (y : View). y.last) h.is ∙ m.last;
         was = m.was;
@@ -337,7 +336,7 @@ failed_locks ws found changes n v w x y h d f =
       count = h.count;
       locks = ap (λ (z : View). z.seat.locks) f.is ∙ (settled_locks s ∙ locks);
       took = ap (λ (z : View). z.took) f.is ∙ (ap (λ (z : View). z.took) d.is ∙ (ap (λ (z : View). z.took) h.is
-          ∙ ap (λ (l : Layout). tooks_of l.slots ws found) (sym layout)));
+          ∙ ap (λ (l : Layout). tooks_of l ws found) (sym layout)));
       idle = ap (λ (z : View). can_begin z.seat.stage) f.is ∙ settled_begin s refl;
       none = λ empty. ap (λ (z : View). z.seat.stage) f.is ∙ settled_ends s (locks ∙ no_keys ws empty) refl;
     }

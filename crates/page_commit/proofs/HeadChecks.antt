@@ -44,13 +44,13 @@ use Rattle.tx_sets.specs.Entries as sets_of
 -- ---- words of headers
 
 -- no word of a record or a pointer is a header's
-no_entries : (slots t : ℕ) (es : List ReadEntry) → has_word (entry_words slots es) (Header t) ≡ false
-no_entries slots t [] = refl
-no_entries slots t (e ∷ es) = no_entries slots t es
+no_entries : (lay : Layout) (t : ℕ) (es : List ReadEntry) → has_word (entry_words lay es) (Header t) ≡ false
+no_entries lay t [] = refl
+no_entries lay t (e ∷ es) = no_entries lay t es
 
-no_pointers : (slots t : ℕ) (ps : List Seen) → has_word (pointer_words slots ps) (Header t) ≡ false
-no_pointers slots t [] = refl
-no_pointers slots t (p ∷ ps) = no_pointers slots t ps
+no_pointers : (g : Ground) (t : ℕ) (ps : List Seen) → has_word (pointer_words g ps) (Header t) ≡ false
+no_pointers g t [] = refl
+no_pointers g t (p ∷ ps) = no_pointers g t ps
 
 -- headers at other places have other words
 heads_apart : (g : Ground) (hs : List Seen) (h : Seen) (part : Part)
@@ -109,8 +109,8 @@ heads_begin sets v w p = record { behind = w; some = p; heads = heads_none sets.
 -- the words that are checked then
 abbrev pub words_of_all : Sets → ℕ → View → List Word
 words_of_all sets n v =
-    (entry_words v.layout.slots (take (length sets.reads) sets.reads)
-    ++ pointer_words v.layout.slots (take (length sets.pointers) sets.pointers))
+    (entry_words v.layout (take (length sets.reads) sets.reads)
+    ++ pointer_words (ground v) (take (length sets.pointers) sets.pointers))
     ++ header_words v.layout.slots (take n sets.headers)
 
 abbrev with_checked : View → List Word → View → View
@@ -156,13 +156,13 @@ can_check_head hs sets done d v w h same c lt =
         (λ i has. placed i (in_take sets.headers done i has)) m clear in
         let none : has_word (words_of_all sets done v) (Header t) ≡ false =
         none_behind (λ z. same_word z (Header t))
-        (entry_words v.layout.slots (take (length sets.reads) sets.reads)
-        ++ pointer_words v.layout.slots (take (length sets.pointers) sets.pointers))
+        (entry_words v.layout (take (length sets.reads) sets.reads)
+        ++ pointer_words (ground v) (take (length sets.pointers) sets.pointers))
         (header_words v.layout.slots (take done sets.headers))
-        (none_behind (λ z. same_word z (Header t)) (entry_words v.layout.slots (take (length sets.reads) sets.reads))
-        (pointer_words v.layout.slots (take (length sets.pointers) sets.pointers))
-        (no_entries v.layout.slots t (take (length sets.reads) sets.reads))
-        (no_pointers v.layout.slots t (take (length sets.pointers) sets.pointers))) fresh in (
+        (none_behind (λ z. same_word z (Header t)) (entry_words v.layout (take (length sets.reads) sets.reads))
+        (pointer_words (ground v) (take (length sets.pointers) sets.pointers))
+        (no_entries v.layout t (take (length sets.reads) sets.reads))
+        (no_pointers (ground v) t (take (length sets.pointers) sets.pointers))) fresh in (
           m.span,
           subst (λ (y : View). CanCheckHeader y (slot_of y.layout.slots one.at) m.span one.word) (sym (all_is sets done v w c))
               record {
@@ -297,7 +297,7 @@ head_conflict hs sets done d k v w x h same c lt other checks =
           same = refl;
           is = inl refl;
         } in
-        inr (inr (
+        inr (inr (inl (
           has_pointer sets.headers q has,
           record {
             step = w.steps;
@@ -322,7 +322,7 @@ head_conflict hs sets done d k v w x h same c lt other checks =
             known = inl kept;
             cause = inr other;
           },
-        ))
+        )))
 
 -- a header's word is none that the transaction has locked
 pub header_apart : (sets : Sets) (q : Seen) (v : View) → HasTried sets v → Contains sets.headers q
@@ -383,17 +383,18 @@ pub all_checked : (hs : List Seen) (sets : Sets) (done : ℕ) (v w : View) → H
     → HasCheckedAll sets done v w → length hs ≤ done → HasChecked v w
 all_checked hs sets done v w h same c le =
     let slots : ℕ = v.layout.slots in
+    let lay : Layout = v.layout in
     let p = c.heads in
     let len : length sets.headers ≤ done = subst (λ (l : List Seen). length l ≤ done) same le in
-    let words : List Word = (entry_words slots sets.reads ++ pointer_words slots sets.pointers)
+    let words : List Word = (entry_words lay sets.reads ++ pointer_words (ground v) sets.pointers)
     ++ header_words slots sets.headers in
     let checked : w.checked ≡ words =
     ap (λ (y : View). y.checked) (all_is sets done v w c)
-    ∙ (ap (λ l. (entry_words slots l ++ pointer_words slots (take (length sets.pointers) sets.pointers))
+    ∙ (ap (λ l. (entry_words lay l ++ pointer_words (ground v) (take (length sets.pointers) sets.pointers))
     ++ header_words slots (take done sets.headers)) (take_all sets.reads (length sets.reads) (omega arith))
-    ∙ (ap (λ l. (entry_words slots sets.reads ++ pointer_words slots l) ++ header_words slots (take done sets.headers))
+    ∙ (ap (λ l. (entry_words lay sets.reads ++ pointer_words (ground v) l) ++ header_words slots (take done sets.headers))
     (take_all sets.pointers (length sets.pointers) (omega arith))
-    ∙ ap (λ l. (entry_words slots sets.reads ++ pointer_words slots sets.pointers) ++ header_words slots l)
+    ∙ ap (λ l. (entry_words lay sets.reads ++ pointer_words (ground v) sets.pointers) ++ header_words slots l)
     (take_all sets.headers done len))) in record {
       checked = words_of_all sets done v;
       steps = p.steps;
@@ -414,7 +415,7 @@ all_checked hs sets done v w h same c le =
     }
   where
     front : List Word
-    front = entry_words v.layout.slots sets.reads ++ pointer_words v.layout.slots sets.pointers
+    front = entry_words v.layout sets.reads ++ pointer_words (ground v) sets.pointers
 
     by_known : (part : Part)
         → ((e : ReadEntry) × Contains sets.reads e × IsReadPart (ground v) e part)
@@ -423,16 +424,16 @@ all_checked hs sets done v w h same c le =
         → has_word (front ++ header_words v.layout.slots sets.headers) part.word ≡ true
     by_known part (inl r) =
         some_first (λ z. same_word z part.word) front (header_words v.layout.slots sets.headers)
-        (some_first (λ z. same_word z part.word) (entry_words v.layout.slots sets.reads)
-        (pointer_words v.layout.slots sets.pointers)
-        (subst (λ (z : Part). has_word (entry_words v.layout.slots sets.reads) z.word ≡ true) (sym r.2.is)
-        (word_of_entry v.layout.slots sets.reads r.0 r.1)))
+        (some_first (λ z. same_word z part.word) (entry_words v.layout sets.reads)
+        (pointer_words (ground v) sets.pointers)
+        (subst (λ (z : Part). has_word (entry_words v.layout sets.reads) z.word ≡ true) (sym r.2.is)
+        (word_of_entry v.layout sets.reads r.0 r.1)))
     by_known part (inr (inl r)) =
         some_first (λ z. same_word z part.word) front (header_words v.layout.slots sets.headers)
-        (some_second (λ z. same_word z part.word) (entry_words v.layout.slots sets.reads)
-        (pointer_words v.layout.slots sets.pointers)
-        (subst (λ (z : Word). has_word (pointer_words v.layout.slots sets.pointers) z ≡ true) (sym r.2.of.word)
-        (word_of_pointer v.layout.slots sets.pointers r.0 r.1)))
+        (some_second (λ z. same_word z part.word) (entry_words v.layout sets.reads)
+        (pointer_words (ground v) sets.pointers)
+        (subst (λ (z : Word). has_word (pointer_words (ground v) sets.pointers) z ≡ true) (sym r.2.of.word)
+        (word_of_pointer (ground v) sets.pointers r.0 r.1)))
     by_known part (inr (inr r)) =
         some_second (λ z. same_word z part.word) front (header_words v.layout.slots sets.headers)
         (subst (λ (z : Part). has_word (header_words v.layout.slots sets.headers) z.word ≡ true) (sym r.2.is)

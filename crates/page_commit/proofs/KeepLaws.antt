@@ -24,16 +24,17 @@ use Rattle.tx_sets.specs.declared.seen.Seen.{Seen}
 use Rattle.tx_sets.specs.declared.sets.Sets.{Sets}
 use Rattle.tx_sets.specs.Entries.{places_of, word_at}
 use Rattle.engine_pages.specs.declared.view.View.{View}
+use Rattle.engine_pages.specs.Agreement.{TreesAgree}
 use Rattle.engine_pages.specs.Pointers.{WaysAgree}
-use Rattle.dual_pointer.specs.Parts.{content_below}
-use Rattle.page_commit.specs.Places.{ground, pointer_at, spot_at, IsKeyAt, slot_of}
+use Rattle.page_commit.specs.Places.{ground, pointer_for, slot_of, spot_for, Ground, IsAnyKeyAt}
 use Rattle.page_commit.specs.HeaderParts.{IsMetHeader}
-use Rattle.page_commit.specs.Live.{AreParts, IsMetPointer, IsReadPart, IsWordFor}
+use Rattle.page_commit.specs.Live.{below_in, AreParts, IsMetPointer, IsReadPart, IsWordOf}
+use Rattle.page_commit.proofs.AnyPlaces.{any_one_place}
 use Rattle.page_commit.proofs.HeaderLaws.{header_grown}
 use Rattle.page_commit.specs.Keeping.{MeetsPointer}
 use Rattle.page_commit.specs.Turning.{PartsStay}
 use Rattle.page_commit.proofs.GrowLaws.{met_pointer_grown, one_span, read_grown, KnowsMore}
-use Rattle.page_commit.proofs.PlaceLaws.{one_place, one_pointer}
+use Rattle.page_commit.proofs.PlaceLaws.{one_pointer}
 use Rattle.page_commit.proofs.PointerLaws.{pointer_word}
 
 -- ---- one part more
@@ -98,35 +99,36 @@ stay_apart kept new other k value v = record {
 -- ---- a record was read
 
 module _ (sets new : Sets) (v w : View) (e : ReadEntry) (c : Content) (are : AreDecls v.layout.decls)
-    (more : KnowsMore v w) (parts : AreParts sets v v.seat.kept) (place : IsKeyAt w e.key e.at)
+    (agree : WaysAgree w.ways) (more : KnowsMore v w) (parts : AreParts sets v v.seat.kept)
+    (place : IsAnyKeyAt w e.key e.at)
     (other : (f : ReadEntry) → Contains sets.reads f → f.at ≡ e.at → ⊥) where
   abbrev read_part : Part
-  read_part = record_part e.key (spot_at w.layout.slots e.at) c
+  read_part = record_part e.key (spot_for w.layout e.key e.at) c
 
   -- no part is of its word
   pub entry_apart : (q : Part) → Contains v.seat.kept q
-      → same_word q.word (Record (spot_at w.layout.slots e.at)) ≡ false
+      → same_word q.word (Record (spot_for w.layout e.key e.at)) ≡ false
   entry_apart q has = by_side (parts.known q has)
     where
       by_side : ((f : ReadEntry) × Contains sets.reads f × IsReadPart (ground v) f q)
           ⊎ (((p : Seen) × Contains sets.pointers p × IsMetPointer v p q)
           ⊎ ((h : Seen) × Contains sets.headers h × IsMetHeader (ground v) h q))
-          → same_word q.word (Record (spot_at w.layout.slots e.at)) ≡ false
+          → same_word q.word (Record (spot_for w.layout e.key e.at)) ≡ false
       by_side (inl r) =
           let f : ReadEntry = r.0 in
           let now = read_grown v w f q more r.2 in
-          let miss : same_spot (spot_at w.layout.slots f.at) (spot_at w.layout.slots e.at) ≡ false =
-          false_from_ne_true (same_spot (spot_at w.layout.slots f.at) (spot_at w.layout.slots e.at)) (λ test.
-          other f r.1 (one_place (ground w) f.key e.key f.at e.at now.place place
-          (same_spot-true (spot_at w.layout.slots f.at) (spot_at w.layout.slots e.at) test))) in
-          ap (λ (z : Part). same_word z.word (Record (spot_at w.layout.slots e.at))) now.is ∙ miss
-      by_side (inr (inl r)) = ap (λ (z : Word). same_word z (Record (spot_at w.layout.slots e.at))) r.2.of.word
-      by_side (inr (inr r)) = ap (λ (z : Part). same_word z.word (Record (spot_at w.layout.slots e.at))) r.2.is
+          let miss : same_spot (spot_for w.layout f.key f.at) (spot_for w.layout e.key e.at) ≡ false =
+          false_from_ne_true (same_spot (spot_for w.layout f.key f.at) (spot_for w.layout e.key e.at)) (λ test.
+          other f r.1 (any_one_place (ground w) f.key e.key f.at e.at agree now.place place
+          (same_spot-true (spot_for w.layout f.key f.at) (spot_for w.layout e.key e.at) test))) in
+          ap (λ (z : Part). same_word z.word (Record (spot_for w.layout e.key e.at))) now.is ∙ miss
+      by_side (inr (inl r)) = ap (λ (z : Word). same_word z (Record (spot_for w.layout e.key e.at))) r.2.of.word
+      by_side (inr (inr r)) = ap (λ (z : Part). same_word z.word (Record (spot_for w.layout e.key e.at))) r.2.is
 
-  pub entry_part : IsWordFor c e.word → e.value ≡ unwrap_or c.value 0 → IsReadPart (ground w) e read_part
+  pub entry_part : IsWordOf w.layout.decls e.key c e.word → e.value ≡ unwrap_or c.value 0 → IsReadPart (ground w) e read_part
   entry_part shown value = record { place = place; content = c; shown = shown; value = value; is = refl }
 
-  pub entry_parts : IsWordFor c e.word → e.value ≡ unwrap_or c.value 0 → new.reads ≡ sets.reads ++ e ∷ []
+  pub entry_parts : IsWordOf w.layout.decls e.key c e.word → e.value ≡ unwrap_or c.value 0 → new.reads ≡ sets.reads ++ e ∷ []
       → new.pointers ≡ sets.pointers → new.headers ≡ sets.headers → w.seat.kept ≡ with_part v.seat.kept read_part
       → AreParts new w w.seat.kept
   entry_parts shown value reads pointers headers kept = subst (AreParts new w) (sym kept) record {
@@ -134,7 +136,7 @@ module _ (sets new : Sets) (v w : View) (e : ReadEntry) (c : Content) (are : Are
     reads = λ f has. by_entry f (in_push_cases f e sets.reads (subst (λ (l : List ReadEntry). Contains l f) reads has));
     pointers = λ p has.
         let r = parts.pointers p (subst (λ (l : List Seen). Contains l p) pointers has) in
-        (r.0, stays r.0 r.1, met_pointer_grown v w p r.0 are more r.2);
+        (r.0, stays r.0 r.1, met_pointer_grown v w p r.0 are agree more r.2);
     headers = λ h has.
         let r = parts.headers h (subst (λ (l : List Seen). Contains l h) headers has) in
         (r.0, stays r.0 r.1, header_grown v w h r.0 more r.2);
@@ -158,7 +160,7 @@ module _ (sets new : Sets) (v w : View) (e : ReadEntry) (c : Content) (are : Are
       by_known q (inr (inl r)) = inr (inl (
         r.0,
         subst (λ (l : List Seen). Contains l r.0) (sym pointers) r.1,
-        met_pointer_grown v w r.0 q are more r.2,
+        met_pointer_grown v w r.0 q are agree more r.2,
       ))
       by_known q (inr (inr r)) = inr (inr (
         r.0,
@@ -193,7 +195,7 @@ module _ (sets new : Sets) (v w : View) (e : ReadEntry) (c : Content) (are : Are
 
 -- ---- a pointer was met
 
-seen_is : (a b : Seen) → a.at ≡ b.at → a.word ≡ b.word → a ≡ b
+pub seen_is : (a b : Seen) → a.at ≡ b.at → a.word ≡ b.word → a ≡ b
 seen_is a b at word =
     ap (λ (n : ℕ). let z : Seen = record { at = n; word = a.word } in z) at
     ∙ ap (λ (n : ℕ). let z : Seen = record { at = b.at; word = n } in z) word
@@ -218,7 +220,7 @@ in_pointers (f ∷ pointers) p is = by_test (f.at == p.at) refl is (in_pointers 
         (cond b (Some f) (find (λ (x : Seen). x.at == p.at) pointers))) miss) ∙ is))
 
 module _ (sets new : Sets) (v w : View) (p : Seen) (part : Part) (are : AreDecls v.layout.decls)
-    (agree : WaysAgree w.ways) (more : KnowsMore v w) (parts : AreParts sets v v.seat.kept)
+    (agree : WaysAgree w.ways) (trees : TreesAgree w) (more : KnowsMore v w) (parts : AreParts sets v v.seat.kept)
     (once : AreDistinct (places_of sets.pointers)) (met : IsMetPointer w p part)
     (meets : MeetsPointer p sets.pointers new.pointers) where
   -- a pointer of the set at this word is this one
@@ -259,19 +261,19 @@ module _ (sets new : Sets) (v w : View) (p : Seen) (part : Part) (are : AreDecls
   pointer_apart : (q : Seen) (old : Part) → IsMetPointer w q old → (q.at ≡ p.at → ⊥)
       → same_word old.word part.word ≡ false
   pointer_apart q old m other =
-      let slots = w.layout.slots in
-      let miss : same_at (pointer_at slots q.at) (pointer_at slots p.at) ≡ false =
-      false_from_ne_true (same_at (pointer_at slots q.at) (pointer_at slots p.at)) (λ test.
-      other (one_pointer (ground w) m.span met.span q.at p.at m.place met.place
-      (same_at-true (pointer_at slots q.at) (pointer_at slots p.at) test))) in
+      let g : Ground = ground w in
+      let miss : same_at (pointer_for g q.at) (pointer_for g p.at) ≡ false =
+      false_from_ne_true (same_at (pointer_for g q.at) (pointer_for g p.at)) (λ test.
+      other (one_pointer g m.span met.span q.at p.at agree m.place met.place
+      (same_at-true (pointer_for g q.at) (pointer_for g p.at) test))) in
       ap (λ (z : Word). same_word z part.word) m.of.word
-      ∙ (ap (λ (z : Word). same_word (Pointer (pointer_at slots q.at)) z) met.of.word ∙ miss)
+      ∙ (ap (λ (z : Word). same_word (Pointer (pointer_for g q.at)) z) met.of.word ∙ miss)
 
   -- so is that of an entry
   entry_other : (f : ReadEntry) (old : Part) → IsReadPart (ground w) f old → same_word old.word part.word ≡ false
   entry_other f old r =
       ap (λ (z : Part). same_word z.word part.word) r.is
-      ∙ ap (λ (z : Word). same_word (Record (spot_at w.layout.slots f.at)) z) met.of.word
+      ∙ ap (λ (z : Word). same_word (Record (spot_for w.layout f.key f.at)) z) met.of.word
 
   -- and that of a header
   header_other : (h : Seen) (old : Part) → IsMetHeader (ground w) h old → same_word old.word part.word ≡ false
@@ -306,7 +308,7 @@ module _ (sets new : Sets) (v w : View) (p : Seen) (part : Part) (are : AreDecls
         subst (λ (l : List ReadEntry). Contains l r.0) (sym reads) r.1,
         read_grown v w r.0 q more r.2,
       )
-      by_known q (inr (inl r)) = inr (inl (r.0, pointer_old r.0 r.1, met_pointer_grown v w r.0 q are more r.2))
+      by_known q (inr (inl r)) = inr (inl (r.0, pointer_old r.0 r.1, met_pointer_grown v w r.0 q are agree more r.2))
       by_known q (inr (inr r)) = inr (inr (
         r.0,
         subst (λ (l : List Seen). Contains l r.0) (sym headers) r.1,
@@ -335,7 +337,7 @@ module _ (sets new : Sets) (v w : View) (p : Seen) (part : Part) (are : AreDecls
           )
           by_test false miss =
               let r = parts.pointers q old in
-              let now = met_pointer_grown v w q r.0 are more r.2 in (
+              let now = met_pointer_grown v w q r.0 are agree more r.2 in (
                 r.0,
                 kept_old v.seat.kept part r.0 r.1
                     (pointer_apart q r.0 now (λ same. true≢false (sym (eq-eqb q.at p.at same) ∙ miss))),
@@ -350,12 +352,12 @@ module _ (sets new : Sets) (v w : View) (p : Seen) (part : Part) (are : AreDecls
           → (found old k).value ≡ value → Vouched (with_part v.seat.kept part) k value
       again q old k value same m over has =
           let m' : IsMetPointer w p old = subst (λ (z : Seen). IsMetPointer w z old) same m in
-          let span : m'.span ≡ met.span = one_span (ground w) m'.span met.span p.at agree m'.place met.place in
+          let span : m'.span ≡ met.span = one_span w m'.span met.span p.at agree trees m'.place met.place in
           let within : in_span met.span k ≡ true =
           ap (λ (s : Span). in_span s k) (sym span) ∙ m'.inside k over in
           let below : found part k ≡ found old k =
           met.says k within
-          ∙ (ap (λ (s : Span). content_below w.pages s p.word k) (sym span) ∙ sym (m'.says k (m'.inside k over))) in
+          ∙ (ap (λ (s : Span). below_in w.layout.decls w.pages s p.word k) (sym span) ∙ sym (m'.says k (m'.inside k over))) in
           record {
             part = part;
             among = kept_new v.seat.kept part;
@@ -386,11 +388,11 @@ module _ (sets new : Sets) (v w : View) (p : Seen) (part : Part) (are : AreDecls
           by_test : (b : Bool) → (r.0.at == p.at) ≡ b → Vouched (with_part v.seat.kept part) k value
           by_test true hit =
               again r.0 x.part k value (same_pointer r.0 r.1 (eqb-true r.0.at p.at hit))
-              (met_pointer_grown v w r.0 x.part are more r.2) x.over x.has
+              (met_pointer_grown v w r.0 x.part are agree more r.2) x.over x.has
           by_test false miss = record {
             part = x.part;
             among = kept_old v.seat.kept part x.part x.among
-                (pointer_apart r.0 x.part (met_pointer_grown v w r.0 x.part are more r.2)
+                (pointer_apart r.0 x.part (met_pointer_grown v w r.0 x.part are agree more r.2)
                 (λ same. true≢false (sym (eq-eqb r.0.at p.at same) ∙ miss)));
             over = x.over;
             has = x.has;

@@ -20,6 +20,7 @@ pub mod BeginLaws
 pub mod BelowLaws
 pub mod GrowLaws
 pub mod AnyPlaces
+pub mod TreePointers
 pub mod KeepLaws
 pub mod WalkedLaws
 pub mod FoundLaws
@@ -29,5 +30,8 @@ pub mod WriteLaws
 pub mod TurnLaws
 pub mod Handing
 pub mod BroughtLaws
+pub mod AddedLaws
+pub mod RenewLaws
+pub mod GrownStay
 pub mod HeaderLaws
 pub mod HeadChecks

@@ -1,10 +1,10 @@
 -- Locks one after another.
-use Rattle.std.proofs.Common.{◌≡◌, ◌≢◌, ◌⊎◌, inr, ℕ, zero, suc, ◌+◌, ◌<◌, ◌≤◌, ◌^◌, Bool, true, false, eqb}
+use Rattle.std.proofs.Common.{◌≡◌, inl, ◌≢◌, ◌⊎◌, inr, ◌/◌, ◌%◌, ℕ, zero, suc, ◌+◌, ◌<◌, ◌≤◌, ◌^◌, Bool, true, false, eqb}
 use Rattle.std.proofs.Common.{List, [], ◌∷◌, ◌++◌, length, take, get_or}
 use Rattle.std.proofs.Common.{refl, sym, ap, ◌∙◌, subst, arith, Some, None, Option, append_assoc}
-use Rattle.std.specs.Prelude.{MatchBool, Contains, filter, not, ◌==◌, unwrap_or}
+use Rattle.std.specs.Prelude.{MatchBool, Contains, filter, not, ◌==◌, ◌||◌, is_some, unwrap_or}
 use Rattle.std.specs.List.{list_any, AllByRecursion}
-use Rattle.std.proofs.lemmas.Bool.{eq-eqb, ne_eqb, or_parts, or_from}
+use Rattle.std.proofs.lemmas.Bool.{eq-eqb, eqb-true, ne_eqb, or_parts, or_from}
 use Rattle.std.proofs.lemmas.Bool.{true≢false}
 use Rattle.std.proofs.lemmas.List.{append-nil, take_more}
 use Rattle.lists.specs.Elements.{in_push_new}
@@ -18,8 +18,16 @@ use Rattle.tx_sets.specs.Entries.{record_places_of, writes_at}
 use Rattle.engine_pages.specs.declared.view.Read.{Read}
 use Rattle.engine_pages.specs.declared.view.Took.{Took}
 use Rattle.engine_pages.specs.declared.view.View.{View}
-use Rattle.page_records.specs.Locks.{lock_bit, took_at, locked, Locked}
-use Rattle.page_commit.specs.Places.{ground, spot_at, IsKeyAt}
+use Rattle.page_records.specs.Locks.{lock_bit, open_bits, took_at, locked, IsOpenWord, Locked}
+use Rattle.engine_pages.specs.Records.{IsAnyRecordAt}
+use Rattle.engine_pages.specs.declared.engine.Engine.{Engine}
+use Rattle.engine_pages.specs.Passes.{Pass, view, IsPassOf}
+use Rattle.engine_pages.specs.Views.{IsActive}
+use Rattle.page_records.specs.Reads.{LoadedWord}
+use Rattle.engine_pages.specs.Pages.{is_array}
+use Rattle.engine_pages.specs.declared.layout.Layout.{Layout}
+use Rattle.page_commit.proofs.AnyPlaces.{any_spot, tree_kind}
+use Rattle.page_commit.specs.Places.{ground, spot_at, spot_for, IsAnyKeyAt, IsAnyKeyIn}
 use Rattle.array_pages.proofs.ReadLaws.{kept_with}
 use Rattle.page_commit.proofs.ReadLaws.{seen_at-same, seen_at-other}
 use Rattle.engine_pages.specs.Steps.{kept_at, read_at, seen_at, with_read}
@@ -31,9 +39,9 @@ use Rattle.engine_pages.specs.declared.view.Role.TheVariants.{Worker}
 use Rattle.engine_pages.specs.declared.view.Touch.{Touch}
 use Rattle.page_commit.specs.Committing.{changes_of, touches_of}
 use Rattle.page_commit.specs.Live.{read_word, AreMet, IsWriteOf}
-use Rattle.page_commit.specs.Refusing.{IsConflict}
+use Rattle.page_commit.specs.Refusing.{IsConflict, IsTreeConflict}
 use Rattle.page_commit.specs.Steps.{keys_of, tooks_of, AreSmall, AreAsRead, KeepOthers, HasGlanced, HasTaken}
-use Rattle.page_commit.specs.Steps.{HasLocked, HasLockedAll, IsFree, StaysAside}
+use Rattle.page_commit.specs.Steps.{HasLocked, HasLockedAll, IsFree, IsMetSo, IsRecordConflict, IsUnkept, StaysAside}
 use Rattle.page_commit.proofs.Lists.{map_push, all_get, in_at}
 
 -- ---- one lock
@@ -67,67 +75,292 @@ glanced_twice v w x h g = record {
   } in z) h.is;
 }
 
-pub expected_small : (reads : List ReadEntry) (at word expected : ℕ) → AreSmall reads
-    → expected ≡ unwrap_or (read_word at reads) word → word < 2 ^ 60 → expected < 2 ^ 60
-expected_small reads at word expected small is less =
-    subst (λ n. n < 2 ^ 60) (sym is) (by_word (read_word at reads) refl)
-  where
-    by_word : (o : Option ℕ) → read_word at reads ≡ o → unwrap_or o word < 2 ^ 60
-    by_word (Some n) read = small at n read
-    by_word None read = less
-
 stands_now : (reads : List Read) (at n : ℕ)
     → Contains (with_read reads at n) (record { word = at; seen = n; was = seen_at reads at; kept = kept_at reads at })
 stands_now reads at n =
     in_push_new (record { word = at; seen = n; was = seen_at reads at; kept = kept_at reads at }) (filter (λ (r : Read). not (r.word == at))
     reads)
 
--- the load found the word locked, or not the expected one
-pub load_conflict : (reads : List ReadEntry) (at word expected : ℕ) (v w : View)
-    → seen_at v.reads at ≡ read_word at reads → w ≡ read_at at word v
-    → expected ≡ unwrap_or (read_word at reads) word → (2 ^ 60 ≤ word) ⊎ ((expected < 2 ^ 60) × (word ≢ expected))
-    → IsConflict reads at expected word v w
-load_conflict reads at word expected v w met is known cause = record {
-  step = v.steps;
-  last = ap (λ (y : View). y.last) is;
+-- the record is of an array, or not
+by_kind : (P : Type 0) (b : Bool) → (b ≡ true → P) → (b ≡ false → P) → P
+by_kind P true array other = array refl
+by_kind P false array other = other refl
+
+-- behind one load the word of a tree's record is known with the word before
+tree_stands : (at seen : ℕ) (o kept : Option ℕ) (reads : List Read) → kept ≡ None → (expected : ℕ) → o ≡ Some expected
+    → Contains reads (record { word = at; seen = seen; was = o; kept = kept })
+    → Contains reads (record { word = at; seen = seen; was = Some expected; kept = None })
+tree_stands at seen o kept reads none expected was has =
+    subst (λ (q : Option ℕ). Contains reads (record { word = at; seen = seen; was = q; kept = None })) was
+    (subst (λ (q : Option ℕ). Contains reads (record { word = at; seen = seen; was = o; kept = q })) none has)
+
+-- the load found an open word that isn't the one which was read
+pub other_conflict : (reads : List ReadEntry) (k : Key) (t at word expected : ℕ) (v w : View) → IsMetSo reads k at v
+    → LoadedWord t at v word w → expected ≡ unwrap_or (read_word at reads) word → word ≢ expected
+    → IsRecordConflict reads k at expected word v w
+other_conflict reads k t at word expected v w met l known other = by_read (read_word at reads) refl
+  where
+    stands : Contains w.reads (record { word = at; seen = word; was = seen_at v.reads at; kept = kept_at v.reads at })
+    stands = subst (λ (y : View). Contains y.reads
+        (record { word = at; seen = word; was = seen_at v.reads at; kept = kept_at v.reads at })) (sym l.is)
+        (stands_now v.reads at word)
+
+    some_is : (a c : ℕ) → Some a ≡ Some c → a ≡ c
+    some_is a c same = cc
+
+    by_read : (o : Option ℕ) → read_word at reads ≡ o → IsRecordConflict reads k at expected word v w
+    by_read None none = absurd (other (sym (known ∙ ap (λ q. unwrap_or q word) none)))
+    by_read (Some n) read =
+        let is : expected ≡ n = known ∙ ap (λ q. unwrap_or q word) read in
+        let was : seen_at v.reads at ≡ Some expected = met.read n read ∙ ap (λ m. Some m) (sym is) in
+        let so : (m : ℕ) → read_word at reads ≡ Some m → expected ≡ m = λ m of. is ∙ some_is n m (sym read ∙ of) in
+        by_kind (IsRecordConflict reads k at expected word v w) (is_array v.layout.decls k.storage)
+        (λ array. inl (
+          array,
+          record {
+            step = v.steps;
+            last = ap (λ (y : View). y.last) l.is;
+            since = omega arith;
+            was = seen_at v.reads at;
+            kept = kept_at v.reads at;
+            stands = stands;
+            read = so;
+            known = sym (ap (λ o. unwrap_or o word) was);
+            cause = inr ((let low = (met.small n read).1 array in omega (arith, low, is)), other);
+          },
+        ))
+        (λ tree. inr (
+          tree,
+          record {
+            step = v.steps;
+            last = ap (λ (y : View). y.last) l.is;
+            since = omega arith;
+            stands = tree_stands at word (seen_at v.reads at) (kept_at v.reads at) w.reads (met.kept tree) expected was stands;
+            read = so;
+            cause = inr other;
+          },
+        ))
+
+-- the word was locked, which had been read, or is an array's
+pub locked_conflict : (reads : List ReadEntry) (k : Key) (t at word expected : ℕ) (v w : View) → IsMetSo reads k at v
+    → LoadedWord t at v word w → expected ≡ unwrap_or (read_word at reads) word → (word / 2 ^ 60) % 2 ≡ 1
+    → (is_array v.layout.decls k.storage ≡ false → (n : ℕ) × (read_word at reads ≡ Some n))
+    → IsRecordConflict reads k at expected word v w
+locked_conflict reads k t at word expected v w met l known bit tree =
+    by_kind (IsRecordConflict reads k at expected word v w) (is_array v.layout.decls k.storage) by_array by_tree
+  where
+    stands : Contains w.reads (record { word = at; seen = word; was = seen_at v.reads at; kept = kept_at v.reads at })
+    stands = subst (λ (y : View). Contains y.reads
+        (record { word = at; seen = word; was = seen_at v.reads at; kept = kept_at v.reads at })) (sym l.is)
+        (stands_now v.reads at word)
+
+    so : (m : ℕ) → read_word at reads ≡ Some m → expected ≡ m
+    so m of = known ∙ ap (λ q. unwrap_or q word) of
+
+    by_array : is_array v.layout.decls k.storage ≡ true → IsRecordConflict reads k at expected word v w
+    by_array array = inl (
+      array,
+      record {
+        step = v.steps;
+        last = ap (λ (y : View). y.last) l.is;
+        since = omega arith;
+        was = seen_at v.reads at;
+        kept = kept_at v.reads at;
+        stands = stands;
+        read = so;
+        known = known ∙ ap (λ o. unwrap_or o word) (sym (met.array array));
+        cause = inl (omega (arith, bit));
+      },
+    )
+
+    by_tree : is_array v.layout.decls k.storage ≡ false → IsRecordConflict reads k at expected word v w
+    by_tree other =
+        let r = tree other in
+        let was : seen_at v.reads at ≡ Some expected = met.read r.0 r.1 ∙ ap (λ m. Some m) (sym (so r.0 r.1)) in
+        inr (
+          other,
+          record {
+            step = v.steps;
+            last = ap (λ (y : View). y.last) l.is;
+            since = omega arith;
+            stands = tree_stands at word (seen_at v.reads at) (kept_at v.reads at) w.reads (met.kept other) expected was stands;
+            read = so;
+            cause = inl bit;
+          },
+        )
+
+-- a tree's word was locked that hadn't been read, and is loaded once more
+pub again_conflict : (reads : List ReadEntry) (k : Key) (t u at word seen : ℕ) (v w x : View) → IsMetSo reads k at v
+    → is_array v.layout.decls k.storage ≡ false → read_word at reads ≡ None → LoadedWord t at v word w
+    → LoadedWord u at w seen x → (word / 2 ^ 60) % 2 ≡ 1 → IsRecordConflict reads k at word seen v x
+again_conflict reads k t u at word seen v w x met tree none first l bit =
+    let steps : w.steps ≡ v.steps + 1 = ap (λ (z : View). z.steps) first.is in
+    let was : seen_at w.reads at ≡ Some word =
+    ap (λ (z : View). seen_at z.reads at) first.is ∙ seen_at-same v.reads at word in
+    let kept : kept_at w.reads at ≡ None =
+    ap (λ (z : View). kept_at z.reads at) first.is ∙ (kept_with v.reads at word at ∙ met.kept tree) in
+    inr (
+      tree,
+      record {
+        step = w.steps;
+        last = ap (λ (z : View). z.last) l.is;
+        since = omega (arith, steps);
+        stands = tree_stands at seen (seen_at w.reads at) (kept_at w.reads at) x.reads kept word was
+            (subst (λ (z : View). Contains z.reads
+            (record { word = at; seen = seen; was = seen_at w.reads at; kept = kept_at w.reads at })) (sym l.is)
+            (stands_now w.reads at seen));
+        read = λ n of. absurd (let both : None ≡ Some n = sym none ∙ of in cc);
+        cause = by_bit ((seen / 2 ^ 60) % 2) refl;
+      },
+    )
+  where
+    by_bit : (b : ℕ) → (seen / 2 ^ 60) % 2 ≡ b → ((seen / 2 ^ 60) % 2 ≡ 1) ⊎ (seen ≢ word)
+    by_bit zero is = inr (λ same. let other : zero ≡ 1 = sym is ∙ (ap (λ n. (n / 2 ^ 60) % 2) same ∙ bit) in absurd (omega (arith, other)))
+    by_bit (suc b) is = inl (omega (arith, is))
+
+-- what of this is known at run time
+pub told_once : (e : Engine) (p : Pass) (reads : List ReadEntry) (k : Key) (t at word : ℕ) (v : View) (b : Bool)
+    → IsPassOf e p → LoadedWord t at v word (view p)
+    → b ≡ (is_some (read_word at reads) || is_array e.table.shared.key.decls k.storage) → b ≡ true
+    → is_array v.layout.decls k.storage ≡ false → (n : ℕ) × (read_word at reads ≡ Some n)
+told_once e p reads k t at word v b of l test hit tree = by_read (read_word at reads) refl
+  where
+    array : is_array e.table.shared.key.decls k.storage ≡ false
+    array = ap (λ (y : Layout). is_array y.decls k.storage) (sym of.layout ∙ ap (λ (z : View). z.layout) l.is) ∙ tree
+
+    by_read : (o : Option ℕ) → read_word at reads ≡ o → (n : ℕ) × (read_word at reads ≡ Some n)
+    by_read (Some n) is = (n, is)
+    by_read None is =
+        let none : (is_some (read_word at reads) || is_array e.table.shared.key.decls k.storage) ≡ false =
+        ap (λ (o : Option ℕ). is_some o || is_array e.table.shared.key.decls k.storage) is ∙ array in
+        absurd (true≢false (sym hit ∙ (test ∙ none)))
+
+pub told_again : (e : Engine) (p : Pass) (reads : List ReadEntry) (k : Key) (t u at word expected seen : ℕ) (v x : View)
+    (b : Bool) → IsPassOf e p → IsMetSo reads k at v → LoadedWord t at v word (view p)
+    → b ≡ (is_some (read_word at reads) || is_array e.table.shared.key.decls k.storage) → b ≡ false
+    → expected ≡ unwrap_or (read_word at reads) word → LoadedWord u at (view p) seen x → (word / 2 ^ 60) % 2 ≡ 1
+    → IsRecordConflict reads k at expected seen v x
+told_again e p reads k t u at word expected seen v x b of met l test miss known again bit =
+    by_read (read_word at reads) refl
+  where
+    parts : (is_some (read_word at reads) ≡ false) × (is_array e.table.shared.key.decls k.storage ≡ false)
+    parts = or_parts (is_some (read_word at reads)) (is_array e.table.shared.key.decls k.storage) (sym test ∙ miss)
+
+    tree : is_array v.layout.decls k.storage ≡ false
+    tree = ap (λ (y : Layout). is_array y.decls k.storage) (sym (sym of.layout ∙ ap (λ (z : View). z.layout) l.is)) ∙ parts.1
+
+    by_read : (o : Option ℕ) → read_word at reads ≡ o → IsRecordConflict reads k at expected seen v x
+    by_read (Some n) is = absurd (true≢false (sym (ap (λ (o : Option ℕ). is_some o) is) ∙ parts.0))
+    by_read None is =
+        subst (λ (m : ℕ). IsRecordConflict reads k at m seen v x)
+        (sym (known ∙ ap (λ (o : Option ℕ). unwrap_or o word) is))
+        (again_conflict reads k t u at word seen v (view p) x met tree is l again bit)
+
+pub glanced_none : (v : View) → HasGlanced v v
+glanced_none v = record {
+  steps = v.steps;
   since = omega arith;
-  was = seen_at v.reads at;
-  kept = kept_at v.reads at;
-  stands = subst (λ (y : View). Contains y.reads
-      (record { word = at; seen = word; was = seen_at v.reads at; kept = kept_at v.reads at })) (sym is)
-      (stands_now v.reads at word);
-  read = λ n of. known ∙ ap (λ o. unwrap_or o word) of;
-  known = known ∙ ap (λ o. unwrap_or o word) (sym met);
-  cause = cause;
+  last = v.last;
+  loaded = v.loaded;
+  reads = v.reads;
+  kept = λ a. refl;
+  is = refl;
 }
 
--- the compare_exchange found another word than the load
-pub lock_conflict : (reads : List ReadEntry) (k : Key) (x : Spot) (at word expected seen : ℕ) (v w y : View)
-    → w ≡ read_at at word v → expected ≡ unwrap_or (read_word at reads) word → word ≡ expected → word < 2 ^ 60
-    → seen ≢ expected → Locked k x at expected w seen y → IsConflict reads at expected seen v y
-lock_conflict reads k x at word expected seen v w y is known same small other l =
-    let miss : eqb seen expected ≡ false = ne_eqb seen expected other in
-    let is2 : y ≡ read_at at seen w = subst (λ b. MatchBool b (y ≡ locked k x at seen w) (y ≡ read_at at seen w)) miss l
-    in
-    let steps : w.steps ≡ v.steps + 1 = ap (λ (z : View). z.steps) is in
-    let was : seen_at w.reads at ≡ Some word =
-    ap (λ (z : View). seen_at z.reads at) is ∙ seen_at-same v.reads at word in record {
-      step = w.steps;
-      last = ap (λ (z : View). z.last) is2;
-      since = omega (arith, steps);
-      was = seen_at w.reads at;
-      kept = kept_at w.reads at;
-      stands = subst (λ (z : View). Contains z.reads
-          (record { word = at; seen = seen; was = seen_at w.reads at; kept = kept_at w.reads at }))
-          (sym is2)
-          (stands_now w.reads at seen);
-      read = λ n of. sym same ∙ by_read (read_word at reads) n of (known ∙ refl);
-      known = sym same ∙ sym (ap (λ o. unwrap_or o seen) was);
-      cause = inr (omega (arith, small, same), other);
-    }
+-- ---- behind the first load
+
+pub loaded_active : (t at n : ℕ) (v w : View) → v.role ≡ Worker (worker_of v.role) → LoadedWord t at v n w
+    → IsActive w.role
+loaded_active t at n v w worker l = subst IsActive (sym (ap (λ (y : View). y.role) l.is ∙ worker)) tt
+
+pub loaded_key : (k : Key) (t at n : ℕ) (v w : View) → IsAnyKeyAt v k at → LoadedWord t at v n w → IsAnyKeyAt w k at
+loaded_key k t at n v w place l = subst (λ (y : View). IsAnyKeyAt y k at) (sym l.is) place
+
+pub loaded_place : (k : Key) (t at n : ℕ) (v w : View) → IsAnyKeyAt v k at → LoadedWord t at v n w
+    → IsAnyRecordAt w k (spot_for w.layout k at) at
+loaded_place k t at n v w place l = any_spot w k at (loaded_key k t at n v w place l)
+
+pub bit_set : (n : ℕ) (b : Bool) → b ≡ ((n / 2 ^ 60) % 2 == 1) → b ≡ true → (n / 2 ^ 60) % 2 ≡ 1
+bit_set n b test hit = eqb-true ((n / 2 ^ 60) % 2) 1 (sym test ∙ hit)
+
+bit_clear : (n : ℕ) (b : Bool) → b ≡ ((n / 2 ^ 60) % 2 == 1) → b ≡ false → (n / 2 ^ 60) % 2 ≡ 0
+bit_clear n b test miss = by_bit ((n / 2 ^ 60) % 2) refl
   where
-    by_read : (o : Option ℕ) (n : ℕ) → o ≡ Some n → expected ≡ unwrap_or o word → word ≡ n
-    by_read o n of e = same ∙ (e ∙ ap (λ q. unwrap_or q word) of)
+    by_bit : (m : ℕ) → (n / 2 ^ 60) % 2 ≡ m → (n / 2 ^ 60) % 2 ≡ 0
+    by_bit zero is = is
+    by_bit (suc m) is =
+        let one : (n / 2 ^ 60) % 2 ≡ 1 = omega (arith, is) in
+        absurd (true≢false (sym (eq-eqb ((n / 2 ^ 60) % 2) 1 one) ∙ (sym test ∙ miss)))
+
+pub open_loaded : (t at n expected : ℕ) (b : Bool) (v w : View) → LoadedWord t at v n w → b ≡ ((n / 2 ^ 60) % 2 == 1)
+    → b ≡ false → n ≡ expected → IsOpenWord expected
+open_loaded t at n expected b v w l test miss same =
+    subst IsOpenWord same (open_bits n l.few (bit_clear n b test miss))
+
+-- an array's open word has no bit above its number
+pub plain_loaded : (k : Key) (t at n : ℕ) (b : Bool) (v w : View) → IsAnyKeyAt v k at → LoadedWord t at v n w
+    → b ≡ ((n / 2 ^ 60) % 2 == 1) → b ≡ false → is_array v.layout.decls k.storage ≡ true → n < 2 ^ 60
+plain_loaded k t at n b v w place l test miss array = by_place place
+  where
+    by_place : IsAnyKeyAt v k at → n < 2 ^ 60
+    by_place (inl p) =
+        let less = l.array k (spot_at v.layout.slots at) p in
+        let clear = bit_clear n b test miss in omega (arith, less, clear)
+    by_place (inr p) = absurd (true≢false (sym array ∙ tree_kind (ground v) k at p))
+
+-- the compare_exchange found another word than the load
+pub lock_conflict : (reads : List ReadEntry) (k : Key) (p : Spot) (t at word expected seen : ℕ) (v w y : View)
+    → IsMetSo reads k at v → LoadedWord t at v word w → expected ≡ unwrap_or (read_word at reads) word → word ≡ expected
+    → (is_array v.layout.decls k.storage ≡ true → word < 2 ^ 60)
+    → seen ≢ expected → Locked k p at expected w seen y → IsRecordConflict reads k at expected seen v y
+lock_conflict reads k p t at word expected seen v w y met first known same small other l =
+    by_kind (IsRecordConflict reads k at expected seen v y) (is_array v.layout.decls k.storage)
+    (λ array. inl (
+      array,
+      record {
+        step = w.steps;
+        last = ap (λ (z : View). z.last) is2;
+        since = omega (arith, steps);
+        was = seen_at w.reads at;
+        kept = kept_at w.reads at;
+        stands = stands;
+        read = so;
+        known = sym (ap (λ o. unwrap_or o seen) was);
+        cause = inr ((let low = small array in omega (arith, low, same)), other);
+      },
+    ))
+    (λ tree. inr (
+      tree,
+      record {
+        step = w.steps;
+        last = ap (λ (z : View). z.last) is2;
+        since = omega (arith, steps);
+        stands = tree_stands at seen (seen_at w.reads at) (kept_at w.reads at) y.reads
+            (ap (λ (z : View). kept_at z.reads at) first.is ∙ (kept_with v.reads at word at ∙ met.kept tree)) expected was stands;
+        read = so;
+        cause = inr other;
+      },
+    ))
+  where
+    miss : eqb seen expected ≡ false
+    miss = ne_eqb seen expected other
+
+    is2 : y ≡ read_at at seen w
+    is2 = subst (λ b. MatchBool b (y ≡ locked k p at seen w) (y ≡ read_at at seen w)) miss l
+
+    steps : w.steps ≡ v.steps + 1
+    steps = ap (λ (z : View). z.steps) first.is
+
+    was : seen_at w.reads at ≡ Some expected
+    was = ap (λ (z : View). seen_at z.reads at) first.is ∙ (seen_at-same v.reads at word ∙ ap (λ m. Some m) same)
+
+    so : (m : ℕ) → read_word at reads ≡ Some m → expected ≡ m
+    so m of = known ∙ ap (λ q. unwrap_or q word) of
+
+    stands : Contains y.reads (record { word = at; seen = seen; was = seen_at w.reads at; kept = kept_at w.reads at })
+    stands = subst (λ (z : View). Contains z.reads
+        (record { word = at; seen = seen; was = seen_at w.reads at; kept = kept_at w.reads at })) (sym is2)
+        (stands_now w.reads at seen)
 
 pub lock_glanced : (k : Key) (p : Spot) (at word expected seen : ℕ) (v w x : View) → w ≡ read_at at word v
     → seen ≢ expected → Locked k p at expected w seen x → HasGlanced v x
@@ -137,10 +370,11 @@ lock_glanced k p at word expected seen v w x is other l =
     in
     glanced_twice v w x (glanced_once v w at word is) (glanced_once w x at seen is2)
 
-pub taken : (k : Key) (p : Spot) (at word expected seen : ℕ) (v w x : View) → p ≡ spot_at v.layout.slots at
-    → w ≡ read_at at word v → seen ≡ expected
-    → Locked k p at expected w seen x → HasTaken k at seen v x
-taken k p at word expected seen v w x there is same l =
+pub taken : (k : Key) (at word expected seen : ℕ) (v w x : View) → w ≡ read_at at word v → seen ≡ expected
+    → Locked k (spot_for w.layout k at) at expected w seen x → HasTaken k at seen v x
+taken k at word expected seen v w x is same l =
+    let p : Spot = spot_for w.layout k at in
+    let there : p ≡ spot_for v.layout k at = ap (λ (y : View). spot_for y.layout k at) is in
     let hit : eqb seen expected ≡ true = eq-eqb seen expected same in
     let is2 : x ≡ locked k p at seen w = subst (λ b. MatchBool b (x ≡ locked k p at seen w) (x ≡ read_at at seen w)) hit l
     in
@@ -177,6 +411,42 @@ conflict_since reads at expected seen v w x steps c = record {
   cause = c.cause;
 }
 
+-- the same of a tree's record
+tree_since : (reads : List ReadEntry) (at expected seen : ℕ) (v w x : View)
+    → v.steps ≤ w.steps → IsTreeConflict reads at expected seen w x → IsTreeConflict reads at expected seen v x
+tree_since reads at expected seen v w x steps c = record {
+  step = c.step;
+  last = c.last;
+  since = omega (arith, steps, c.since);
+  stands = c.stands;
+  read = c.read;
+  cause = c.cause;
+}
+
+pub record_since : (reads : List ReadEntry) (k : Key) (at expected seen : ℕ) (v w x : View)
+    → v.steps ≤ w.steps → w.layout ≡ v.layout → IsRecordConflict reads k at expected seen w x
+    → IsRecordConflict reads k at expected seen v x
+record_since reads k at expected seen v w x steps layout (inl c) = inl (
+  subst (λ (l : Layout). is_array l.decls k.storage ≡ true) layout c.0,
+  conflict_since reads at expected seen v w x steps c.1,
+)
+record_since reads k at expected seen v w x steps layout (inr c) = inr (
+  subst (λ (l : Layout). is_array l.decls k.storage ≡ false) layout c.0,
+  tree_since reads at expected seen v w x steps c.1,
+)
+
+pub tree_then : (reads : List ReadEntry) (ws : List Write) (at expected seen : ℕ) (u v x y : View) → u.steps ≤ v.steps
+    → y.last ≡ x.last → KeepOthers ws x.reads y.reads → writes_at at ws ≡ false
+    → IsTreeConflict reads at expected seen v x → IsTreeConflict reads at expected seen u y
+tree_then reads ws at expected seen u v x y steps last others apart c = record {
+  step = c.step;
+  last = last ∙ c.last;
+  since = let low = c.since in omega (arith, steps, low);
+  stands = others (record { word = at; seen = seen; was = Some expected; kept = None }) c.stands apart;
+  read = c.read;
+  cause = c.cause;
+}
+
 pub conflict_then : (reads : List ReadEntry) (ws : List Write) (at expected seen : ℕ) (v x y : View)
     → y.last ≡ x.last → KeepOthers ws x.reads y.reads → writes_at at ws ≡ false
     → IsConflict reads at expected seen v x → IsConflict reads at expected seen v y
@@ -194,12 +464,12 @@ conflict_then reads ws at expected seen v x y last others apart c = record {
 
 -- ---- one lock more
 
-tooks_push : (slots : ℕ) (ws : List Write) (found : List ℕ) (w : Write) (n : ℕ) → length found ≡ length ws
-    → tooks_of slots (ws ++ w ∷ []) (found ++ n ∷ []) ≡ tooks_of slots ws found ++ took_at w.key (spot_at slots w.at) n ∷ []
-tooks_push slots [] [] w n same = refl
-tooks_push slots [] (m ∷ found) w n same = absurd (omega arith)
-tooks_push slots (x ∷ ws) [] w n same = absurd (omega arith)
-tooks_push slots (x ∷ ws) (m ∷ found) w n same = ap (λ l. took_at x.key (spot_at slots x.at) m ∷ l) (tooks_push slots ws found w n (omega arith))
+tooks_push : (lay : Layout) (ws : List Write) (found : List ℕ) (w : Write) (n : ℕ) → length found ≡ length ws
+    → tooks_of lay (ws ++ w ∷ []) (found ++ n ∷ []) ≡ tooks_of lay ws found ++ took_at w.key (spot_for lay w.key w.at) n ∷ []
+tooks_push lay [] [] w n same = refl
+tooks_push lay [] (m ∷ found) w n same = absurd (omega arith)
+tooks_push lay (x ∷ ws) [] w n same = absurd (omega arith)
+tooks_push lay (x ∷ ws) (m ∷ found) w n same = ap (λ l. took_at x.key (spot_for lay x.key x.at) m ∷ l) (tooks_push lay ws found w n (omega arith))
 
 pub as_read_push : (reads : List ReadEntry) (ws : List Write) (found : List ℕ) (w : Write) (n : ℕ)
     → length found ≡ length ws → n ≡ unwrap_or (read_word w.at reads) n → AreAsRead reads ws found
@@ -251,7 +521,7 @@ locked_one ws found one n v w x h t =
     let count = length_push found n in
     let count' = length_push ws one in
     let more : View → View = λ (z : View). with_locks z (z.seat.locks ++ one.key ∷ []) (z.took
-    ++ took_at one.key (spot_at z.layout.slots one.at) n ∷ []) (z.touched ++ touch (seat_number z.role) one.key ∷ []) y in
+    ++ took_at one.key (spot_for z.layout one.key one.at) n ∷ []) (z.touched ++ touch (seat_number z.role) one.key ∷ []) y in
     let q : ℕ = seat_number v.role in
     let touched : List Touch = (v.touched ++ touches_of q (changes_of ws)) ++ touch q one.key ∷ [] in
     let touched-is : touched ≡ v.touched ++ touches_of q (changes_of (ws ++ one ∷ [])) =
@@ -265,10 +535,10 @@ locked_one ws found one n v w x h t =
       reads = t.reads;
       kept = λ a. t.kept a ∙ (ap (λ (z : View). kept_at z.reads a) h.is ∙ h.kept a);
       is = t.is ∙ (ap more h.is
-          ∙ (ap (λ l. with_locks v l (tooks_of v.layout.slots ws found ++ took_at one.key (spot_at v.layout.slots one.at) n ∷ []) touched y)
+          ∙ (ap (λ l. with_locks v l (tooks_of v.layout ws found ++ took_at one.key (spot_for v.layout one.key one.at) n ∷ []) touched y)
           (sym (map_push (λ (z : Write). z.key) ws one))
-          ∙ (ap (λ l. with_locks v (keys_of (ws ++ one ∷ [])) l touched y) (sym (tooks_push v.layout.slots ws found one n h.count))
-          ∙ ap (λ l. with_locks v (keys_of (ws ++ one ∷ [])) (tooks_of v.layout.slots (ws ++ one ∷ []) (found ++ n ∷ [])) l y)
+          ∙ (ap (λ l. with_locks v (keys_of (ws ++ one ∷ [])) l touched y) (sym (tooks_push v.layout ws found one n h.count))
+          ∙ ap (λ l. with_locks v (keys_of (ws ++ one ∷ [])) (tooks_of v.layout (ws ++ one ∷ []) (found ++ n ∷ [])) l y)
           touched-is)));
     }
 
@@ -320,9 +590,9 @@ idle_still ws found v w free h = ap (λ (y : View). can_begin y.seat.stage) h.is
 
 pub place_at : (ws : List Write) (found : List ℕ) (done : ℕ) (d : Write) (v w : View)
     → AllByRecursion (IsWriteOf (ground v)) ws → HasLocked (take done ws) found v w → done < length ws
-    → IsKeyAt w (get_or ws done d).key (get_or ws done d).at
+    → IsAnyKeyAt w (get_or ws done d).key (get_or ws done d).at
 place_at ws found done d v w all h lt =
-    subst (λ (y : View). IsKeyAt y (get_or ws done d).key (get_or ws done d).at) (sym h.is)
+    subst (λ (y : View). IsAnyKeyAt y (get_or ws done d).key (get_or ws done d).at) (sym h.is)
     (all_get (IsWriteOf (ground v)) ws done d lt all).place
 
 -- a word isn't among those of the writes before it
@@ -343,14 +613,37 @@ not_before_at (x ∷ xs) (suc i) d are lt =
     all_other at (y ∷ l) (suc j) e all less = all_other at l j e all.1 (omega arith)
 
 -- the record to be locked is known as it was read
-pub met_at : (reads : List ReadEntry) (ws : List Write) (done : ℕ) (d : Write) (v w : View)
+pub met_at : (reads : List ReadEntry) (ws : List Write) (found : List ℕ) (done : ℕ) (d : Write) (v w : View)
     → AllByRecursion (IsWriteOf (ground v)) ws → AreDistinct (record_places_of ws) → AreMet reads [] v
-    → StaysAside (take done ws) v w → done < length ws
-    → seen_at w.reads (get_or ws done d).at ≡ read_word (get_or ws done d).at reads
-met_at reads ws done d v w all apart met aside lt =
+    → AreSmall reads (ground v) → AllByRecursion (IsUnkept v) ws
+    → HasLocked (take done ws) found v w → StaysAside (take done ws) v w → done < length ws
+    → IsMetSo reads (get_or ws done d).key (get_or ws done d).at w
+met_at reads ws found done d v w all apart met small unkept h aside lt =
     let one : Write = get_or ws done d in
-    aside one.at (not_before_at ws done d apart lt)
-    ∙ met.arrays one.key one.at (all_get (IsWriteOf (ground v)) ws done d lt all).place refl
+    let place : IsAnyKeyIn (ground v) one.key one.at = (all_get (IsWriteOf (ground v)) ws done d lt all).place in
+    let now : seen_at w.reads one.at ≡ seen_at v.reads one.at = aside one.at (not_before_at ws done d apart lt) in
+    let layout : w.layout ≡ v.layout = ap (λ (y : View). y.layout) h.is in record {
+      array = λ array.
+          now ∙ by_array one place (subst (λ (l : Layout). is_array l.decls one.key.storage ≡ true) layout array);
+      read = λ n of. now ∙ by_read one place n of;
+      kept = λ tree.
+          ap (λ (y : View). kept_at y.reads one.at) h.is
+          ∙ (h.kept one.at ∙ all_get (IsUnkept v) ws done d lt unkept
+          (subst (λ (l : Layout). is_array l.decls one.key.storage ≡ false) layout tree));
+      small = λ n of.
+          let r = small one.key one.at n place of in
+          (r.0, λ array. r.1 (subst (λ (l : Layout). is_array l.decls one.key.storage ≡ true) layout array));
+    }
+  where
+    by_array : (one : Write) → IsAnyKeyIn (ground v) one.key one.at → is_array v.layout.decls one.key.storage ≡ true
+        → seen_at v.reads one.at ≡ read_word one.at reads
+    by_array one (inl p) array = met.arrays one.key one.at p refl
+    by_array one (inr p) array = absurd (true≢false (sym array ∙ tree_kind (ground v) one.key one.at p))
+
+    by_read : (one : Write) → IsAnyKeyIn (ground v) one.key one.at → (n : ℕ) → read_word one.at reads ≡ Some n
+        → seen_at v.reads one.at ≡ Some n
+    by_read one (inl p) n of = met.arrays one.key one.at p refl ∙ of
+    by_read one (inr p) n of = met.trees one.key one.at n p refl of
 
 pub locked_so_far : (ws : List Write) (found more : List ℕ) (done : ℕ) (d : Write) (n : ℕ) (v w x : View)
     → done < length ws
@@ -405,14 +698,15 @@ lock_apart ws found done d at v w apart lt same h =
 
 pub lock_refused : (reads : List ReadEntry) (ws : List Write) (found : List ℕ) (done : ℕ) (d : Write)
     (at expected seen : ℕ) (v w x : View) → done < length ws → at ≡ (get_or ws done d).at
-    → HasLocked (take done ws) found v w → IsConflict reads at expected seen w x
-    → (one : Write) × Contains ws one × (one.at ≡ at) × IsConflict reads at expected seen v x
+    → HasLocked (take done ws) found v w → IsRecordConflict reads (get_or ws done d).key at expected seen w x
+    → (one : Write) × Contains ws one × (one.at ≡ at) × IsRecordConflict reads one.key at expected seen v x
 lock_refused reads ws found done d at expected seen v w x lt same h c =
     let steps : w.steps ≡ h.steps = ap (λ (y : View). y.steps) h.is in (
       get_or ws done d,
       in_at ws done d lt,
       sym same,
-      conflict_since reads at expected seen v w x (omega (arith, steps, h.since)) c,
+      record_since reads (get_or ws done d).key at expected seen v w x (omega (arith, steps, h.since))
+          (ap (λ (y : View). y.layout) h.is) c,
     )
 
 pub held_within : (ws : List Write) (found held : List ℕ) → held ≡ found → length found ≤ length ws

@@ -16,15 +16,17 @@ use Rattle.tx_sets.specs.Entries.{has_write, writes_at}
 use Rattle.engine_pages.specs.declared.view.Loaded.{Loaded}
 use Rattle.engine_pages.specs.declared.view.Read.{Read}
 use Rattle.engine_pages.specs.declared.view.Took.{Took}
+use Rattle.engine_pages.specs.declared.layout.Layout.{Layout}
 use Rattle.engine_pages.specs.declared.view.View.{View}
 use Rattle.page_records.specs.Locks.{took_at, not_at, opened, CanOpenAgain}
 use Rattle.engine_pages.specs.Steps.{kept_at, seen_at, with_read}
+use Rattle.engine_pages.specs.Records.{IsAnyRecordAt}
 use Rattle.engine_pages.specs.Views.{IsActive}
 use Rattle.homes.specs.declared.places.Spot.{Spot}
 use Rattle.engine_pages.specs.declared.engine.Engine.{Engine}
 use Rattle.engine_pages.specs.Passes.{Pass, view, IsPassOf}
-use Rattle.page_commit.proofs.PlaceLaws.{spot_here}
-use Rattle.page_commit.specs.Places.{ground, spot_at, IsKeyAt}
+use Rattle.page_commit.proofs.AnyPlaces.{any_spot, spot_same}
+use Rattle.page_commit.specs.Places.{ground, spot_for, IsAnyKeyAt}
 use Rattle.page_commit.specs.Live.{IsWriteOf}
 use Rattle.page_commit.specs.Steps.{keys_of, tooks_of, KeepOthers, HasLocks, HasUnlocked}
 use Rattle.page_commit.proofs.Lists.{drop_one, drop_all, all_get, AreApart, apart_drop, apart_head}
@@ -38,7 +40,7 @@ pub record IsUnlocking (writes : List Write) (found : List ℕ) (v w : View) (do
   pub reads : List Read
   pub is : w ≡ record v {
     seat = seat;
-    took = tooks_of v.layout.slots (drop done writes) (drop done found);
+    took = tooks_of v.layout (drop done writes) (drop done found);
     steps = steps;
     loaded = loaded;
     reads = reads;
@@ -85,48 +87,48 @@ first_goes one ws none =
     (filter (λ q. not (same_key q one.key)) (keys_of ws))) (same_key-self one.key)
     ∙ others_stay one.key ws none
 
-tooks_stay : (slots : ℕ) (k : Key) (ws : List Write) (ns : List ℕ) → has_write k ws ≡ false → not_at k (tooks_of slots ws ns)
-    ≡ tooks_of slots ws ns
-tooks_stay slots k [] ns none = refl
-tooks_stay slots k (w ∷ ws) [] none = refl
-tooks_stay slots k (w ∷ ws) (n ∷ ns) none =
+tooks_stay : (lay : Layout) (k : Key) (ws : List Write) (ns : List ℕ) → has_write k ws ≡ false → not_at k (tooks_of lay ws ns)
+    ≡ tooks_of lay ws ns
+tooks_stay lay k [] ns none = refl
+tooks_stay lay k (w ∷ ws) [] none = refl
+tooks_stay lay k (w ∷ ws) (n ∷ ns) none =
     let parts = Rattle.std.proofs.lemmas.Bool.or_parts (same_key w.key k) (has_write k ws) none in
-    ap (λ (b : Bool). cond (not b) (took_at w.key (spot_at slots w.at) n ∷ not_at k (tooks_of slots ws ns)) (not_at k (tooks_of slots ws ns))) parts.0
-    ∙ ap (λ l. took_at w.key (spot_at slots w.at) n ∷ l) (tooks_stay slots k ws ns parts.1)
+    ap (λ (b : Bool). cond (not b) (took_at w.key (spot_for lay w.key w.at) n ∷ not_at k (tooks_of lay ws ns)) (not_at k (tooks_of lay ws ns))) parts.0
+    ∙ ap (λ l. took_at w.key (spot_for lay w.key w.at) n ∷ l) (tooks_stay lay k ws ns parts.1)
 
-pub first_took : (slots : ℕ) (one : Write) (ws : List Write) (n : ℕ) (ns : List ℕ) → has_write one.key ws ≡ false
-    → not_at one.key (tooks_of slots (one ∷ ws) (n ∷ ns)) ≡ tooks_of slots ws ns
-first_took slots one ws n ns none =
-    ap (λ (b : Bool). cond (not b) (took_at one.key (spot_at slots one.at) n ∷ not_at one.key (tooks_of slots ws ns))
-    (not_at one.key (tooks_of slots ws ns))) (same_key-self one.key)
-    ∙ tooks_stay slots one.key ws ns none
+pub first_took : (lay : Layout) (one : Write) (ws : List Write) (n : ℕ) (ns : List ℕ) → has_write one.key ws ≡ false
+    → not_at one.key (tooks_of lay (one ∷ ws) (n ∷ ns)) ≡ tooks_of lay ws ns
+first_took lay one ws n ns none =
+    ap (λ (b : Bool). cond (not b) (took_at one.key (spot_for lay one.key one.at) n ∷ not_at one.key (tooks_of lay ws ns))
+    (not_at one.key (tooks_of lay ws ns))) (same_key-self one.key)
+    ∙ tooks_stay lay one.key ws ns none
 
 -- ---- one more
 
-tooks_one : (slots : ℕ) (ws : List Write) (ns : List ℕ) (i : ℕ) (d : Write) (e : ℕ) → i < length ws → i < length ns
-    → tooks_of slots (drop i ws) (drop i ns)
-    ≡ took_at (get_or ws i d).key (spot_at slots (get_or ws i d).at) (get_or ns i e)
-    ∷ tooks_of slots (drop (i + 1) ws) (drop (i + 1) ns)
-tooks_one slots ws ns i d e lt lt' =
-    ap (λ l. tooks_of slots l (drop i ns)) (drop_one ws i d lt) ∙ ap (λ l. tooks_of slots (get_or ws i d ∷ drop (i + 1) ws) l)
+tooks_one : (lay : Layout) (ws : List Write) (ns : List ℕ) (i : ℕ) (d : Write) (e : ℕ) → i < length ws → i < length ns
+    → tooks_of lay (drop i ws) (drop i ns)
+    ≡ took_at (get_or ws i d).key (spot_for lay (get_or ws i d).key (get_or ws i d).at) (get_or ns i e)
+    ∷ tooks_of lay (drop (i + 1) ws) (drop (i + 1) ns)
+tooks_one lay ws ns i d e lt lt' =
+    ap (λ l. tooks_of lay l (drop i ns)) (drop_one ws i d lt) ∙ ap (λ l. tooks_of lay (get_or ws i d ∷ drop (i + 1) ws) l)
     (drop_one ns i e lt')
 
 pub can_open_again : (writes : List Write) (found : List ℕ) (done : ℕ) (d : Write) (e : ℕ) (v w : View)
     → length found ≡ length writes → IsUnlocking writes found v w done → done < length writes
-    → CanOpenAgain w (get_or writes done d).key (spot_at v.layout.slots (get_or writes done d).at) (get_or found done e)
+    → CanOpenAgain w (get_or writes done d).key (spot_for v.layout (get_or writes done d).key (get_or writes done d).at) (get_or found done e)
 can_open_again writes found done d e v w count p lt =
     let one : Write = get_or writes done d in
     let locks : w.seat.locks ≡ one.key ∷ keys_of (drop (done + 1) writes) =
     ap (λ (y : View). y.seat.locks) p.is ∙ (p.locks ∙ ap keys_of (drop_one writes done d lt)) in
-    let took : w.took ≡ took_at one.key (spot_at v.layout.slots one.at) (get_or found done e)
-    ∷ tooks_of v.layout.slots (drop (done + 1) writes) (drop (done + 1) found) =
-    ap (λ (y : View). y.took) p.is ∙ tooks_one v.layout.slots writes found done d e lt (omega arith) in record {
+    let took : w.took ≡ took_at one.key (spot_for v.layout one.key one.at) (get_or found done e)
+    ∷ tooks_of v.layout (drop (done + 1) writes) (drop (done + 1) found) =
+    ap (λ (y : View). y.took) p.is ∙ tooks_one v.layout writes found done d e lt (omega arith) in record {
       idle = ap (λ (y : View). can_begin y.seat.stage) p.is ∙ p.idle;
       locked = ap (λ l. has_key l one.key) locks
           ∙ ap (λ b. b || has_key (keys_of (drop (done + 1) writes)) one.key) (same_key-self one.key);
-      took = subst (λ (l : List Took). Contains l (took_at one.key (spot_at v.layout.slots one.at) (get_or found done e))) (sym took)
-          (in_head (took_at one.key (spot_at v.layout.slots one.at) (get_or found done e))
-          (tooks_of v.layout.slots (drop (done + 1) writes) (drop (done + 1) found)));
+      took = subst (λ (l : List Took). Contains l (took_at one.key (spot_for v.layout one.key one.at) (get_or found done e))) (sym took)
+          (in_head (took_at one.key (spot_for v.layout one.key one.at) (get_or found done e))
+          (tooks_of v.layout (drop (done + 1) writes) (drop (done + 1) found)));
     }
 
 -- what was met of another word stays
@@ -154,7 +156,7 @@ unlocked_one writes found done d e v w x at count are p lt here is =
     let s : Seat = record p.seat { locks = filter (λ q. not (same_key q one.key)) p.seat.locks } in
     let u : View = record v {
       seat = p.seat;
-      took = tooks_of v.layout.slots (drop done writes) (drop done found);
+      took = tooks_of v.layout (drop done writes) (drop done found);
       steps = p.steps;
       loaded = p.loaded;
       reads = p.reads;
@@ -165,9 +167,9 @@ unlocked_one writes found done d e v w x at count are p lt here is =
     let locks : s.locks ≡ keys_of (drop (done + 1) writes) =
     ap (λ (l : List Key). filter (λ q. not (same_key q one.key)) l) (p.locks ∙ ap keys_of (drop_one writes done d lt))
     ∙ first_goes one (drop (done + 1) writes) apart in
-    let took : not_at one.key u.took ≡ tooks_of v.layout.slots (drop (done + 1) writes) (drop (done + 1) found) =
-    ap (not_at one.key) (tooks_one v.layout.slots writes found done d e lt (omega arith))
-    ∙ first_took v.layout.slots one (drop (done + 1) writes) n (drop (done + 1) found) apart in record {
+    let took : not_at one.key u.took ≡ tooks_of v.layout (drop (done + 1) writes) (drop (done + 1) found) =
+    ap (not_at one.key) (tooks_one v.layout writes found done d e lt (omega arith))
+    ∙ first_took v.layout one (drop (done + 1) writes) n (drop (done + 1) found) apart in record {
       seat = settled s;
       steps = y.steps;
       loaded = y.loaded;
@@ -189,7 +191,7 @@ unlocked_all writes found v w done p le = record {
   steps = p.steps;
   loaded = p.loaded;
   reads = p.reads;
-  is = p.is ∙ ap (λ l. with_seat v p.seat (tooks_of v.layout.slots l (drop done found))
+  is = p.is ∙ ap (λ l. with_seat v p.seat (tooks_of v.layout l (drop done found))
       (record v { steps = p.steps; loaded = p.loaded; reads = p.reads })) (drop_all writes done le);
   others = p.others;
   locks = p.locks ∙ ap keys_of (drop_all writes done le);
@@ -203,14 +205,26 @@ still_active writes found v w done active p = subst IsActive (sym (ap (λ (y : V
 
 pub still_there : (writes : List Write) (found : List ℕ) (v w : View) (done : ℕ) (d : Write)
     → AllByRecursion (IsWriteOf (ground v)) writes → IsUnlocking writes found v w done → done < length writes
-    → IsKeyAt w (get_or writes done d).key (get_or writes done d).at
+    → IsAnyKeyAt w (get_or writes done d).key (get_or writes done d).at
 still_there writes found v w done d all p lt =
-    subst (λ (y : View). IsKeyAt y (get_or writes done d).key (get_or writes done d).at) (sym p.is)
+    subst (λ (y : View). IsAnyKeyAt y (get_or writes done d).key (get_or writes done d).at) (sym p.is)
     (all_get (IsWriteOf (ground v)) writes done d lt all).place
 
--- so it is at the place that a call computes
-pub at_spot : (e : Engine) (p q : Pass) (k : Key) (at n : ℕ) (x : Spot) → IsPassOf e q → IsPassOf e p
-    → x ≡ spot_at e.table.shared.key.slots at → CanOpenAgain (view q) k (spot_at (view p).layout.slots at) n
-    → CanOpenAgain (view q) k x n
-at_spot e p q k at n x of of' is can =
-    subst (λ (y : Spot). CanOpenAgain (view q) k y n) (sym (spot_here e p at x of' is)) can
+-- so it is at the place that the call picks
+pub open_here : (e : Engine) (p q : Pass) (writes : List Write) (found : List ℕ) (done : ℕ) (d : Write) (n : ℕ)
+    → IsPassOf e q → IsPassOf e p → length found ≡ length writes → IsUnlocking writes found (view p) (view q) done
+    → done < length writes
+    → CanOpenAgain (view q) (get_or writes done d).key
+    (spot_for (view q).layout (get_or writes done d).key (get_or writes done d).at) (get_or found done n)
+open_here e p q writes found done d n of of' count u lt =
+    let one : Write = get_or writes done d in
+    subst (λ (y : Spot). CanOpenAgain (view q) one.key y (get_or found done n)) (spot_same e p q one.key one.at of' of)
+    (can_open_again writes found done d n (view p) (view q) count u lt)
+
+pub still_here : (writes : List Write) (found : List ℕ) (v w : View) (done : ℕ) (d : Write)
+    → AllByRecursion (IsWriteOf (ground v)) writes → IsUnlocking writes found v w done → done < length writes
+    → IsAnyRecordAt w (get_or writes done d).key
+    (spot_for w.layout (get_or writes done d).key (get_or writes done d).at) (get_or writes done d).at
+still_here writes found v w done d places u lt =
+    let one : Write = get_or writes done d in
+    any_spot w one.key one.at (still_there writes found v w done d places u lt)

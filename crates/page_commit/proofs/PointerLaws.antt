@@ -27,25 +27,24 @@ use Rattle.tx_sets.specs.declared.writes.Write.{Write}
 use Rattle.tx_sets.specs.Entries.{places_of, word_at, writes_at}
 use Rattle.engine_pages.specs.declared.view.Read.{Read}
 use Rattle.engine_pages.specs.declared.view.View.{View}
-use Rattle.engine_pages.specs.Pointers.{IsArrayPointerAt, any_pointer}
+use Rattle.engine_pages.specs.Pointers.{IsPointerAt, WaysAgree}
 use Rattle.engine_pages.specs.Rule.{has_word}
 use Rattle.engine_pages.specs.Steps.{kept_at, seen_at}
 use Rattle.dual_pointer.specs.Parts.{part_stays}
 use Rattle.pointer_checks.specs.Checks.{pointer_checked, CanCheckPointer, CheckedPointer}
-use Rattle.engine_pages.specs.declared.engine.Engine.{Engine}
 use Rattle.engine_pages.specs.declared.layout.Layout.{Layout}
 use Rattle.engine_pages.specs.Layout.{words_of}
-use Rattle.engine_pages.specs.Passes.{Pass, view, IsPassOf}
 use Rattle.engine_pages.specs.Views.{IsActive}
 use Rattle.page_records.specs.Attempts.{failed_at}
 use Rattle.page_commit.specs.declared.locking.Conflict.{Conflict}
-use Rattle.page_commit.specs.Places.{ground, pointer_at, Ground, IsKeyIn, IsPointerIn}
+use Rattle.page_commit.specs.Places.{ground, pointer_for, Ground, IsAnyKeyIn, IsPointerIn}
 use Rattle.page_commit.specs.Live.{reads_at, IsMetPointer, IsWriteOf}
 use Rattle.page_commit.specs.Steps.{entry_words, pointer_words, CheckConflict, HasChecked, HasCheckedSome, HasFailed}
 use Rattle.page_commit.specs.Steps.{HasTried}
 use Rattle.page_commit.proofs.CheckLaws.{there}
 use Rattle.page_commit.proofs.Lists.{in_at, map_push, take_all}
-use Rattle.page_commit.proofs.PlaceLaws.{no_pointer, one_pointer, pointer_there}
+use Rattle.page_commit.proofs.AnyPlaces.{any_no_pointer}
+use Rattle.page_commit.proofs.PlaceLaws.{one_pointer, pointer_there}
 use Rattle.array_pages.proofs.ReadLaws.{kept_with}
 use Rattle.page_commit.proofs.ReadLaws.{seen_at-other}
 use Rattle.tx_sets.specs.Entries as sets_of
@@ -105,26 +104,25 @@ in_take (y ∷ xs) (suc n) x in' =
 
 -- ---- words of pointers
 
-words_apart : (g : Ground) (ps : List Seen) (p : Seen) (sp : Span)
+words_apart : (g : Ground) (ps : List Seen) (p : Seen) (sp : Span) → WaysAgree g.ways
     → ((q : Seen) → Contains ps q → (tp : Span) × IsPointerIn g tp q.at) → IsPointerIn g sp p.at
     → sets_of.has_word p.at ps ≡ false
-    → has_word (pointer_words g.layout.slots ps) (Pointer (pointer_at g.layout.slots p.at)) ≡ false
-words_apart g [] p sp all place none = refl
-words_apart g (f ∷ ps) p sp all place none =
+    → has_word (pointer_words g ps) (Pointer (pointer_for g p.at)) ≡ false
+words_apart g [] p sp agree all place none = refl
+words_apart g (f ∷ ps) p sp agree all place none =
     let parts = or_parts (f.at == p.at) (sets_of.has_word p.at ps) none in
-    let slots = g.layout.slots in
     let first = all f (in_head f ps) in
-    let miss : same_at (pointer_at slots f.at) (pointer_at slots p.at) ≡ false =
-    false_from_ne_true (same_at (pointer_at slots f.at) (pointer_at slots p.at)) (λ test.
-    true≢false (sym (eq-eqb f.at p.at (one_pointer g first.0 sp f.at p.at first.1 place
-    (same_at-true (pointer_at slots f.at) (pointer_at slots p.at) test))) ∙ parts.0)) in
-    or_from (same_at (pointer_at slots f.at) (pointer_at slots p.at))
-    (has_word (pointer_words slots ps) (Pointer (pointer_at slots p.at))) miss
-    (words_apart g ps p sp (λ x in'. all x (in_tail x f ps in')) place parts.1)
+    let miss : same_at (pointer_for g f.at) (pointer_for g p.at) ≡ false =
+    false_from_ne_true (same_at (pointer_for g f.at) (pointer_for g p.at)) (λ test.
+    true≢false (sym (eq-eqb f.at p.at (one_pointer g first.0 sp f.at p.at agree first.1 place
+    (same_at-true (pointer_for g f.at) (pointer_for g p.at) test))) ∙ parts.0)) in
+    or_from (same_at (pointer_for g f.at) (pointer_for g p.at))
+    (has_word (pointer_words g ps) (Pointer (pointer_for g p.at))) miss
+    (words_apart g ps p sp agree (λ x in'. all x (in_tail x f ps in')) place parts.1)
 
-no_records : (slots : ℕ) (es : List ReadEntry) (x : At) → has_word (entry_words slots es) (Pointer x) ≡ false
-no_records slots [] x = refl
-no_records slots (e ∷ es) x = no_records slots es x
+no_records : (lay : Layout) (es : List ReadEntry) (x : At) → has_word (entry_words lay es) (Pointer x) ≡ false
+no_records lay [] x = refl
+no_records lay (e ∷ es) x = no_records lay es x
 
 pub none_behind : (p : Word → Bool) (xs ys : List Word) → list_any p xs ≡ false → list_any p ys ≡ false
     → list_any p (xs ++ ys) ≡ false
@@ -133,17 +131,17 @@ none_behind p (x ∷ xs) ys first second =
     let parts = or_parts (p x) (list_any p xs) first in
     or_from (p x) (list_any p (xs ++ ys)) parts.0 (none_behind p xs ys parts.1 second)
 
-pub word_of_pointer : (slots : ℕ) (ps : List Seen) (p : Seen) → Contains ps p
-    → has_word (pointer_words slots ps) (Pointer (pointer_at slots p.at)) ≡ true
-word_of_pointer slots [] p in' = absurd (in_none p in')
-word_of_pointer slots (f ∷ ps) p in' =
+pub word_of_pointer : (g : Ground) (ps : List Seen) (p : Seen) → Contains ps p
+    → has_word (pointer_words g ps) (Pointer (pointer_for g p.at)) ≡ true
+word_of_pointer g [] p in' = absurd (in_none p in')
+word_of_pointer g (f ∷ ps) p in' =
     elim (in_cases p f ps in') [
-      | inl same ↦ or_left (same_at (pointer_at slots f.at) (pointer_at slots p.at))
-          (has_word (pointer_words slots ps) (Pointer (pointer_at slots p.at)))
-          (subst (λ (x : Seen). same_at (pointer_at slots f.at) (pointer_at slots x.at) ≡ true) same
-          (same_at-self (pointer_at slots f.at)))
-      | inr later ↦ or_right (same_at (pointer_at slots f.at) (pointer_at slots p.at))
-          (has_word (pointer_words slots ps) (Pointer (pointer_at slots p.at))) (word_of_pointer slots ps p later)
+      | inl same ↦ or_left (same_at (pointer_for g f.at) (pointer_for g p.at))
+          (has_word (pointer_words g ps) (Pointer (pointer_for g p.at)))
+          (subst (λ (x : Seen). same_at (pointer_for g f.at) (pointer_for g x.at) ≡ true) same
+          (same_at-self (pointer_for g f.at)))
+      | inr later ↦ or_right (same_at (pointer_for g f.at) (pointer_for g p.at))
+          (has_word (pointer_words g ps) (Pointer (pointer_for g p.at))) (word_of_pointer g ps p later)
     ]
 
 -- ---- the loop
@@ -161,24 +159,36 @@ with_checked v checked w = record v {
   reads = w.reads;
 }
 
-pointer_later : (v w : View) (checked : List Word) (x : At) (sp : Span) (at : ℕ) → IsArrayPointerAt v x sp at
-    → IsArrayPointerAt (with_checked v checked w) x sp at
+pointer_later : (v w : View) (checked : List Word) (x : At) (sp : Span) (at : ℕ) → IsPointerAt v x sp at
+    → IsPointerAt (with_checked v checked w) x sp at
 pointer_later v w checked (Root r) sp at h = h
-pointer_later v w checked (In y) sp at h = record {
-  way = h.way;
-  has = h.has;
-  slot = h.slot;
-  kind = h.kind;
-  inner = h.inner;
-  index = h.index;
-  span = h.span;
-  word = h.word;
+pointer_later v w checked (In y) sp at (inl c) = inl record {
+  way = c.way;
+  has = c.has;
+  slot = c.slot;
+  kind = c.kind;
+  inner = c.inner;
+  index = c.index;
+  span = c.span;
+  word = c.word;
+}
+pointer_later v w checked (In y) sp at (inr b) = inr record {
+  way = b.way;
+  has = b.has;
+  slot = b.slot;
+  kind = b.kind;
+  inner = b.inner;
+  knows = b.knows;
+  same = b.same;
+  index = b.index;
+  span = b.span;
+  word = b.word;
 }
 
 pub can_check_pointer : (ps : List Seen) (sets : Sets) (done : ℕ) (d : Seen) (v w : View)
     → HasTried sets v → AreDistinct (places_of sets.pointers) → ps ≡ sets.pointers
     → HasCheckedSome sets (length sets.reads) done v w → done < length ps
-    → (sp : Span) × CanCheckPointer w (pointer_at w.layout.slots (get_or ps done d).at) sp (get_or ps done d).at
+    → (sp : Span) × CanCheckPointer w (pointer_for (ground w) (get_or ps done d).at) sp (get_or ps done d).at
     (get_or ps done d).word
 can_check_pointer ps sets done d v w h apart same p lt = by_part (h.parts.pointers one in')
   where
@@ -189,26 +199,23 @@ can_check_pointer ps sets done d v w h apart same p lt = by_part (h.parts.pointe
     in' = pointer_in ps sets done d same lt
 
     by_part : (part : Part) × Contains h.attempt.parts part × IsMetPointer v (get_or ps done d) part
-        → (sp : Span) × CanCheckPointer w (pointer_at w.layout.slots (get_or ps done d).at) sp (get_or ps done d).at
+        → (sp : Span) × CanCheckPointer w (pointer_for (ground w) (get_or ps done d).at) sp (get_or ps done d).at
         (get_or ps done d).word
     by_part q =
         let m = q.2 in
         let q' : Seen = get_or ps done d in
-        let x : At = pointer_at v.layout.slots q'.at in
+        let x : At = pointer_for (ground v) q'.at in
         let clear : sets_of.has_word q'.at (take done sets.pointers) ≡ false =
         subst (λ (l : List Seen). sets_of.has_word q'.at (take done l) ≡ false) same
         (not_before_pointer ps done d (subst (λ l. AreDistinct (places_of l)) (sym same) apart) lt) in
-        let words = words_apart (ground v) (take done sets.pointers) q' m.span
+        let words = words_apart (ground v) (take done sets.pointers) q' m.span h.agree
         (λ f has. placed f (in_take sets.pointers done f has)) m.place clear in (
           m.span,
-          subst (λ (y : View). CanCheckPointer y (pointer_at y.layout.slots q'.at) m.span q'.at q'.word) (sym p.is) record {
-            place = any_pointer (with_checked v (entry_words v.layout.slots (take (length sets.reads) sets.reads)
-                ++ pointer_words v.layout.slots (take done sets.pointers))
-                (record v { steps = p.steps; last = p.last; loaded = p.loaded; reads = p.reads })) x m.span q'.at
-                (pointer_later v (record v { steps = p.steps; last = p.last; loaded = p.loaded; reads = p.reads })
-                (entry_words v.layout.slots (take (length sets.reads) sets.reads)
-                ++ pointer_words v.layout.slots (take done sets.pointers)) x m.span q'.at
-                (pointer_there v m.span q'.at m.place));
+          subst (λ (y : View). CanCheckPointer y (pointer_for (ground y) q'.at) m.span q'.at q'.word) (sym p.is) record {
+            place = pointer_later v (record v { steps = p.steps; last = p.last; loaded = p.loaded; reads = p.reads })
+                (entry_words v.layout (take (length sets.reads) sets.reads)
+                ++ pointer_words (ground v) (take done sets.pointers)) x m.span q'.at
+                (pointer_there v m.span q'.at h.agree m.place);
             bare = m.bare;
             index = h.index;
             attempt = h.attempt;
@@ -216,16 +223,16 @@ can_check_pointer ps sets done d v w h apart same p lt = by_part (h.parts.pointe
             stage = h.stage;
             stands = h.at;
             has = q.1;
-            of = part_stays v (with_checked v (entry_words v.layout.slots (take (length sets.reads) sets.reads)
-                ++ pointer_words v.layout.slots (take done sets.pointers))
+            of = part_stays v (with_checked v (entry_words v.layout (take (length sets.reads) sets.reads)
+                ++ pointer_words (ground v) (take done sets.pointers))
                 (record v { steps = p.steps; last = p.last; loaded = p.loaded; reads = p.reads })) x m.span q'.word q.0
                 (λ z has. has) m.of;
             one = λ y has match. h.parts.once y q.0 has q.1
                 (subst (λ (z : Word). same_word y.word z ≡ true) (sym m.of.word) match);
             unchecked = none_behind (λ z. same_word z (Pointer x))
-                (entry_words v.layout.slots (take (length sets.reads) sets.reads))
-                (pointer_words v.layout.slots (take done sets.pointers))
-                (no_records v.layout.slots (take (length sets.reads) sets.reads) x) words;
+                (entry_words v.layout (take (length sets.reads) sets.reads))
+                (pointer_words (ground v) (take done sets.pointers))
+                (no_records v.layout (take (length sets.reads) sets.reads) x) words;
           },
         )
       where
@@ -247,25 +254,26 @@ any_split p (z ∷ l) y none =
 
 pub pointer_one : (ps : List Seen) (sets : Sets) (done : ℕ) (d : Seen) (k : ℕ) (v w x : View)
     → ps ≡ sets.pointers → HasCheckedSome sets (length sets.reads) done v w → done < length ps → k ≡ (get_or ps done d).word
-    → CheckedPointer (pointer_at w.layout.slots (get_or ps done d).at) (get_or ps done d).at (get_or ps done d).word w k x
+    → CheckedPointer (pointer_for (ground w) (get_or ps done d).at) (get_or ps done d).at (get_or ps done d).word w k x
     → HasCheckedSome sets (length sets.reads) (done + 1) v x
 pointer_one ps sets done d k v w x same p lt seen c =
     let q : Seen = get_or ps done d in
-    let place : At = pointer_at w.layout.slots q.at in
+    let place : At = pointer_for (ground w) q.at in
     let is : x ≡ pointer_checked place q.at k w =
     is_as x (pointer_checked place q.at k w) (failed_at q.at k w) (k == q.word) c (eq-eqb k q.word seen) in
     let slots : ℕ = v.layout.slots in
-    let front : List Word = entry_words slots (take (length sets.reads) sets.reads) in
-    let old : List Word = front ++ pointer_words slots (take done sets.pointers) in
+    let lay : Layout = v.layout in
+    let front : List Word = entry_words lay (take (length sets.reads) sets.reads) in
+    let old : List Word = front ++ pointer_words (ground v) (take done sets.pointers) in
     let u : View = with_checked v old
     (record v { steps = p.steps; last = p.last; loaded = p.loaded; reads = p.reads }) in
-    let y : View = pointer_checked (pointer_at slots q.at) q.at k u in
+    let y : View = pointer_checked (pointer_for (ground v) q.at) q.at k u in
     let more : take (done + 1) sets.pointers ≡ take done sets.pointers ++ q ∷ [] =
     subst (λ (l : List Seen). take (done + 1) l ≡ take done l ++ q ∷ []) same (take_more ps done d lt) in
-    let words : old ++ Pointer (pointer_at slots q.at) ∷ [] ≡ front ++ pointer_words slots (take (done + 1) sets.pointers) =
-    Rattle.std.proofs.Common.append_assoc front (pointer_words slots (take done sets.pointers)) (Pointer (pointer_at slots q.at) ∷ [])
-    ∙ ap (λ l. front ++ l) (sym (map_push (λ (z : Seen). Pointer (pointer_at slots z.at)) (take done sets.pointers) q)
-    ∙ ap (pointer_words slots) (sym more)) in record {
+    let words : old ++ Pointer (pointer_for (ground v) q.at) ∷ [] ≡ front ++ pointer_words (ground v) (take (done + 1) sets.pointers) =
+    Rattle.std.proofs.Common.append_assoc front (pointer_words (ground v) (take done sets.pointers)) (Pointer (pointer_for (ground v) q.at) ∷ [])
+    ∙ ap (λ l. front ++ l) (sym (map_push (λ (z : Seen). Pointer (pointer_for (ground v) z.at)) (take done sets.pointers) q)
+    ∙ ap (pointer_words (ground v)) (sym more)) in record {
       steps = y.steps;
       since = omega (arith, p.since);
       last = y.last;
@@ -277,19 +285,20 @@ pointer_one ps sets done d k v w x same p lt seen c =
           seen_at-other p.reads q.at k at (λ hit. true≢false (sym (eq-eqb q.at at hit) ∙ parts.1))
           ∙ p.aside at clear parts.0;
       kept = λ at. kept_with p.reads q.at k at ∙ p.kept at;
-      is = is ∙ (ap (λ (z : View). pointer_checked (pointer_at z.layout.slots q.at) q.at k z) p.is
+      is = is ∙ (ap (λ (z : View). pointer_checked (pointer_for (ground z) q.at) q.at k z) p.is
           ∙ ap (λ l. with_checked v l y) words);
     }
 
 pub pointer_failed_one : (sets : Sets) (n m at word k : ℕ) (v w x : View)
     → HasCheckedSome sets n m v w → k ≢ word
-    → CheckedPointer (pointer_at w.layout.slots at) at word w k x → HasFailed v x
+    → CheckedPointer (pointer_for (ground w) at) at word w k x → HasFailed v x
 pointer_failed_one sets n m at word k v w x p other c =
-    let place : At = pointer_at w.layout.slots at in
+    let place : At = pointer_for (ground w) at in
     let is : x ≡ failed_at at k w =
     is_else x (pointer_checked place at k w) (failed_at at k w) (k == word) c (ne_eqb k word other) in
     let slots : ℕ = v.layout.slots in
-    let u : View = with_checked v (entry_words slots (take n sets.reads) ++ pointer_words slots (take m sets.pointers))
+    let lay : Layout = v.layout in
+    let u : View = with_checked v (entry_words lay (take n sets.reads) ++ pointer_words (ground v) (take m sets.pointers))
     (record v { steps = p.steps; last = p.last; loaded = p.loaded; reads = p.reads }) in
     let y : View = failed_at at k u in record {
       checked = y.checked;
@@ -311,8 +320,8 @@ pointer_clear sets q v h in' = by_place (h.parts.pointers q in')
     all_clear sp [] all place = refl
     all_clear sp (w ∷ ws) all place =
         or_from (w.at == q.at) (writes_at q.at ws)
-        (ne_eqb w.at q.at (λ same. no_pointer (ground v) w.key sp q.at h.agree
-        (subst (IsKeyIn (ground v) w.key) same all.0.place) place))
+        (ne_eqb w.at q.at (λ same. any_no_pointer v w.key sp q.at h.agree h.trees
+        (subst (IsAnyKeyIn (ground v) w.key) same all.0.place) place))
         (all_clear sp ws all.1 place)
 
     by_place : (part : Part) × Contains h.attempt.parts part × IsMetPointer v q part → writes_at q.at sets.writes ≡ false
@@ -321,7 +330,7 @@ pointer_clear sets q v h in' = by_place (h.parts.pointers q in')
 pub pointer_conflict : (ps : List Seen) (sets : Sets) (done : ℕ) (d : Seen) (k : ℕ) (v w x : View)
     → HasTried sets v → AreDistinct (places_of sets.pointers) → ps ≡ sets.pointers
     → HasCheckedSome sets (length sets.reads) done v w → done < length ps → k ≢ (get_or ps done d).word
-    → CheckedPointer (pointer_at w.layout.slots (get_or ps done d).at) (get_or ps done d).at (get_or ps done d).word w k x
+    → CheckedPointer (pointer_for (ground w) (get_or ps done d).at) (get_or ps done d).at (get_or ps done d).word w k x
     → CheckConflict sets (get_or ps done d).at (get_or ps done d).word k v x
 pointer_conflict ps sets done d k v w x h apart same p lt other c = by_part (h.parts.pointers (get_or ps done d) in')
   where
@@ -332,7 +341,7 @@ pointer_conflict ps sets done d k v w x h apart same p lt other c = by_part (h.p
         → CheckConflict sets (get_or ps done d).at (get_or ps done d).word k v x
     by_part m =
         let q : Seen = get_or ps done d in
-        let place : At = pointer_at w.layout.slots q.at in
+        let place : At = pointer_for (ground w) q.at in
         let is : x ≡ failed_at q.at k w =
         is_else x (pointer_checked place q.at k w) (failed_at q.at k w) (k == q.word) c (ne_eqb k q.word other) in
         let clear : sets_of.has_word q.at (take done sets.pointers) ≡ false =
@@ -387,8 +396,8 @@ pointer_conflict ps sets done d k v w x h apart same p lt other c = by_part (h.p
         all_none [] all = refl
         all_none (f ∷ es) all =
             or_from (f.at == (get_or ps done d).at) (reads_at (get_or ps done d).at es)
-            (ne_eqb f.at (get_or ps done d).at (λ hit. no_pointer (ground v) f.key m.2.span (get_or ps done d).at h.agree
-            (subst (IsKeyIn (ground v) f.key) hit (there sets v f h (all f (in_head f es))).place) m.2.place))
+            (ne_eqb f.at (get_or ps done d).at (λ hit. any_no_pointer v f.key m.2.span (get_or ps done d).at h.agree h.trees
+            (subst (IsAnyKeyIn (ground v) f.key) hit (there sets v f h (all f (in_head f es))).place) m.2.place))
             (all_none es (λ y has. all y (in_tail y f es has)))
 
         none_read : (es : List ReadEntry) (n : ℕ) → reads_at (get_or ps done d).at (take n sets.reads) ≡ false
@@ -418,27 +427,11 @@ pointers_checked ps sets done v w same p le =
       aside = λ at clear none. p.aside at clear (subst (λ (l : List Seen). sets_of.has_word at l ≡ false) (sym all) none);
       kept = p.kept;
       is = p.is ∙ ap (λ (l : List Seen). with_checked v
-          (entry_words v.layout.slots (take (length sets.reads) sets.reads) ++ pointer_words v.layout.slots l)
+          (entry_words v.layout (take (length sets.reads) sets.reads) ++ pointer_words (ground v) l)
           (record v { steps = p.steps; last = p.last; loaded = p.loaded; reads = p.reads })) all;
     }
 
--- ---- at the place that a call computes
-
-pub place_can : (e : Engine) (p : Pass) (at word : ℕ) (x : At) → IsPassOf e p → x ≡ pointer_at e.table.shared.key.slots at
-    → (sp : Span) × CanCheckPointer (view p) (pointer_at (view p).layout.slots at) sp at word
-    → (sp : Span) × CanCheckPointer (view p) x sp at word
-place_can e p at word x of is can = (
-  can.0,
-  subst (λ (y : At). CanCheckPointer (view p) y can.0 at word)
-      (sym (is ∙ ap (λ (l : Layout). pointer_at l.slots at) (sym of.layout))) can.1,
-)
-
-pub place_checked : (e : Engine) (p : Pass) (at word n : ℕ) (w : View) (x : At) → IsPassOf e p
-    → x ≡ pointer_at e.table.shared.key.slots at → CheckedPointer x at word (view p) n w
-    → CheckedPointer (pointer_at (view p).layout.slots at) at word (view p) n w
-place_checked e p at word n w x of is c =
-    subst (λ (y : At). CheckedPointer y at word (view p) n w)
-    (is ∙ ap (λ (l : Layout). pointer_at l.slots at) (sym of.layout)) c
+-- ---- the pass, as it was
 
 pub tried_worker : (sets : Sets) (n : ℕ) (v w : View) → IsActive w.role → HasCheckedSome sets n 0 v w → IsActive v.role
 tried_worker sets n v w active p = subst IsActive (ap (λ (y : View). y.role) p.is) active

@@ -1,6 +1,7 @@
 -- What is left of a transaction whose operation was refused: behind loads, and pages that may have been made.
 use Rattle.std.proofs.Common.{◌≡◌, inl, inr, ℕ, ◌+◌, ◌≤◌, false}
 use Rattle.std.proofs.Common.{List, [], ◌∷◌, ◌++◌, length, Some}
+use Rattle.std.specs.Prelude.{nat_lt}
 use Rattle.std.proofs.Common.{refl, sym, ap, ◌∙◌, subst, arith, cond}
 use Rattle.lists.specs.Fronts.{front_then, IsFront}
 use Rattle.serial_model.specs.declared.key.Key.{Key}
@@ -22,6 +23,7 @@ use Rattle.engine_pages.specs.Touches.{touch}
 use Rattle.engine_pages.specs.Views.{seat_number, IsResting}
 use Rattle.page_records.specs.Ends.{worker_of, HasForgotten}
 use Rattle.array_pages.specs.Walks.{IsWayPlace}
+use Rattle.tx_sets.specs.Gathered.{has_read_room, most_reads}
 use Rattle.page_commit.specs.Live.{HasHolds, IsLive}
 use Rattle.page_commit.specs.Calls.{IsWordIn, NeedsPointer, RefusesRead}
 use Rattle.page_commit.specs.Refusing.{HasRefused, IsConflict, IsPointerConflict, TellsOnly}
@@ -170,9 +172,9 @@ pointer_since pointers at expected seen v w x since c = record {
 
 -- a read was refused behind a walk that read and met nothing
 pub read_refused_since : (why : RefusalCause) (sets mid new : Sets) (k : Key) (v w x : View) → OnlyWalked v w
-    → mid.reads ≡ sets.reads → mid.pointers ≡ sets.pointers → mid.writes ≡ sets.writes
-    → RefusesRead mid new k why w x → RefusesRead sets new k why v x
-read_refused_since (refusals.Conflict at expected seen) sets mid new k v w x only reads pointers writes r =
+    → w.touched ≡ v.touched → mid.reads ≡ sets.reads → mid.pointers ≡ sets.pointers → mid.writes ≡ sets.writes
+    → mid.headers ≡ sets.headers → RefusesRead mid new k why w x → RefusesRead sets new k why v x
+read_refused_since (refusals.Conflict at expected seen) sets mid new k v w x only touched reads pointers writes headers r =
     let o = only.is in (
       subst (λ l. has_read k l ≡ false) reads r.0,
       subst (λ l. has_write k l ≡ false) writes r.1,
@@ -195,15 +197,21 @@ read_refused_since (refusals.Conflict at expected seen) sets mid new k v w x onl
           subst (λ (y : Layout). IsWayPlace y k at) (ap (λ (y : View). y.layout) o) c.2,
         )
       ],
-      r.4 ∙ ap (λ (y : View). y.touched) o,
+      r.4 ∙ touched,
     )
-read_refused_since (refusals.Full held) sets mid new k v w x only reads pointers writes r = absurd r
-read_refused_since (refusals.Wide set) sets mid new k v w x only reads pointers writes r = (
+read_refused_since (refusals.Full held) sets mid new k v w x only touched reads pointers writes headers r = absurd r
+read_refused_since (refusals.Wide set) sets mid new k v w x only touched reads pointers writes headers r = (
   subst (λ l. has_read k l ≡ false) reads r.0,
   subst (λ l. has_write k l ≡ false) writes r.1,
   r.2 ∙ ap (λ (y : View). y.draws) only.is,
   elim r.3 [
-    | inl c ↦ inl (c.0, subst (λ (l : List ReadEntry). length l ≡ 256) reads c.1, c.2)
+    | inl c ↦ inl (
+      c.0,
+      let same : has_read_room mid ≡ has_read_room sets =
+          ap (λ (l : List ReadEntry). nat_lt (length l + length mid.headers) most_reads) reads
+          ∙ ap (λ (l : List Seen). nat_lt (length sets.reads + length l) most_reads) headers in sym same ∙ c.1,
+      c.2,
+    )
     | inr c ↦ inr (elim c [
       | inl d ↦ inl d
       | inr d ↦ inr (
@@ -213,6 +221,6 @@ read_refused_since (refusals.Wide set) sets mid new k v w x only reads pointers 
       )
     ])
   ],
-  r.4 ∙ ap (λ (y : View). y.touched) only.is,
+  r.4 ∙ touched,
 )
-read_refused_since (refusals.NumberLimit clock) sets mid new k v w x only reads pointers writes r = absurd r
+read_refused_since (refusals.NumberLimit clock) sets mid new k v w x only touched reads pointers writes headers r = absurd r

@@ -14,12 +14,12 @@ use Rattle.engine_pages.specs.declared.view.Lead.{Lead}
 use Rattle.engine_pages.specs.declared.view.View.{View}
 use Rattle.engine_pages.specs.declared.view.Way.{Way}
 use Rattle.engine_pages.specs.Layout.{words_of}
-use Rattle.engine_pages.specs.Pages.{is_array}
+use Rattle.engine_pages.specs.Pages.{is_array, is_tree}
 use Rattle.engine_pages.specs.Pointers.{StandsFor}
-use Rattle.dual_pointer.specs.Parts.{content_below, IsPointerPart, part_stays}
-use Rattle.page_commit.specs.Places.{ground, pointer_at, Ground, IsPointerIn}
+use Rattle.dual_pointer.specs.Parts.{IsPointerPart, part_stays}
+use Rattle.page_commit.specs.Places.{ground, pointer_for, Ground, IsPointerIn}
 use Rattle.page_commit.specs.HeaderParts.{IsMetHeader}
-use Rattle.page_commit.specs.Live.{AreParts, IsMetPointer, IsReadPart, IsWriteOf}
+use Rattle.page_commit.specs.Live.{below_in, AreParts, IsMetPointer, IsReadPart, IsWriteOf}
 
 -- ---- the same ways
 
@@ -47,16 +47,20 @@ pointer_stays v w p part layout ways known inners leads pages m = record {
   place = subst (λ (g : Ground). IsPointerIn g m.span p.at) (sym (grounds w v layout ways known inners)) m.place;
   within = subst (λ (l : Layout). p.at < words_of l) (sym layout) m.within;
   bare = m.bare;
-  of = subst (λ (l : Layout). IsPointerPart w (pointer_at l.slots p.at) m.span p.word part) (sym layout)
-      (part_stays v w (pointer_at v.layout.slots p.at) m.span p.word part
+  of = subst (λ (g : Ground). IsPointerPart w (pointer_for g p.at) m.span p.word part)
+      (sym (grounds w v layout ways known inners))
+      (part_stays v w (pointer_for (ground v) p.at) m.span p.word part
       (λ z has. subst (λ (l : List Lead). Contains l z) (sym leads) has) m.of);
-  array = subst (λ (l : Layout). is_array l.decls m.span.storage ≡ true) (sym layout) m.array;
+  kind = subst (λ (l : Layout). (is_array l.decls m.span.storage ≡ true) ⊎ (is_tree l.decls m.span.storage ≡ true))
+      (sym layout) m.kind;
   stands = λ some.
       subst (λ (l : Layout). StandsFor l.decls w.pages m.span p.word) (sym layout)
       (subst (λ (l : List (List ℕ)). StandsFor v.layout.decls l m.span p.word) (sym pages) (m.stands some));
   inside = m.inside;
   all = m.all;
-  says = λ k over. m.says k over ∙ ap (λ (l : List (List ℕ)). content_below l m.span p.word k) (sym pages);
+  says = λ k over. m.says k over
+      ∙ (ap (λ (l : List (List ℕ)). below_in v.layout.decls l m.span p.word k) (sym pages)
+      ∙ ap (λ (l : Layout). below_in l.decls w.pages m.span p.word k) (sym layout));
 }
 
 pub parts_stay : (sets : Sets) (v w : View) (parts : List Part) → parts ≡ v.seat.kept → w.layout ≡ v.layout

@@ -1,18 +1,19 @@
 -- What operations come to, by the value that was read and the write set.
-use Rattle.std.proofs.Common.{[], ◌≡◌, ◌⊎◌, inl, inr, ℕ, ◌+◌, ◌-◌, ◌^◌, Bool, true, false, cond, List}
+use Rattle.std.proofs.Common.{[], ◌∷◌, ◌++◌, ◌≡◌, ◌⊎◌, inl, inr, ℕ, ◌+◌, ◌-◌, ◌^◌, ◌≤◌, Bool, true, false, cond, List}
 use Rattle.std.proofs.Common.{Option, Some, None, length, arith}
 use Rattle.std.proofs.Common.{refl, sym, ap, ◌∙◌, subst, true≢false}
 use Rattle.std.specs.Prelude.{is_some, unwrap_or, nat_lt, nat_le, Contains}
 use Rattle.std.specs.List.{AllByRecursion}
 use Rattle.std.proofs.lemmas.Bool.{eqb-true, false_from_ne_true}
 use Rattle.lists.specs.Each.{AreDistinct}
-use Rattle.lists.specs.Elements.{any_is}
+use Rattle.std.proofs.lemmas.List.{append-nil}
+use Rattle.lists.specs.Elements.{any_is, in_cases, in_none}
 use Rattle.lists.specs.Fronts.{front_then}
 use Rattle.serial_model.specs.declared.key.Key.{Key}
 use Rattle.serial_model.specs.declared.number.Change.{Change}
 use Rattle.serial_model.specs.declared.decl.Decl.{Decl}
 use Rattle.serial_model.specs.declared.op.Op.{Op}
-use Rattle.serial_model.specs.declared.op.Op.TheVariants.{Read, Write}
+use Rattle.serial_model.specs.declared.op.Op.TheVariants.{Read, Write, Remove, Add, Take, Scan}
 use Rattle.serial_model.specs.declared.reply.Reply.TheVariants.{Value}
 use Rattle.serial_model.specs.declared.reply.Verdict.TheVariants.{Done, Short, Over}
 use Rattle.serial_model.specs.declared.decl.Decl.TheVariants.{Array, Tree}
@@ -20,6 +21,9 @@ use Rattle.serial_model.specs.Decls.{AreDecls}
 use Rattle.serial_model.specs.Keys.{is_tree, is_tree_of}
 use Rattle.serial_model.specs.Step.{reply_of}
 use Rattle.commit_core.specs.declared.part.Part.{Part}
+use Rattle.commit_core.specs.Parts.{IsSameOrAbsent}
+use Rattle.commit_core.specs.Serial.{last_write}
+use Rattle.homes.specs.declared.places.Content.{Content}
 use Rattle.serial_bridge.specs.Transaction.{Sees, Vouched, wrote, added, taken, Turn, Turns, Continues, Stops}
 use Rattle.homes.specs.Homes.{in_span}
 use Rattle.drop_core.specs.Table.{has_slot}
@@ -31,10 +35,12 @@ use Rattle.tx_sets.specs.Entries.{has_write, places_of, value_of, writes_at, IsI
 use Rattle.engine_pages.specs.declared.layout.Layout.{Layout}
 use Rattle.engine_pages.specs.declared.view.View.{View}
 use Rattle.engine_pages.specs.declared.view.Way.{Way}
-use Rattle.engine_pages.specs.Pages.{is_array, is_array_kind}
+use Rattle.engine_pages.specs.declared.view.Role.{Role}
+use Rattle.engine_pages.specs.Pages.{is_array, is_array_kind, is_tree as is_tree_in}
+use Rattle.engine_pages.specs.Views.{seat_number}
 use Rattle.array_pages.proofs.DeclLaws.{decl_in}
 use Rattle.array_pages.specs.Spans.{IsArrayKey}
-use Rattle.array_pages.specs.Walks.{IsLastBetween, OnlyWaysTo}
+use Rattle.array_pages.specs.Walks.{IsLastBetween, IsWayPlace, OnlyWaysTo}
 use Rattle.page_commit.specs.declared.writing.By.{By}
 use Rattle.page_commit.specs.declared.writing.By.TheVariants as ways
 use Rattle.page_commit.specs.Places.{ground, IsKeyAt}
@@ -43,19 +49,21 @@ use Rattle.page_commit.specs.HeaderParts.{AreHeaders}
 use Rattle.page_commit.specs.Altering.{altered, ended_by, op_of, Alters}
 use Rattle.page_commit.specs.Keeping.{HasBrought, HasValue, KeepsSets}
 use Rattle.page_commit.specs.Turning.{as_walked, AreWritesOf, HasDone, HasStopped, IsValueRead, MayRead, MayWrite, MeetsOnly}
-use Rattle.page_commit.specs.Turning.{HoldsWaysOf, HoldsWaysTo, OnlyWalked, OnlyWaysOf, PartsStay, ReadsOnly}
+use Rattle.page_commit.specs.Turning.{meets_most, HasMore, HeadsOnly, HoldsWaysOf, HoldsWaysTo, IsPartOf, IsPointerOf}
+use Rattle.page_commit.specs.Turning.{IsReadBy, OnlyWalked, OnlyWaysOf, PartsStay, ReadsOnly}
+use Rattle.page_commit.proofs.PointerLaws.{has_pointer}
 use Rattle.page_commit.proofs.CommitResults.{keeps_only, parts_dropped}
 use Rattle.page_commit.proofs.FoundLaws.{nothing_walked}
-use Rattle.page_commit.proofs.WriteLaws.{value_none, value_there, word_apart, writes_more, writes_only, HasWritten}
+use Rattle.page_commit.proofs.WriteLaws.{value_none, word_apart, writes_more, writes_only, HasWritten}
 use Rattle.page_commit.proofs.WriteLaws.{inserted_all, inserted_writes}
 
 -- ---- what is seen
 
-own_seen : (parts : List Part) (own : List Change) (ws : List written_of.Write) (k : Key) (value : Option ℕ)
+pub own_seen : (parts : List Part) (own : List Change) (ws : List written_of.Write) (k : Key) (value : Option ℕ)
     → AreWritesOf ws own → value_of k ws ≡ Some value → Sees parts own k value
 own_seen parts own ws k value same is = inl (same k ∙ is)
 
-part_seen : (parts : List Part) (own : List Change) (ws : List written_of.Write) (k : Key) (value : Option ℕ)
+pub part_seen : (parts : List Part) (own : List Change) (ws : List written_of.Write) (k : Key) (value : Option ℕ)
     → AreWritesOf ws own → value_of k ws ≡ None → Vouched parts k value → Sees parts own k value
 part_seen parts own ws k value same none is = inr (same k ∙ none, is)
 
@@ -98,14 +106,45 @@ same_live sets new v live reads pointers holds headers all = record {
 
 -- ---- walks
 
+-- what says no more than a part says no more than what that one says no more than
+pub part_of : (part mid old : Part) → IsPartOf part mid → IsPartOf mid old → IsPartOf part old
+part_of part mid old a b = record {
+  within = λ k over. b.within k (a.within k over);
+  same = λ k over. a.same k over ∙ b.same k (a.within k over);
+}
+
+-- and had the last decided writes as that one had them
+pub part_last : (u w : View) (part old : Part) → IsPartOf part old → IsLastBetween u w old → IsLastBetween u w part
+part_last u w part old less last = record {
+  history = last.history;
+  decided = last.decided;
+  drawn_since = last.drawn_since;
+  seen_since = last.seen_since;
+  drawn_by = last.drawn_by;
+  seen_by = last.seen_by;
+  last = λ k over.
+      subst (λ (c : Content). IsSameOrAbsent c (last_write u.layout.opening last.history last.decided k))
+      (sym (less.same k over)) (last.last k (less.within k over));
+}
+
 pub walks_then : (u v w : View) → OnlyWalked u v → OnlyWalked v w → OnlyWalked u w
 walks_then u v w a b = record {
   drawn = front_then u.history v.history w.history a.drawn b.drawn;
   seen = front_then u.decided v.decided w.decided a.seen b.seen;
   since = let low = a.since in let high = b.since in omega (arith, low, high);
   parts = λ part has. elim (b.parts part has) [
-    | inl mid ↦ elim (a.parts part mid) [ inl old ↦ inl old | inr new ↦ inr (last_by part new) ]
-    | inr new ↦ inr (last_since part new)
+    | inl mid ↦ early part mid
+    | inr new ↦ elim new [
+      | inl last ↦ inr (inl (last_since part last))
+      | inr less ↦ lessen part less.0 less.2 (early less.0 less.1)
+    ]
+  ];
+  touches = λ t has. elim (b.touches t has) [
+    | inl mid ↦ a.touches t mid
+    | inr own ↦ inr (
+      subst (λ (r : Role). t.seat ≡ seat_number r) (ap (λ (y : View). y.role) a.is) own.0,
+      subst (λ (l : Layout). is_tree_in l.decls t.key.storage ≡ true) layout own.1,
+    )
   ];
   ways = λ x has. b.ways x (a.ways x has);
   known = λ x has. b.known x (a.known x has);
@@ -128,6 +167,21 @@ walks_then u v w a b = record {
       seen_by = front_then l.decided v.decided w.decided l.seen_by b.seen;
       last = l.last;
     }
+
+    early : (part : Part) → Contains v.seat.kept part → Contains u.seat.kept part
+        ⊎ (IsLastBetween u w part ⊎ ((old : Part) × Contains u.seat.kept old × IsPartOf part old))
+    early part has = elim (a.parts part has) [
+      | inl old ↦ inl old
+      | inr new ↦ inr (elim new [ inl last ↦ inl (last_by part last) | inr less ↦ inr less ])
+    ]
+
+    lessen : (part old : Part) → IsPartOf part old → Contains u.seat.kept old
+        ⊎ (IsLastBetween u w old ⊎ ((first : Part) × Contains u.seat.kept first × IsPartOf old first))
+        → Contains u.seat.kept part
+        ⊎ (IsLastBetween u w part ⊎ ((first : Part) × Contains u.seat.kept first × IsPartOf part first))
+    lessen part old less (inl has) = inr (inr (old, has, less))
+    lessen part old less (inr (inl last)) = inr (inl (part_last u w part old less last))
+    lessen part old less (inr (inr first)) = inr (inr (first.0, first.1, part_of part old first.0 less first.2))
 
     last_since : (part : Part) → IsLastBetween v w part → IsLastBetween u w part
     last_since part l = record {
@@ -174,31 +228,31 @@ read_answer k value sets new v w unwritten h = record {
     apart : (own : Option ℕ) → value_of k sets.writes ≡ Some own → ⊥
     apart own wrote = let both : None ≡ Some own = sym (value_none k sets.writes unwritten) ∙ wrote in cc
 
-may_read : (by : By) (k : Key) → MayRead (op_of k by) k
+pub may_read : (by : By) (k : Key) → MayRead (op_of k by) k
 may_read (ways.Add amount) k = refl
 may_read (ways.Take amount) k = refl
 
-may_write : (by : By) (k q : Key) (W : Type 0) → W ⊎ (k ≡ q) → W ⊎ MayWrite (op_of k by) q
+pub may_write : (by : By) (k q : Key) (W : Type 0) → W ⊎ (k ≡ q) → W ⊎ MayWrite (op_of k by) q
 may_write (ways.Add amount) k q W is = is
 may_write (ways.Take amount) k q W is = is
 
 -- the ways to the key are those of the operation
-ways_of : (op : Op) (k : Key) (v w : View) → MayRead op k ⊎ MayWrite op k → OnlyWaysTo k v w → OnlyWaysOf op v w
-ways_of op k v w may only x has = elim (only x has) [ inl old ↦ inl old | inr over ↦ inr (k, may, over) ]
+pub ways_of : (op : Op) (k : Key) (v w : View) → MayRead op k ⊎ MayWrite op k → OnlyWaysTo k v w → OnlyWaysOf op v w
+ways_of op k v w may only x has = elim (only x has) [ inl old ↦ inl old | inr over ↦ inr (k, may, inl over) ]
 
 -- the slots that are held newly, by the operation
-held_of : (op : Op) (k : Key) (old new : List ℕ) (w : View) → MayRead op k ⊎ MayWrite op k → HoldsWaysTo k old new w
+pub held_of : (op : Op) (k : Key) (old new : List ℕ) (w : View) → MayRead op k ⊎ MayWrite op k → HoldsWaysTo k old new w
     → HoldsWaysOf op old new w
 held_of op k old new w may held t has none =
     let x = held t has none in (x.0, x.1, x.2, k, may, x.3)
 
 -- none is, where they are the same
-none_held : (op : Op) (old new : List ℕ) (w : View) → new ≡ old → HoldsWaysOf op old new w
+pub none_held : (op : Op) (old new : List ℕ) (w : View) → new ≡ old → HoldsWaysOf op old new w
 none_held op old new w same t has none =
     absurd (true≢false (sym has ∙ (ap (λ (l : List ℕ). has_slot l t) same ∙ none)))
 
 -- those of one part of the operation and of the next
-held_then : (op : Op) (old mid new : List ℕ) (v w : View) → ((x : Way) → Contains v.ways x → Contains w.ways x)
+pub held_then : (op : Op) (old mid new : List ℕ) (v w : View) → ((x : Way) → Contains v.ways x → Contains w.ways x)
     → HoldsWaysOf op old mid v → HoldsWaysOf op mid new w → HoldsWaysOf op old new w
 held_then op old mid new v w ways early late t has none = by_test (has_slot mid t) refl
   where
@@ -207,49 +261,66 @@ held_then op old mid new v w ways early late t has none = by_test (has_slot mid 
     by_test true is = let x = early t is none in (x.0, ways x.0 x.1, x.2, x.3, x.4, x.5)
     by_test false is = late t has is
 
+-- an operation may meet one at least
+pub meets_one : (op : Op) → 1 ≤ meets_most op
+meets_one (Read k) = omega arith
+meets_one (Write k v) = omega arith
+meets_one (Remove k) = omega arith
+meets_one (Add k v) = omega arith
+meets_one (Take k v) = omega arith
+meets_one (Scan storage low high) = omega arith
+
+-- nothing more was met
+pub none_more : {A : Type 0} (P : A → Type 0) (most : ℕ) (old new : List A) → new ≡ old → HasMore A P most old new
+none_more P most old new same = record {
+  more = [];
+  is = same ∙ sym (append-nil old);
+  each = λ x has. absurd (in_none x has);
+  few = omega arith;
+}
+
+-- one more was met
+pub one_more : {A : Type 0} (P : A → Type 0) (most : ℕ) (old new : List A) (x : A) → 1 ≤ most → new ≡ old ++ x ∷ []
+    → P x → HasMore A P most old new
+one_more P most old new x le is so = record {
+  more = x ∷ [];
+  is = is;
+  each = λ y has. elim (in_cases y x [] has) [
+    | inl same ↦ subst P same so
+    | inr later ↦ absurd (in_none y later)
+  ];
+  few = le;
+}
+
+-- no header was
+pub heads_same : (w : View) (op : Op) (old new : List Seen) → new ≡ old → HeadsOnly w op old new
+heads_same w op old new same = record {
+  each = λ h has. inl (has_pointer old h (subst (λ (l : List Seen). Contains l h) same has));
+  few = let n = ap (λ (l : List Seen). length l) same in omega (arith, n);
+}
+
 -- at most this key was read, and at most one pointer met
 reads_key : (op : Op) (k : Key) (value : ℕ) (sets new : Sets) (v w : View) → MayRead op k → HasValue k value sets new v w
-    → ReadsOnly op sets.reads new.reads
+    → ReadsOnly v.layout.decls op sets.reads new.reads
 reads_key op k value sets new v w may h = elim h.reads [
-  | inl same ↦ inl same
-  | inr more ↦ inr (more.0, subst (MayRead op) (sym more.1) may, more.2)
+  | inl same ↦ none_more (IsReadBy v.layout.decls op) (meets_most op) sets.reads new.reads same
+  | inr more ↦ one_more (IsReadBy v.layout.decls op) (meets_most op) sets.reads new.reads more.0 (meets_one op) more.2
+      (inl (subst (MayRead op) (sym more.1) may))
 ]
 
 meets_key : (op : Op) (k : Key) (value : ℕ) (sets new : Sets) (v w : View) → MayRead op k → HasValue k value sets new v w
-    → MeetsOnly v.layout op sets.pointers new.pointers
+    → MeetsOnly w op sets.pointers new.pointers
 meets_key op k value sets new v w may h = elim h.pointers [
-  | inl same ↦ inl same
-  | inr more ↦ inr (k, may, more.0, more.1, more.2)
+  | inl same ↦ none_more (IsPointerOf w op) (meets_most op) sets.pointers new.pointers same
+  | inr more ↦ one_more (IsPointerOf w op) (meets_most op) sets.pointers new.pointers more.0 (meets_one op) more.1 (
+    k,
+    may,
+    inl (subst (λ (l : Layout). IsWayPlace l k (more.0).at) (sym (walks_layout v w h.only)) more.2),
+  )
 ]
 
-pub own_read : (sets : Sets) (v : View) (k : Key) (value : Option ℕ) → IsLive sets v
-    → value_of k sets.writes ≡ Some value → HasDone (Read k) (Some (Value (unwrap_or value 0))) sets sets v v
-own_read sets v k value live is = record {
-  live = live;
-  only = nothing_walked v;
-  paths = λ x has. inl has;
-  held = none_held (Read k) sets.holds sets.holds v refl;
-  reads = inl refl;
-  pointers = inl refl;
-  headers = refl;
-  joined = inl refl;
-  writes = λ q has. inl has;
-  grows = omega arith;
-  keeps = λ q x had. had;
-  turns = λ own same. (
-    own,
-    same,
-    (
-      value,
-      own_seen v.seat.kept own sets.writes k value same is,
-      ap (λ r. Continues (Some r) own) (some_reply (is_tree v.layout.decls k.storage) value
-          (value_there (ground v) k sets.writes value live.writes is)),
-    ),
-  );
-}
-
 -- the storage of the key is no tree
-no_tree : (decls : List Decl) (k : Key) → AreDecls decls → IsArrayKey decls k → is_tree decls k.storage ≡ false
+pub no_tree : (decls : List Decl) (k : Key) → AreDecls decls → IsArrayKey decls k → is_tree decls k.storage ≡ false
 no_tree decls k are fits =
     false_from_ne_true (is_tree decls k.storage) (λ is.
     let r = any_is (is_tree_of k.storage) decls is in by_decl r.0 r.1 r.2)
@@ -261,6 +332,33 @@ no_tree decls k are fits =
         true≢false (sym fits.array
         ∙ (ap (λ (i : ℕ). is_array decls i) (sym same) ∙ ap is_array_kind (decl_in decls (Tree id) are.distinct has)))
 
+pub own_read : (sets : Sets) (v : View) (k : Key) (value : Option ℕ) → IsLive sets v → IsArrayKey v.layout.decls k
+    → value_of k sets.writes ≡ Some value → HasDone (Read k) (Some (Value (unwrap_or value 0))) sets sets v v
+own_read sets v k value live fits is = record {
+  live = live;
+  only = nothing_walked v;
+  paths = λ x has. inl has;
+  held = none_held (Read k) sets.holds sets.holds v refl;
+  reads = none_more (IsReadBy v.layout.decls (Read k)) (meets_most (Read k)) sets.reads sets.reads refl;
+  pointers = none_more (IsPointerOf v (Read k)) (meets_most (Read k)) sets.pointers sets.pointers refl;
+  headers = heads_same v (Read k) sets.headers sets.headers refl;
+  joined = inl refl;
+  locks = inl refl;
+  writes = λ q has. inl has;
+  grows = omega arith;
+  keeps = λ q x had. had;
+  turns = λ own same. (
+    own,
+    same,
+    (
+      value,
+      own_seen v.seat.kept own sets.writes k value same is,
+      ap (λ r. Continues (Some r) own) (array_reply value
+          ∙ sym (ap (λ b. reply_of b value) (no_tree v.layout.decls k live.decls fits))),
+    ),
+  );
+}
+
 pub value_read : (sets new : Sets) (v w : View) (k : Key) (value : ℕ) → IsLive sets v → IsArrayKey v.layout.decls k
     → has_write k sets.writes ≡ false → HasValue k value sets new v w
     → HasDone (Read k) (Some (Value value)) sets new v w
@@ -271,8 +369,9 @@ value_read sets new v w k value live fits none h = record {
   held = held_of (Read k) k sets.holds new.holds w (inl refl) h.held;
   reads = reads_key (Read k) k value sets new v w refl h;
   pointers = meets_key (Read k) k value sets new v w refl h;
-  headers = h.headers;
-  joined = inr (k, refl);
+  headers = heads_same w (Read k) sets.headers new.headers h.headers;
+  joined = inr (inl (k, refl));
+  locks = inl h.touched;
   writes = λ q has. inl (subst (λ (l : List written_of.Write). has_write q l ≡ true) h.writes has);
   grows = omega (arith, ap (λ (l : List written_of.Write). length l) h.writes);
   keeps = h.keeps;
@@ -300,10 +399,11 @@ value_rewritten sets new v k value live reads pointers holds headers is all = re
   only = nothing_walked v;
   paths = λ x has. inl has;
   held = none_held (Write k value) sets.holds new.holds v holds;
-  reads = inl reads;
-  pointers = inl pointers;
-  headers = headers;
+  reads = none_more (IsReadBy v.layout.decls (Write k value)) 1 sets.reads new.reads reads;
+  pointers = none_more (IsPointerOf v (Write k value)) 1 sets.pointers new.pointers pointers;
+  headers = heads_same v (Write k value) sets.headers new.headers headers;
   joined = inl refl;
+  locks = inl refl;
   writes = λ q has. writes_only k value sets.writes new.writes q is has;
   grows = is.grows;
   keeps = λ q x had. had;
@@ -321,15 +421,16 @@ value_brought sets mid new v w k value at none h same is =
     record {
       live = same_live mid new w h.live same.reads same.pointers same.holds same.headers
           (inserted_all (ground w) (record { key = k; value = Some value; at = at }) mid.writes new.writes is
-          record { place = h.place; value = refl } h.live.writes);
+          record { place = inl h.place; value = λ array. refl } h.live.writes);
       only = h.only;
       paths = ways_of (Write k value) k v w (inr refl) h.paths;
       held = subst (λ (l : List ℕ). HoldsWaysOf (Write k value) sets.holds l w) (sym same.holds)
           (held_of (Write k value) k sets.holds mid.holds w (inr refl) h.held);
-      reads = inl (same.reads ∙ h.reads);
-      pointers = inl (same.pointers ∙ h.pointers);
-      headers = same.headers ∙ h.headers;
+      reads = none_more (IsReadBy v.layout.decls (Write k value)) 1 sets.reads new.reads (same.reads ∙ h.reads);
+      pointers = none_more (IsPointerOf w (Write k value)) 1 sets.pointers new.pointers (same.pointers ∙ h.pointers);
+      headers = heads_same w (Write k value) sets.headers new.headers (same.headers ∙ h.headers);
       joined = inl h.kept;
+      locks = inl h.touched;
       writes = λ q has. subst (λ (l : List written_of.Write). (has_write q l ≡ true) ⊎ (k ≡ q)) h.writes
           (writes_only k value mid.writes new.writes q now has);
       grows = omega (arith, now.grows, ap (λ (l : List written_of.Write). length l) h.writes);
@@ -345,7 +446,7 @@ value_brought sets mid new v w k value at none h same is =
 pub brought_apart : (sets mid : Sets) (v w : View) (k : Key) (at : ℕ) → has_write k sets.writes ≡ false
     → HasBrought k at sets mid v w → writes_at at mid.writes ≡ false
 brought_apart sets mid v w k at none h =
-    word_apart (ground w) k at mid.writes h.live.agree h.place h.live.writes
+    word_apart (ground w) k at mid.writes h.live.agree h.live.trees.known (inl h.place) h.live.writes
     (subst (λ l. has_write k l ≡ false) (sym h.writes) none)
 
 -- ---- additions and subtractions
@@ -354,12 +455,12 @@ abbrev turned : By → Key → ℕ → List Change → Turn
 turned (ways.Add amount) k before own = added k amount before own
 turned (ways.Take amount) k before own = taken k amount before own
 
-alter_turns : (by : By) (decls : List Decl) (parts : List Part) (own : List Change) (k : Key) (value : Option ℕ)
+pub alter_turns : (by : By) (decls : List Decl) (parts : List Part) (own : List Change) (k : Key) (value : Option ℕ)
     → Sees parts own k value → Turns decls parts own (op_of k by) (turned by k (unwrap_or value 0) own)
 alter_turns (ways.Add amount) decls parts own k value is = (value, is, refl)
 alter_turns (ways.Take amount) decls parts own k value is = (value, is, refl)
 
-goes_on : (by : By) (k : Key) (before value : ℕ) (own : List Change) → altered by before ≡ Some value
+pub goes_on : (by : By) (k : Key) (before value : ℕ) (own : List Change) → altered by before ≡ Some value
     → turned by k before own ≡ Continues None (wrote k (Some value) own)
 goes_on (ways.Add amount) k before value own is =
     by_test (nat_lt (before + amount) (2 ^ 64)) is
@@ -378,7 +479,7 @@ goes_on (ways.Take amount) k before value own is =
     by_test true is = ap (λ n. Continues None (wrote k (Some n) own)) cc
     by_test false is = absurd cc
 
-ends : (by : By) (k : Key) (before : ℕ) (own : List Change) → altered by before ≡ None
+pub ends : (by : By) (k : Key) (before : ℕ) (own : List Change) → altered by before ≡ None
     → turned by k before own ≡ Stops (ended_by by)
 ends (ways.Add amount) k before own is =
     by_test (nat_lt (before + amount) (2 ^ 64)) is
@@ -395,7 +496,7 @@ ends (ways.Take amount) k before own is =
     by_test true is = absurd cc
     by_test false is = refl
 
-stops_so : (by : By) (op : Op) (sets new : Sets) (v w : View) → HasStopped op (ended_by by) sets new v w
+pub stops_so : (by : By) (op : Op) (sets new : Sets) (v w : View) → HasStopped op (ended_by by) sets new v w
     → Alters op (ended_by by) sets new v w
 stops_so (ways.Add amount) op sets new v w h = h
 stops_so (ways.Take amount) op sets new v w h = h
@@ -411,10 +512,11 @@ own_altered by sets new v k before value live is after reads pointers holds head
   only = nothing_walked v;
   paths = λ x has. inl has;
   held = none_held (op_of k by) sets.holds new.holds v holds;
-  reads = inl reads;
-  pointers = inl pointers;
-  headers = headers;
+  reads = none_more (IsReadBy v.layout.decls (op_of k by)) (meets_most (op_of k by)) sets.reads new.reads reads;
+  pointers = none_more (IsPointerOf v (op_of k by)) (meets_most (op_of k by)) sets.pointers new.pointers pointers;
+  headers = heads_same v (op_of k by) sets.headers new.headers headers;
   joined = inl refl;
+  locks = inl refl;
   writes = λ q has. may_write by k q (has_write q sets.writes ≡ true)
       (writes_only k value sets.writes new.writes q now has);
   grows = now.grows;
@@ -436,10 +538,11 @@ own_ends by sets v k before live is after = stops_so by (op_of k by) sets sets v
   only = nothing_walked v;
   paths = λ x has. inl has;
   held = none_held (op_of k by) sets.holds sets.holds v refl;
-  reads = inl refl;
-  pointers = inl refl;
-  headers = refl;
+  reads = none_more (IsReadBy v.layout.decls (op_of k by)) (meets_most (op_of k by)) sets.reads sets.reads refl;
+  pointers = none_more (IsPointerOf v (op_of k by)) (meets_most (op_of k by)) sets.pointers sets.pointers refl;
+  headers = heads_same v (op_of k by) sets.headers sets.headers refl;
   joined = inl refl;
+  locks = inl refl;
   writes = λ q has. inl has;
   grows = omega arith;
   keeps = λ q x had. had;
@@ -457,8 +560,8 @@ module _ (by : By) (sets mid late : Sets) (u v w : View) (k : Key) (at before : 
 
   paths_both : OnlyWaysOf (op_of k by) u w
   paths_both x has = elim (h.paths x has) [
-    | inl early ↦ ways_of (op_of k by) k u v (inl (may_read by k)) b.paths x early
-    | inr over ↦ inr (k, inl (may_read by k), over)
+    | inl early ↦ elim (b.paths x early) [ inl old ↦ inl old | inr over ↦ inr (k, inl (may_read by k), inl over) ]
+    | inr over ↦ inr (k, inl (may_read by k), inl over)
   ]
 
   held_both : HoldsWaysOf (op_of k by) sets.holds late.holds w
@@ -473,16 +576,16 @@ module _ (by : By) (sets mid late : Sets) (u v w : View) (k : Key) (at before : 
   keeps_both : PartsStay u.seat.kept w.seat.kept
   keeps_both q x had = h.keeps q x (subst (λ l. Vouched l q x) (sym b.kept) had)
 
-  reads_both : ReadsOnly (op_of k by) sets.reads late.reads
+  reads_both : ReadsOnly u.layout.decls (op_of k by) sets.reads late.reads
   reads_both =
-      subst (λ (l : List ReadEntry). ReadsOnly (op_of k by) l late.reads) b.reads
-      (reads_key (op_of k by) k before mid late v w (may_read by k) h)
+      subst (λ (y : Layout). ReadsOnly y.decls (op_of k by) sets.reads late.reads) (walks_layout u v b.only)
+      (subst (λ (l : List ReadEntry). ReadsOnly v.layout.decls (op_of k by) l late.reads) b.reads
+      (reads_key (op_of k by) k before mid late v w (may_read by k) h))
 
-  meets_both : MeetsOnly u.layout (op_of k by) sets.pointers late.pointers
+  meets_both : MeetsOnly w (op_of k by) sets.pointers late.pointers
   meets_both =
-      subst (λ (y : Layout). MeetsOnly y (op_of k by) sets.pointers late.pointers) (walks_layout u v b.only)
-      (subst (λ (l : List Seen). MeetsOnly v.layout (op_of k by) l late.pointers) b.pointers
-      (meets_key (op_of k by) k before mid late v w (may_read by k) h))
+      subst (λ (l : List Seen). MeetsOnly w (op_of k by) l late.pointers) b.pointers
+      (meets_key (op_of k by) k before mid late v w (may_read by k) h)
 
   headers_both : late.headers ≡ sets.headers
   headers_both = h.headers ∙ b.headers
@@ -496,7 +599,7 @@ module _ (by : By) (sets mid late : Sets) (u v w : View) (k : Key) (at before : 
 
   pub altered_apart : writes_at at late.writes ≡ false
   altered_apart =
-      word_apart (ground w) k at late.writes h.live.agree place_both h.live.writes
+      word_apart (ground w) k at late.writes h.live.agree h.live.trees.known (inl place_both) h.live.writes
       (subst (λ l. has_write k l ≡ false) (sym writes_same) none)
 
   pub brought_altered : (new : Sets) (value : ℕ) → altered by before ≡ Some value → KeepsSets late new
@@ -508,15 +611,16 @@ module _ (by : By) (sets mid late : Sets) (u v w : View) (k : Key) (at before : 
       record {
         live = same_live late new w h.live same.reads same.pointers same.holds same.headers
             (inserted_all (ground w) (record { key = k; value = Some value; at = at }) late.writes new.writes is
-            record { place = place_both; value = refl } h.live.writes);
+            record { place = inl place_both; value = λ array. refl } h.live.writes);
         only = only_both;
         paths = paths_both;
         held = subst (λ (l : List ℕ). HoldsWaysOf (op_of k by) sets.holds l w) (sym same.holds) held_both;
-        reads = subst (λ (l : List ReadEntry). ReadsOnly (op_of k by) sets.reads l) (sym same.reads) reads_both;
-        pointers = subst (λ (l : List Seen). MeetsOnly u.layout (op_of k by) sets.pointers l) (sym same.pointers)
-            meets_both;
-        headers = same.headers ∙ headers_both;
-        joined = inr (k, may_read by k);
+        reads = subst (λ (l : List ReadEntry). ReadsOnly u.layout.decls (op_of k by) sets.reads l) (sym same.reads)
+            reads_both;
+        pointers = subst (λ (l : List Seen). MeetsOnly w (op_of k by) sets.pointers l) (sym same.pointers) meets_both;
+        headers = heads_same w (op_of k by) sets.headers new.headers (same.headers ∙ headers_both);
+        joined = inr (inl (k, may_read by k));
+        locks = inl (h.touched ∙ b.touched);
         writes = λ q has. may_write by k q (has_write q sets.writes ≡ true)
             (subst (λ (l : List written_of.Write). (has_write q l ≡ true) ⊎ (k ≡ q)) writes_same
             (writes_only k value late.writes new.writes q now has));
@@ -539,8 +643,9 @@ module _ (by : By) (sets mid late : Sets) (u v w : View) (k : Key) (at before : 
     held = held_both;
     reads = reads_both;
     pointers = meets_both;
-    headers = headers_both;
-    joined = inr (k, may_read by k);
+    headers = heads_same w (op_of k by) sets.headers late.headers headers_both;
+    joined = inr (inl (k, may_read by k));
+    locks = inl (h.touched ∙ b.touched);
     writes = λ q has. inl (subst (λ (l : List written_of.Write). has_write q l ≡ true) writes_same has);
     grows = omega (arith, ap (λ (l : List written_of.Write). length l) writes_same);
     keeps = keeps_both;

@@ -8,6 +8,7 @@ use Rattle.lists.specs.Each.{all_push, AreDistinct}
 use Rattle.lists.specs.Elements.{in_cases, in_head, in_none, in_tail}
 use Rattle.serial_model.specs.Decls.{AreDecls}
 use Rattle.serial_model.specs.declared.key.Key.{Key}
+use Rattle.homes.specs.declared.places.Span.{Span}
 use Rattle.commit_core.specs.CoreState.{is_trying}
 use Rattle.drop_core.specs.Table.{has_slot}
 use Rattle.tx_sets.specs.declared.reads.ReadEntry.{ReadEntry}
@@ -23,7 +24,7 @@ use Rattle.engine_pages.specs.Steps.{kept_at, seen_at}
 use Rattle.page_records.specs.Ends.{worker_of}
 use Rattle.array_pages.specs.Making.{CanMake}
 use Rattle.array_pages.specs.Walks.{AreLedTo, CanWalk, HasWalked, HoldsAre, IsPointersWord, KeepsMet, OnlyMet}
-use Rattle.page_commit.specs.Places.{ground, IsAnyKeyIn, IsKeyAt, IsKeyIn, IsTreeKeyIn}
+use Rattle.page_commit.specs.Places.{ground, IsAnyKeyIn, IsBranchIn, IsKeyAt, IsKeyIn, IsTreeKeyIn}
 use Rattle.page_commit.specs.Live.{entry_places, read_word, AreInside, AreMet, AreParts, ArePointersKept, ArePointersMet}
 use Rattle.page_commit.specs.Live.{HasHolds, IsHeadIn, IsLive, IsWriteOf, KeepsOnly, StandsIn}
 use Rattle.page_commit.specs.HeaderParts.{AreHeaders}
@@ -31,10 +32,12 @@ use Rattle.page_commit.specs.Turning.{as_walked, HoldsWaysTo, OnlyWalked}
 use Rattle.page_commit.proofs.DrawLaws.{active_worker}
 use Rattle.page_commit.proofs.AnyPlaces.{any_no_pointer, any_no_value, any_stands, any_value_stands, head_apart, head_stands}
 use Rattle.page_commit.proofs.AnyPlaces.{met_tree}
-use Rattle.page_commit.proofs.GrowLaws.{knows_more, met_before, none_read, pointer_here, pointer_stands, points_here}
+use Rattle.page_commit.proofs.GrowLaws.{branch_apart, branch_grown, branch_no_value, knows_more, met_before}
+use Rattle.page_commit.proofs.GrowLaws.{none_read, pointer_here, pointer_stands, points_here}
 use Rattle.page_commit.proofs.GrowLaws.{stands_grown, word_push_new, word_push_old, writes_grown, KnowsMore}
 use Rattle.page_commit.proofs.HeaderLaws.{head_only, header_grown, headers_aside, no_head_key, no_head_value}
 use Rattle.page_commit.proofs.Lists.{map_push}
+use Rattle.page_commit.proofs.PlaceLaws.{no_pointer}
 use Rattle.page_commit.proofs.PointerLaws.{pointer_word}
 
 -- ---- what a walk needs
@@ -76,7 +79,8 @@ only_walked v w walk = record {
   drawn = walk.drawn;
   seen = walk.seen;
   since = walk.since;
-  parts = walk.parts;
+  parts = λ part has. elim (walk.parts part has) [ inl old ↦ inl old | inr last ↦ inr (inl last) ];
+  touches = λ t has. inl (subst (λ (y : View). Contains y.touched t) walk.is has);
   ways = walk.ways;
   known = λ x has. subst (λ (y : View). Contains y.known x) (sym walk.is) has;
   moved = λ x has. subst (λ (y : View). Contains y.moved x) (sym walk.is) has;
@@ -175,7 +179,7 @@ beside_arrays v w only a = elim (only a) [ inl same ↦ inl same | inr p ↦ inr
 beside_apart : (w : View) (k : Key) (at : ℕ) → WaysAgree w.ways → TreesAgree w → AreDecls w.layout.decls
     → IsAnyKeyIn (ground w) k at → IsBeside w at → ⊥
 beside_apart w k at agree trees are place (inl p) =
-    any_no_pointer (ground w) k p.span at agree place (pointer_here w p.place p.span at are p.is)
+    any_no_pointer w k p.span at agree trees place (pointer_here w p.place p.span at are p.is)
 beside_apart w k at agree trees are place (inr h) = head_apart w k at agree trees place h
 
 beside_stands : (w : View) (at : ℕ) → AreDecls w.layout.decls → IsBeside w at → StandsIn (ground w) at
@@ -286,14 +290,40 @@ module _ (sets : Sets) (v w : View) (e : ReadEntry) (live : IsLive sets v) (more
 
 -- ---- pointers of the set
 
--- each is the word of a pointer that the pass knows
-pub set_points : (sets : Sets) (v : View) (p : Seen) → IsLive sets v → Contains sets.pointers p → IsPointersWord v p.at
-set_points sets v p live has = let r = live.parts.pointers p has in points_here v r.2.span p.at r.2.place
+-- each is the word of a root's pointer, or of one of an array's page, or of a tree's
+pub set_points : (sets : Sets) (v : View) (p : Seen) → IsLive sets v → Contains sets.pointers p
+    → IsPointersWord v p.at ⊎ ((sp : Span) × IsBranchIn (ground v) sp p.at)
+set_points sets v p live has =
+    let r = live.parts.pointers p has in
+    elim (points_here v r.2.span p.at r.2.place) [ inl word ↦ inl word | inr b ↦ inr (r.2.span, b) ]
 
-pub points_walked : (sets : Sets) (v w : View) → IsLive sets v → KeepsMet sets.pointers v w
-    → ArePointersMet sets.pointers w
-points_walked sets v w live keeps p has =
-    keeps p.at p.word (pointer_word sets.pointers p live.once has) (set_points sets v p live has) (live.points p has)
+-- They were last seen as the set has them, where a walk over arrays met none of a tree's page.
+pub points_walked : (sets : Sets) (v w : View) → IsLive sets v → KnowsMore v w → WaysAgree w.ways → AreDecls w.layout.decls
+    → ((sp : Span) (p : Seen) → Contains sets.pointers p → IsBranchIn (ground w) sp p.at
+    → (seen_at w.reads p.at ≡ seen_at v.reads p.at) ⊎ IsPointersWord w p.at)
+    → KeepsMet sets.pointers v w → ArePointersMet sets.pointers w
+points_walked sets v w live more agree are only keeps p has = by_kind (set_points sets v p live has)
+  where
+    by_side : (sp : Span) → IsBranchIn (ground w) sp p.at
+        → (seen_at w.reads p.at ≡ seen_at v.reads p.at) ⊎ IsPointersWord w p.at → seen_at w.reads p.at ≡ Some p.word
+    by_side sp b (inl same) = same ∙ live.points p has
+    by_side sp b (inr word) = absurd (branch_apart w sp p.at agree are b word)
+
+    by_kind : IsPointersWord v p.at ⊎ ((sp : Span) × IsBranchIn (ground v) sp p.at) → seen_at w.reads p.at ≡ Some p.word
+    by_kind (inl word) =
+        keeps p.at p.word (pointer_word sets.pointers p live.once has) word (live.points p has)
+    by_kind (inr b) =
+        let now = branch_grown v w b.0 p.at more b.1 in by_side b.0 now (only b.0 p has now)
+
+-- so it is where a record of an array was read besides
+pub points_beside : (sets : Sets) (v w : View) (k : Key) (at : ℕ) → IsLive sets v → KnowsMore v w → WaysAgree w.ways
+    → AreDecls w.layout.decls → IsKeyAt w k at
+    → ((a : ℕ) → a ≢ at → a ≢ at + 1 → (seen_at w.reads a ≡ seen_at v.reads a) ⊎ IsPointersWord w a)
+    → KeepsMet sets.pointers v w → ArePointersMet sets.pointers w
+points_beside sets v w k at live more agree are place only keeps =
+    points_walked sets v w live more agree are (λ sp p has b. only p.at
+    (λ same. no_pointer (ground w) k sp p.at agree (subst (IsKeyAt w k) (sym same) place) (inr (inr b)))
+    (branch_no_value w k sp at p.at agree place b)) keeps
 
 pub kept_walked : (sets : Sets) (v w : View) → IsLive sets v → ((a : ℕ) → kept_at w.reads a ≡ kept_at v.reads a)
     → ArePointersKept sets.pointers w

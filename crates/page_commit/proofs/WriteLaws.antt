@@ -17,10 +17,11 @@ use Rattle.serial_bridge.specs.Transaction.{wrote}
 use Rattle.tx_sets.specs.declared.writes.Write.{Write}
 use Rattle.tx_sets.specs.Entries.{has_write, value_of, writes_at, IsInserted, IsPut, IsRewritten}
 use Rattle.engine_pages.specs.Pointers.{WaysAgree}
-use Rattle.page_commit.specs.Places.{Ground, IsKeyIn}
+use Rattle.page_commit.specs.Places.{Ground, IsAnyKeyIn}
+use Rattle.engine_pages.specs.Agreement.{KnownAgree}
 use Rattle.page_commit.specs.Live.{IsWriteOf}
 use Rattle.page_commit.specs.Turning.{AreWritesOf}
-use Rattle.page_commit.proofs.PlaceLaws.{one_key}
+use Rattle.page_commit.proofs.AnyPlaces.{any_one_key}
 
 -- ---- which values
 
@@ -67,7 +68,7 @@ some_written k (w ∷ ws) value is =
     step is = ap (λ b. option_map (λ (x : Write). x.value)
         (cond b (Some w) (find (λ (x : Write). same_key x.key k) ws))) is
 
-value_head : (w : Write) (ws : List Write) (q : Key) (b : Bool) → same_key w.key q ≡ b
+pub value_head : (w : Write) (ws : List Write) (q : Key) (b : Bool) → same_key w.key q ≡ b
     → value_of q (w ∷ ws) ≡ cond b (Some w.value) (value_of q ws)
 value_head w ws q true is =
     ap (λ b. option_map (λ (x : Write). x.value) (cond b (Some w) (find (λ (x : Write). same_key x.key q) ws))) is
@@ -75,21 +76,21 @@ value_head w ws q false is =
     ap (λ b. option_map (λ (x : Write). x.value) (cond b (Some w) (find (λ (x : Write). same_key x.key q) ws))) is
 
 -- where all of the first ones are of other keys, the value is that of the rest
-value_past : (before : List Write) (ws : List Write) (k : Key) → has_write k before ≡ false
+pub value_past : (before : List Write) (ws : List Write) (k : Key) → has_write k before ≡ false
     → value_of k (before ++ ws) ≡ value_of k ws
 value_past [] ws k none = refl
 value_past (b ∷ before) ws k none =
     let parts = or_parts (same_key b.key k) (has_write k before) none in
     value_head b (before ++ ws) k false parts.0 ∙ value_past before ws k parts.1
 
-any_front : (p : Write → Bool) (before ws : List Write) → list_any p (before ++ ws) ≡ false → list_any p before ≡ false
+pub any_front : (p : Write → Bool) (before ws : List Write) → list_any p (before ++ ws) ≡ false → list_any p before ≡ false
 any_front p [] ws none = refl
 any_front p (b ∷ before) ws none =
     let parts = or_parts (p b) (list_any p (before ++ ws)) none in
     or_from (p b) (list_any p before) parts.0 (any_front p before ws parts.1)
 
 -- a key other than that of the middle one has the same value with and without it
-value_beside : (before after : List Write) (x : Write) (q : Key) → same_key x.key q ≡ false
+pub value_beside : (before after : List Write) (x : Write) (q : Key) → same_key x.key q ≡ false
     → value_of q (before ++ x ∷ after) ≡ value_of q (before ++ after)
 value_beside [] after x q miss = value_head x after q false miss
 value_beside (b ∷ before) after x q miss =
@@ -147,7 +148,7 @@ rewritten_writes k value old new is =
       );
     }
 
-has_is : (ws : List Write) (q : Key) → has_write q ws ≡ is_some (value_of q ws)
+pub has_is : (ws : List Write) (q : Key) → has_write q ws ≡ is_some (value_of q ws)
 has_is [] q = refl
 has_is (w ∷ ws) q = by_test (same_key w.key q) refl (has_is ws q)
   where
@@ -170,7 +171,7 @@ writes_only k value old new q is has =
       | inr miss ↦ inl (has_is old q ∙ (sym (ap is_some (is.others q miss)) ∙ (sym (has_is new q) ∙ has)))
     ]
 
-written_head : (k : Key) (value : Option ℕ) (own : List Change) (q : Key) (b : Bool) → same_key k q ≡ b
+pub written_head : (k : Key) (value : Option ℕ) (own : List Change) (q : Key) (b : Bool) → same_key k q ≡ b
     → written q (wrote k value own) ≡ cond b (Some value) (written q own)
 written_head k value own q true is =
     ap (λ b. option_map (λ (x : Change). x.value)
@@ -191,12 +192,12 @@ writes_more k value old new own is same q =
 
 -- ---- each of an array's record
 
-all_middle : (P : Write → Type 0) (before after : List Write) (x : Write) → AllByRecursion P (before ++ after) → P x
+pub all_middle : (P : Write → Type 0) (before after : List Write) (x : Write) → AllByRecursion P (before ++ after) → P x
     → AllByRecursion P (before ++ x ∷ after)
 all_middle P [] after x all one = (one, all)
 all_middle P (b ∷ before) after x all one = (all.0, all_middle P before after x all.1 one)
 
-all_without : (P : Write → Type 0) (before after : List Write) (x : Write) → AllByRecursion P (before ++ x ∷ after)
+pub all_without : (P : Write → Type 0) (before after : List Write) (x : Write) → AllByRecursion P (before ++ x ∷ after)
     → P x × AllByRecursion P (before ++ after)
 all_without P [] after x all = all
 all_without P (b ∷ before) after x all = let rest = all_without P before after x all.1 in (rest.0, (all.0, rest.1))
@@ -216,34 +217,19 @@ rewritten_all g k value old new is all =
     (subst (AllByRecursion (IsWriteOf g)) is.rest.was all) in
     subst (AllByRecursion (IsWriteOf g)) (sym is.rest.now)
     (all_middle (IsWriteOf g) is.rest.before is.rest.after (record x { value = Some value }) was.1
-    record { place = was.0.place; value = refl })
-
--- what is written is a value
-pub value_there : (g : Ground) (k : Key) (ws : List Write) (value : Option ℕ)
-    → AllByRecursion (IsWriteOf g) ws
-    → value_of k ws ≡ Some value → is_some value ≡ true
-value_there g k [] value all is = absurd cc
-value_there g k (w ∷ ws) value all is =
-    elim (cases_Bool (same_key w.key k)) [
-      | inl hit ↦ let same = some_is w.value value (sym (value_head w ws k true hit) ∙ is) in ap is_some (sym same)
-          ∙ all.0.value
-      | inr miss ↦ value_there g k ws value all.1 (sym (value_head w ws k false miss) ∙ is)
-    ]
-  where
-    some_is : (a b : Option ℕ) → Some a ≡ Some b → a ≡ b
-    some_is a b same = cc
+    record { place = was.0.place; value = λ array. refl })
 
 -- a key that is not written has another word than all that are
-pub word_apart : (g : Ground) (k : Key) (at : ℕ) (ws : List Write) → WaysAgree g.ways → IsKeyIn g k at
-    → AllByRecursion (IsWriteOf g) ws → has_write k ws ≡ false → writes_at at ws ≡ false
-word_apart g k at [] agree is all none = refl
-word_apart g k at (w ∷ ws) agree is all none =
+pub word_apart : (g : Ground) (k : Key) (at : ℕ) (ws : List Write) → WaysAgree g.ways → KnownAgree g.known
+    → IsAnyKeyIn g k at → AllByRecursion (IsWriteOf g) ws → has_write k ws ≡ false → writes_at at ws ≡ false
+word_apart g k at [] agree known is all none = refl
+word_apart g k at (w ∷ ws) agree known is all none =
     let parts = or_parts (same_key w.key k) (has_write k ws) none in
     or_from (w.at == at) (writes_at at ws)
     (ne_eqb w.at at (λ same.
-    let key : w.key ≡ k = one_key g w.key k at agree (subst (IsKeyIn g w.key) same all.0.place) is in
+    let key : w.key ≡ k = any_one_key g w.key k at agree known (subst (IsAnyKeyIn g w.key) same all.0.place) is in
     true≢false (sym (ap (λ (z : Key). same_key z k) key ∙ same_key-self k) ∙ parts.0)))
-    (word_apart g k at ws agree is all.1 parts.1)
+    (word_apart g k at ws agree known is all.1 parts.1)
 
 -- ---- a set with room
 

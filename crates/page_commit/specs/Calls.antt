@@ -9,6 +9,7 @@ use Rattle.drop_core.specs.Table.{has_slot}
 use Rattle.tx_sets.specs.declared.seen.Seen.{Seen}
 use Rattle.tx_sets.specs.declared.sets.Sets.{Sets}
 use Rattle.tx_sets.specs.Entries.{has_read, has_write, word_at}
+use Rattle.tx_sets.specs.Gathered.{has_read_room}
 use Rattle.engine_pages.specs.declared.view.Read.{Read}
 use Rattle.engine_pages.specs.declared.view.RefusalCause.{RefusalCause}
 use Rattle.engine_pages.specs.declared.view.SetName.TheVariants.{Reads, Writes, Pointers, Holds}
@@ -117,7 +118,7 @@ RefusesRead sets new k (refusals.Conflict at expected seen) v w =
 RefusesRead sets new k (refusals.Full held) v w = ⊥
 RefusesRead sets new k (refusals.Wide set) v w =
     (has_read k sets.reads ≡ false) × (has_write k sets.writes ≡ false) × (w.draws ≡ v.draws)
-    × (((set ≡ Reads) × (length sets.reads ≡ 256) × IsInMemory k w)
+    × (((set ≡ Reads) × (has_read_room sets ≡ false) × IsInMemory k w)
     ⊎ (((set ≡ Holds) × (length new.holds ≡ 128) × NeedsHold k new.holds false w)
     ⊎ ((set ≡ Pointers) × (length sets.pointers ≡ 128) × NeedsPointer k sets.pointers w)))
     × (w.touched ≡ v.touched)

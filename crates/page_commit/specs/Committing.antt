@@ -24,10 +24,11 @@ use Rattle.page_commit.specs.Between.{HasSeen}
 use Rattle.engine_pages.specs.Words.{IsSmall}
 use Rattle.engine_pages.specs.Times.{HasTimed}
 use Rattle.page_records.specs.Ends.{readied}
+use Rattle.engine_pages.specs.Pages.{is_array}
 use Rattle.engine_pages.specs.Touches.{touch}
 use Rattle.engine_pages.specs.Views.{seat_number}
 use Rattle.page_commit.specs.Live.{IsLive, IsOver}
-use Rattle.page_commit.specs.Refusing.{IsConflictAt, IsPointerConflict}
+use Rattle.page_commit.specs.Refusing.{IsConflictAt, IsPointerConflict, IsTreeConflict}
 
 -- ---- before the draw
 
@@ -136,14 +137,17 @@ IsRecordOf reads writes k at =
     ⊎ ((w : Write) × Contains writes w × (w.key ≡ k) × (w.at ≡ at))
 
 -- A commit is refused only for a conflict at a record, a pointer or a header of its sets, and has locked keys of its
--- writes alone.
+-- writes alone; of a record of a tree no key is told.
 abbrev pub RefusesCommit : Sets → List Write → RefusalCause → View → View → Type 0
 RefusesCommit sets writes (refusals.Conflict at expected seen) v w =
-    (((k : Key) × IsRecordOf sets.reads writes k at × IsConflictAt sets.reads k at expected seen v w)
+    (((k : Key) × IsRecordOf sets.reads writes k at × IsConflictAt sets.reads k at expected seen v w
+    × (is_array v.layout.decls k.storage ≡ true))
     ⊎ (((has_word at sets.pointers ≡ true) × IsPointerConflict sets.pointers at expected seen v w
     × (w.blamed ≡ v.blamed))
-    ⊎ ((has_word at sets.headers ≡ true) × IsPointerConflict sets.headers at expected seen v w
-    × (w.blamed ≡ v.blamed))))
+    ⊎ (((has_word at sets.headers ≡ true) × IsPointerConflict sets.headers at expected seen v w
+    × (w.blamed ≡ v.blamed))
+    ⊎ ((k : Key) × IsRecordOf sets.reads writes k at × IsTreeConflict sets.reads at expected seen v w
+    × (w.blamed ≡ v.blamed) × (is_array v.layout.decls k.storage ≡ false)))))
     × TookOnly writes v w
 RefusesCommit sets writes (refusals.Full held) v w = ⊥
 RefusesCommit sets writes (refusals.Wide set) v w = ⊥

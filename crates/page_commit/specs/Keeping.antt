@@ -1,11 +1,12 @@
 -- What reads and what writes begin with come to, and what the sets keep of a key that was found.
-use Rattle.std.specs.Prelude.{◌≡◌, ◌⊎◌, ℕ, ◌%◌, ◌<◌, ◌==◌, length, Bool, false, List, [], ◌∷◌, ◌++◌, None, Some, Option}
+use Rattle.std.specs.Prelude.{◌≡◌, ◌⊎◌, ℕ, ◌%◌, not, Bool, true, false, List, [], ◌∷◌, ◌++◌, None, Some, Option}
 use Rattle.std.specs.Prelude.{unwrap_or, ⊤}
 use Rattle.wire_form.specs.Leaves.{array_leaf}
 use Rattle.commit_core.specs.Serial.{last_write}
 use Rattle.serial_bridge.specs.Transaction.{Vouched}
 use Rattle.tx_sets.specs.declared.reads.ReadEntry.{ReadEntry}
 use Rattle.tx_sets.specs.Entries.{read_of, word_at}
+use Rattle.tx_sets.specs.Gathered.{has_read_room}
 use Rattle.engine_pages.specs.declared.view.View.{View}
 use Rattle.page_commit.specs.Places.{spot_at, IsKeyAt}
 use Rattle.page_commit.specs.Live.{IsLive}
@@ -28,17 +29,17 @@ abbrev pub MeetsPointer : Seen → List Seen → List Seen → Type 0
 MeetsPointer p old new =
     ((word_at p.at old ≡ Some p.word) × (new ≡ old)) ⊎ ((word_at p.at old ≡ None) × (new ≡ old ++ p ∷ []))
 
--- there is room for the entry of a record in memory
-abbrev pub HasRoomFor : List ReadEntry → Found → Type 0
-HasRoomFor reads (places.Volatile at word value) = length reads < 256
-HasRoomFor reads (places.Snapshot value number p) = ⊤
-HasRoomFor reads (places.Zero p) = ⊤
+-- there is room for the entry of a record in memory, beside those of records and headers
+abbrev pub HasRoomFor : Sets → Found → Type 0
+HasRoomFor sets (places.Volatile at word value) = has_read_room sets ≡ true
+HasRoomFor sets (places.Snapshot value number p) = ⊤
+HasRoomFor sets (places.Zero p) = ⊤
 
--- the set has no room for the entry of what was found
-abbrev pub lacks_entry : List ReadEntry → Found → Bool
-lacks_entry reads (places.Volatile at word value) = length reads == 256
-lacks_entry reads (places.Snapshot value number p) = false
-lacks_entry reads (places.Zero p) = false
+-- the sets have no room for the entry of what was found
+abbrev pub lacks_entry : Sets → Found → Bool
+lacks_entry sets (places.Volatile at word value) = not (has_read_room sets)
+lacks_entry sets (places.Snapshot value number p) = false
+lacks_entry sets (places.Zero p) = false
 
 -- all but the reads and the pointers is as it was
 pub record KeepsRest (sets new : Sets) : Type 0 where
@@ -76,6 +77,7 @@ pub record HasValue (k : Key) (value : ℕ) (sets new : Sets) (v w : View) : Typ
       ⊎ ((p : Seen) × (new.pointers ≡ sets.pointers ++ p ∷ []) × IsWayPlace v.layout k p.at)
   pub writes : new.writes ≡ sets.writes
   pub headers : new.headers ≡ sets.headers
+  pub touched : w.touched ≡ v.touched
   pub content : Option ℕ
   pub value_is : value ≡ unwrap_or content 0
   pub vouched : Vouched w.seat.kept k content
@@ -88,6 +90,7 @@ pub record HasBrought (k : Key) (at : ℕ) (sets new : Sets) (v w : View) : Type
   pub paths : OnlyWaysTo k v w
   pub held : HoldsWaysTo k sets.holds new.holds w
   pub kept : w.seat.kept ≡ v.seat.kept
+  pub touched : w.touched ≡ v.touched
   pub reads : new.reads ≡ sets.reads
   pub pointers : new.pointers ≡ sets.pointers
   pub writes : new.writes ≡ sets.writes

@@ -1,15 +1,17 @@
 -- A transaction and its pass: what the sets have, and what the view knows of it.
 use Rattle.std.specs.Prelude.{◌≡◌, ◌⊎◌, ℕ, ◌+◌, ◌<◌, ◌^◌, ◌==◌, Bool, true, false, is_some, Some, Option}
-use Rattle.std.specs.Prelude.{List, [], unwrap_or, Contains, map}
+use Rattle.std.specs.Prelude.{List, [], cond, unwrap_or, Contains, map}
 use Rattle.std.specs.List.{AllByRecursion, find, list_any}
 use Rattle.std.specs.Option.{option_map}
 use Rattle.lists.specs.Each.{AreDistinct}
+use Rattle.serial_model.specs.declared.decl.Decl.{Decl}
 use Rattle.serial_model.specs.Decls.{AreDecls}
 use Rattle.homes.specs.declared.places.Content.{Content}
 use Rattle.homes.specs.declared.places.Span.{Span}
 use Rattle.homes.specs.Homes.{in_span}
 use Rattle.serial_model.specs.declared.key.Key.{Key}
 use Rattle.wire_form.specs.Leaves.{tree_leaf}
+use Rattle.wire_form.specs.Words.{number_word}
 use Rattle.commit_core.specs.declared.part.Part.{Part}
 use Rattle.commit_core.specs.declared.seat.Stage.TheVariants.{Idle}
 use Rattle.commit_core.specs.Parts.{covers, found, record_part, same_word}
@@ -27,13 +29,16 @@ use Rattle.engine_pages.specs.declared.view.Way.{Way}
 use Rattle.engine_pages.specs.Views.{IsResting}
 use Rattle.engine_pages.specs.Steps.{kept_at, seen_at}
 use Rattle.page_records.specs.Ends.{worker_of}
-use Rattle.dual_pointer.specs.Parts.{content_below, IsPointerPart}
+use Rattle.dual_pointer.specs.Parts.{content_below, tree_content, IsPointerPart}
 pub use Rattle.array_pages.specs.Finding.{IsWordFor}
 use Rattle.page_commit.specs.HeaderParts.{AreHeaders, IsMetHeader}
-use Rattle.page_commit.specs.Places.{ground, pointer_at, slot_of, spot_at, word_of, Ground, IsKeyIn}
+use Rattle.page_commit.specs.Places.{ground, pointer_for, slot_of, spot_for, word_of, Ground, IsAnyKeyIn}
+use Rattle.page_commit.specs.Places.{IsKeyIn}
 use Rattle.page_commit.specs.Places.{IsPointerIn, IsTreeKeyIn}
 use Rattle.engine_pages.specs.Layout.{words_of}
 use Rattle.engine_pages.specs.Pages.{is_array, is_tree}
+use Rattle.engine_pages.specs.Rule.{absence}
+use Rattle.engine_pages.specs.Words.{IsSmall}
 use Rattle.engine_pages.specs.Pointers.{StandsFor, WaysAgree}
 
 -- ---- records that were read, by the places of their words
@@ -52,13 +57,23 @@ entry_places reads = map (λ e. e.at) reads
 
 -- ---- parts and sets
 
+-- This is the word of a record with the content: its number, which fits, and in a tree a bit where it has no value.
+pub record IsWordOf (decls : List Decl) (k : Key) (c : Content) (word : ℕ) : Type 0 where
+  pub small : IsSmall c.number
+  pub number : number_word c.number + absence decls k c.value ≡ word
+
 -- The part is what was read of the entry's record: one content of it had this word and this value.
 pub record IsReadPart (g : Ground) (e : ReadEntry) (part : Part) : Type 0 where
-  pub place : IsKeyIn g e.key e.at
+  pub place : IsAnyKeyIn g e.key e.at
   pub content : Content
-  pub shown : IsWordFor content e.word
+  pub shown : IsWordOf g.layout.decls e.key content e.word
   pub value : e.value ≡ unwrap_or content.value 0
-  pub is : part ≡ record_part e.key (spot_at g.layout.slots e.at) content
+  pub is : part ≡ record_part e.key (spot_for g.layout e.key e.at) content
+
+-- what these pages have for a key below the page with this number, by the kind of the storage
+abbrev pub below_in : List Decl → List (List ℕ) → Span → ℕ → Key → Content
+below_in decls pages sp n k =
+    cond (is_array decls sp.storage) (content_below pages sp n k) (tree_content pages sp n k)
 
 -- The part is that of the pointer, which led to no slot as its word was seen: it vouches for the keys of the pointer,
 -- with what is found below the page that the word names.
@@ -67,12 +82,12 @@ pub record IsMetPointer (v : View) (p : Seen) (part : Part) : Type 0 where
   pub place : IsPointerIn (ground v) span p.at
   pub within : p.at < words_of v.layout
   pub bare : p.word < 2 ^ 32
-  pub of : IsPointerPart v (pointer_at v.layout.slots p.at) span p.word part
-  pub array : is_array v.layout.decls span.storage ≡ true
+  pub of : IsPointerPart v (pointer_for (ground v) p.at) span p.word part
+  pub kind : (is_array v.layout.decls span.storage ≡ true) ⊎ (is_tree v.layout.decls span.storage ≡ true)
   pub stands : 0 < p.word → StandsFor v.layout.decls v.pages span p.word
   pub inside : (k : Key) → covers part k ≡ true → in_span span k ≡ true
   pub all : (k : Key) → in_span span k ≡ true → covers part k ≡ true
-  pub says : (k : Key) → in_span span k ≡ true → found part k ≡ content_below v.pages span p.word k
+  pub says : (k : Key) → in_span span k ≡ true → found part k ≡ below_in v.layout.decls v.pages span p.word k
 
 -- Each part is of an entry, of a pointer or of a header, and each of these has its part; so who checks the words of the
 -- sets checks all parts. Each part is of another word.
@@ -88,10 +103,10 @@ pub record AreParts (sets : Sets) (v : View) (kept : List Part) : Type 0 where
       → (part : Part) × Contains kept part × IsMetHeader (ground v) h part
   pub once : (a b : Part) → Contains kept a → Contains kept b → same_word a.word b.word ≡ true → a ≡ b
 
--- a value is written at the key of an array, whose record's word stands there, in a page that is held
+-- A key is written whose record's word stands there, in a page that is held; in an array it gets a value.
 pub record IsWriteOf (g : Ground) (w : Write) : Type 0 where
-  pub place : IsKeyIn g w.key w.at
-  pub value : is_some w.value ≡ true
+  pub place : IsAnyKeyIn g w.key w.at
+  pub value : is_array g.layout.decls w.key.storage ≡ true → is_some w.value ≡ true
 
 -- ---- what was met
 

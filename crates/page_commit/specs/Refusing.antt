@@ -1,5 +1,5 @@
 -- Why a call of a transaction is refused, and what a refusal leaves.
-use Rattle.std.specs.Prelude.{◌≡◌, ◌≢◌, ◌⊎◌, ℕ, ◌+◌, ◌%◌, ◌^◌, ◌≤◌, ◌<◌, List, ◌∷◌, ◌++◌, [], Option, Some}
+use Rattle.std.specs.Prelude.{◌≡◌, ◌≢◌, ◌⊎◌, ℕ, ◌+◌, ◌/◌, ◌%◌, ◌^◌, ◌≤◌, ◌<◌, List, ◌∷◌, ◌++◌, [], Option, Some}
 use Rattle.std.specs.Prelude.{None, length, Contains, unwrap_or, Bool, cond}
 use Rattle.serial_model.specs.declared.key.Key.{Key}
 use Rattle.serial_model.specs.Numbers.{draw_limit}
@@ -74,6 +74,16 @@ pub record IsConflict (reads : List ReadEntry) (at expected seen : ℕ) (v w : V
   pub read : (n : ℕ) → read_word at reads ≡ Some n → expected ≡ n
   pub known : expected ≡ unwrap_or was seen
   pub cause : (2 ^ 60 ≤ seen) ⊎ ((expected < 2 ^ 60) × (seen ≢ expected))
+
+-- So it is at the word of a tree's record, of which nothing is kept as a part. The expected word is what the transaction
+-- had seen or left there before this step, and where the record was read, the read set's word.
+pub record IsTreeConflict (reads : List ReadEntry) (at expected seen : ℕ) (v w : View) : Type 0 where
+  pub step : ℕ
+  pub last : w.last ≡ Some (glance step at seen)
+  pub since : v.steps ≤ step
+  pub stands : Contains w.reads (record { word = at; seen = seen; was = Some expected; kept = None })
+  pub read : (n : ℕ) → read_word at reads ≡ Some n → expected ≡ n
+  pub cause : ((seen / 2 ^ 60) % 2 ≡ 1) ⊎ (seen ≢ expected)
 
 -- it is the record of this key, and the key is told
 pub record IsConflictAt (reads : List ReadEntry) (k : Key) (at expected seen : ℕ) (v w : View) : Type 0 where

@@ -19,6 +19,7 @@ use Rattle.tx_sets.specs.Entries.{has_word, writes_at}
 use Rattle.engine_pages.specs.Agreement.{TreesAgree}
 use Rattle.engine_pages.specs.declared.view.Glance.{Glance}
 use Rattle.engine_pages.specs.declared.view.Inner.{Inner}
+use Rattle.engine_pages.specs.declared.layout.Layout.{Layout}
 use Rattle.engine_pages.specs.declared.view.Known.{Known}
 use Rattle.engine_pages.specs.declared.view.Loaded.{Loaded}
 use Rattle.engine_pages.specs.declared.view.Moved.{Moved}
@@ -32,20 +33,23 @@ use Rattle.engine_pages.specs.declared.view.Touch.{Touch}
 use Rattle.engine_pages.specs.declared.view.View.{View}
 use Rattle.engine_pages.specs.declared.view.Way.{Way}
 use Rattle.engine_pages.specs.Layout.{slot_at}
+use Rattle.engine_pages.specs.Pages.{is_array}
 use Rattle.engine_pages.specs.Steps.{glance}
 use Rattle.engine_pages.specs.Views.{IsResting, seat_number}
+use Rattle.engine_pages.specs.Words.{IsSmall}
 use Rattle.page_records.specs.Attempts.{CanDecide}
 use Rattle.page_records.specs.Ends.{worker_of, IsLeafWordAt, IsTreeWordAt}
-use Rattle.page_records.specs.Locks.{took_at}
+use Rattle.page_records.specs.Locks.{took_at, IsOpenWord}
 use Rattle.engine_pages.specs.Touches.{touch}
 use Rattle.engine_pages.specs.Steps.{kept_at, seen_at}
-use Rattle.page_commit.specs.Places.{ground, pointer_at, slot_of, spot_at, IsKeyAt, IsPointerIn}
+use Rattle.page_commit.specs.Places.{ground, pointer_for, slot_of, spot_for, Ground, IsAnyKeyIn, IsKeyAt}
+use Rattle.page_commit.specs.Places.{IsPointerIn}
 use Rattle.engine_pages.specs.Pointers.{WaysAgree}
 use Rattle.page_commit.specs.Live.{read_word, reads_at, AreMet, AreParts, ArePointersMet, HasHolds, IsWriteOf}
-use Rattle.page_commit.specs.Live.{IsLive}
+use Rattle.page_commit.specs.Live.{IsLive, KeepsOnly}
 use Rattle.page_commit.specs.Committing.{changes_of, touches_of}
 use Rattle.page_commit.specs.HeaderParts.{AreHeaders, HasCheckedHeads}
-use Rattle.page_commit.specs.Refusing.{IsConflict, IsPointerConflict}
+use Rattle.page_commit.specs.Refusing.{IsConflict, IsPointerConflict, IsTreeConflict}
 
 -- ---- locks
 
@@ -54,10 +58,10 @@ abbrev pub keys_of : List Write → List Key
 keys_of writes = map (λ w. w.key) writes
 
 -- the locks at the keys of the writes, with the words that they found
-abbrev pub tooks_of : ℕ → List Write → List ℕ → List Took
-tooks_of slots [] found = []
-tooks_of slots (w ∷ writes) [] = []
-tooks_of slots (w ∷ writes) (n ∷ found) = took_at w.key (spot_at slots w.at) n ∷ tooks_of slots writes found
+abbrev pub tooks_of : Layout → List Write → List ℕ → List Took
+tooks_of l [] found = []
+tooks_of l (w ∷ writes) [] = []
+tooks_of l (w ∷ writes) (n ∷ found) = took_at w.key (spot_for l w.key w.at) n ∷ tooks_of l writes found
 
 -- some loads more, and nothing else of the pass has changed, nor what is kept of words as parts
 pub record HasGlanced (v w : View) : Type 0 where
@@ -76,9 +80,29 @@ pub record IsFree (v : View) : Type 0 where
   pub took : v.took ≡ []
   pub stage : v.seat.stage ≡ Idle
 
--- the words of these records had no lock as they were read
-abbrev pub AreSmall : List ReadEntry → Type 0
-AreSmall reads = (at n : ℕ) → read_word at reads ≡ Some n → n < 2 ^ 60
+-- the words of these records had no lock as they were read, and those of arrays no bit of absence
+abbrev pub AreSmall : List ReadEntry → Ground → Type 0
+AreSmall reads g = (k : Key) (at n : ℕ) → IsAnyKeyIn g k at → read_word at reads ≡ Some n
+    → IsOpenWord n × (is_array g.layout.decls k.storage ≡ true → n < 2 ^ 60)
+
+-- What is known of the word of a record that is to be locked: where it was read, that word, and of an array's nothing
+-- else; and nothing is kept of a tree's.
+pub record IsMetSo (reads : List ReadEntry) (k : Key) (at : ℕ) (v : View) : Type 0 where
+  pub array : is_array v.layout.decls k.storage ≡ true → seen_at v.reads at ≡ read_word at reads
+  pub read : (n : ℕ) → read_word at reads ≡ Some n → seen_at v.reads at ≡ Some n
+  pub kept : is_array v.layout.decls k.storage ≡ false → kept_at v.reads at ≡ None
+  pub small : (n : ℕ) → read_word at reads ≡ Some n
+      → IsOpenWord n × (is_array v.layout.decls k.storage ≡ true → n < 2 ^ 60)
+
+-- nothing is kept of the word of a tree's record that is to be written
+abbrev pub IsUnkept : View → Write → Type 0
+IsUnkept v w = is_array v.layout.decls w.key.storage ≡ false → kept_at v.reads w.at ≡ None
+
+-- the record of the key was in conflict, as one of its kind
+abbrev pub IsRecordConflict : List ReadEntry → Key → ℕ → ℕ → ℕ → View → View → Type 0
+IsRecordConflict reads k at expected seen v w =
+    ((is_array v.layout.decls k.storage ≡ true) × IsConflict reads at expected seen v w)
+    ⊎ ((is_array v.layout.decls k.storage ≡ false) × IsTreeConflict reads at expected seen v w)
 
 -- one lock more, with the word that it found
 pub record HasTaken (k : Key) (at word : ℕ) (v w : View) : Type 0 where
@@ -91,7 +115,7 @@ pub record HasTaken (k : Key) (at word : ℕ) (v w : View) : Type 0 where
   pub kept : (a : ℕ) → kept_at reads a ≡ kept_at v.reads a
   pub is : w ≡ record v {
     seat = record v.seat { locks = v.seat.locks ++ k ∷ [] };
-    took = v.took ++ took_at k (spot_at v.layout.slots at) word ∷ [];
+    took = v.took ++ took_at k (spot_for v.layout k at) word ∷ [];
     touched = v.touched ++ touch (seat_number v.role) k ∷ [];
     steps = steps;
     last = last;
@@ -116,7 +140,7 @@ pub record HasLocked (writes : List Write) (found : List ℕ) (v w : View) : Typ
   pub kept : (at : ℕ) → kept_at reads at ≡ kept_at v.reads at
   pub is : w ≡ record v {
     seat = record v.seat { locks = keys_of writes };
-    took = tooks_of v.layout.slots writes found;
+    took = tooks_of v.layout writes found;
     touched = v.touched ++ touches_of (seat_number v.role) (changes_of writes);
     steps = steps;
     last = last;
@@ -139,7 +163,7 @@ pub record HasLockedAll (reads : List ReadEntry) (writes : List Write) (found : 
 pub record HasLocks (writes : List Write) (found : List ℕ) (v : View) : Type 0 where
   pub count : length found ≡ length writes
   pub locks : v.seat.locks ≡ keys_of writes
-  pub took : v.took ≡ tooks_of v.layout.slots writes found
+  pub took : v.took ≡ tooks_of v.layout writes found
   pub idle : can_begin v.seat.stage ≡ true
   pub none : length writes ≡ 0 → v.seat.stage ≡ Idle
 
@@ -305,19 +329,20 @@ pub record HasTried (sets : Sets) (v : View) : Type 0 where
   pub places : AllByRecursion (IsWriteOf (ground v)) sets.writes
   pub found : List ℕ
   pub count : length found ≡ length sets.writes
-  pub took : v.took ≡ tooks_of v.layout.slots sets.writes found
+  pub took : v.took ≡ tooks_of v.layout sets.writes found
   pub read : AreAsRead sets.reads sets.writes found
   pub met : AreMet sets.reads sets.writes v
   pub points : ArePointersMet sets.pointers v
   pub heads : AreHeaders sets.headers v
+  pub only : KeepsOnly sets v
 
 -- the words of these records
-abbrev pub entry_words : ℕ → List ReadEntry → List Word
-entry_words slots reads = map (λ e. Record (spot_at slots e.at)) reads
+abbrev pub entry_words : Layout → List ReadEntry → List Word
+entry_words l reads = map (λ e. Record (spot_for l e.key e.at)) reads
 
 -- the words of these pointers
-abbrev pub pointer_words : ℕ → List Seen → List Word
-pointer_words slots pointers = map (λ p. Pointer (pointer_at slots p.at)) pointers
+abbrev pub pointer_words : Ground → List Seen → List Word
+pointer_words g pointers = map (λ p. Pointer (pointer_for g p.at)) pointers
 
 -- So many of the first records that were read are checked, and of the first pointers that were met; nothing else of the
 -- pass has changed but by loads, and what is known of other words, and kept of all, is as it was.
@@ -331,7 +356,7 @@ pub record HasCheckedSome (sets : Sets) (n m : ℕ) (v w : View) : Type 0 where
       → seen_at reads at ≡ seen_at v.reads at
   pub kept : (at : ℕ) → kept_at reads at ≡ kept_at v.reads at
   pub is : w ≡ record v {
-    checked = entry_words v.layout.slots (take n sets.reads) ++ pointer_words v.layout.slots (take m sets.pointers);
+    checked = entry_words v.layout (take n sets.reads) ++ pointer_words (ground v) (take m sets.pointers);
     steps = steps;
     last = last;
     loaded = loaded;
@@ -379,8 +404,11 @@ CheckConflict sets at expected seen v w =
     × MetRecord e.key at expected seen w)
     ⊎ (((has_word at sets.pointers ≡ true) × IsPointerConflict sets.pointers at expected seen v w
     × MetPointer at expected seen w)
-    ⊎ ((has_word at sets.headers ≡ true) × IsPointerConflict sets.headers at expected seen v w
-    × MetTree (slot_of v.layout.slots at) 0 at expected seen w))
+    ⊎ (((has_word at sets.headers ≡ true) × IsPointerConflict sets.headers at expected seen v w
+    × MetTree (slot_of v.layout.slots at) 0 at expected seen w)
+    ⊎ ((e : ReadEntry) × Contains sets.reads e × (e.at ≡ at) × IsTreeConflict sets.reads at expected seen v w
+    × (t : ℕ) × (i : ℕ) × MetTree t i at expected seen w
+    × (is_array v.layout.decls e.key.storage ≡ false))))
 
 -- ---- after the decision
 
@@ -391,11 +419,17 @@ pub record HasDecided (writes : List Write) (found : List ℕ) (number : ℕ) (v
   pub at : slice_get v.history index ≡ Some attempt
   pub writes_are : attempt.writes ≡ changes_of writes
   pub word : number ≡ number_word attempt.number
+  pub small : IsSmall attempt.number
   pub locks : v.seat.locks ≡ keys_of writes
-  pub took : v.took ≡ tooks_of v.layout.slots writes found
+  pub took : v.took ≡ tooks_of v.layout writes found
   pub count : length found ≡ length writes
   pub begun : 0 < length writes → v.seat.stage ≡ Decided index
   pub over : length writes ≡ 0 → (v.seat.kept ≡ []) × (v.seat.stage ≡ Idle)
+
+-- the bit of absence in the word of a record that gets this value
+abbrev pub absent_bit : Option ℕ → ℕ
+absent_bit None = 2 ^ 61
+absent_bit (Some n) = 0
 
 -- all is over, and nothing else of the pass has changed but by stores
 pub record HasPublished (v w : View) : Type 0 where

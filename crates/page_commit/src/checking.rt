@@ -11,10 +11,11 @@ ghost use Rattle.page_commit.specs.Live.{entry_places};
 ghost use Rattle.page_commit.specs.Steps.{HasTried, HasChecked, HasCheckedSome, HasFailed, CheckConflict};
 
 use crate::locking::Conflict;
-use crate::places::{place_of, slot_of, spot_of};
+use crate::places::slot_of;
 use engine_pages::{Engine, Pass};
-use page_records::{LOCK, check};
+use page_records::{LOCK, check_as};
 use pointer_checks::check_pointer;
+use std::marker::Brand;
 use tree_heads::check_header;
 use tx_sets::{ReadEntry, Seen, Sets};
 
@@ -97,8 +98,7 @@ fn check_records(
     while done < reads.len() {
         let entry = reads[done];
         let own = sets.writes.contains_record(entry.at);
-        let spot = spot_of(engine, entry.at);
-        let seen = check(engine, pass, entry.key, spot, entry.at, entry.word, own);
+        let seen = check_as::<Brand, ()>(engine, pass, entry.key, (), entry.at, entry.word, own);
         if !is_as_read(entry.word, own, seen) {
             return Err(Conflict {
                 word: entry.at,
@@ -113,7 +113,7 @@ fn check_records(
 
 // Whether a record's word is the one that was read, maybe with an own lock.
 fn is_as_read(word: u64, own: bool, seen: u64) -> bool
-    requires { word < 2 ^ 60 }
+    requires { word < 2 ^ 62 }
     ensures { result ≡ is_as_seen word own seen }
 {
     if seen == word {
@@ -151,8 +151,7 @@ fn check_pointers(
     let mut done = 0;
     while done < pointers.len() {
         let pointer = pointers[done];
-        let place = place_of(engine, pointer.at);
-        let seen = check_pointer(engine, pass, place, pointer.at, pointer.word);
+        let seen = check_pointer::<Brand>(engine, pass, pointer.at, pointer.word);
         if seen != pointer.word {
             return Err(Conflict {
                 word: pointer.at,

@@ -37,6 +37,8 @@ mod refusing;
 mod txn;
 mod writing;
 
+pub use places::is_array;
+pub use refusing::refuse;
 pub use txn::Txn;
 pub use writing::By;
 

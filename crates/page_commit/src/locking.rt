@@ -1,6 +1,6 @@
 // The locks of a commit.
-ghost use Rattle.std.specs.Prelude.{◌≡◌, ◌+◌, ◌*◌, ◌≤◌, ◌<◌, false, true, [], ◌∷◌, ◌++◌, Contains, IfOk, IfErr, OnOk};
-ghost use Rattle.std.specs.Prelude.{OnErr, length, take, unwrap_or};
+ghost use Rattle.std.specs.Prelude.{◌≡◌, ℕ, ◌+◌, ◌*◌, ◌/◌, ◌%◌, ◌^◌, ◌≤◌, ◌<◌, ◌==◌, ◌||◌, false, true, [], ◌∷◌, ◌++◌};
+ghost use Rattle.std.specs.Prelude.{Contains, IfOk, IfErr, OnErr, OnOk, is_some, length, take, unwrap_or};
 ghost use Rattle.std.specs.List.{AllByRecursion};
 ghost use Rattle.lists.specs.Each.{AreDistinct};
 ghost use Rattle.commit_core.specs.CoreState.{can_begin};
@@ -10,18 +10,19 @@ ghost use Rattle.engine_pages.specs.declared.view.Role.TheVariants.{Worker};
 ghost use Rattle.engine_pages.specs.Passes.{view, IsPassOf};
 ghost use Rattle.engine_pages.specs.Views.{IsActive};
 ghost use Rattle.page_records.specs.Ends.{worker_of};
-ghost use Rattle.engine_pages.specs.Steps.{seen_at};
+ghost use Rattle.engine_pages.specs.declared.view.View.{View as TheView};
+ghost use Rattle.engine_pages.specs.Pages.{is_array as is_of_array};
+ghost use Rattle.page_records.specs.Reads.{LoadedWord};
 ghost use Rattle.page_commit.specs.Live.{read_word, AreMet, IsWriteOf};
-ghost use Rattle.page_commit.specs.Places.{ground, IsKeyAt};
-ghost use Rattle.page_commit.specs.Refusing.{IsConflict};
+ghost use Rattle.page_commit.specs.Places.{ground, IsAnyKeyAt};
 ghost use Rattle.page_commit.specs.Steps.{AreSmall, IsFree, HasGlanced, HasTaken, HasLocked, HasLockedAll};
-ghost use Rattle.page_commit.specs.Steps.{HasLocks, HasUnlocked};
+ghost use Rattle.page_commit.specs.Steps.{HasLocks, HasUnlocked, IsMetSo, IsRecordConflict, IsUnkept};
 
-use crate::places::{spot_of, word_read};
+use crate::places::{is_array, word_read};
 use engine_pages::{Engine, Pass};
-use page_records::{LOCK, confirm, lock, open_again};
+use page_records::{LOCK, load_word_as, lock_as, open_again_as};
 use serial_model::Key;
-use std::marker::Model;
+use std::marker::{Brand, Model};
 use tx_sets::{ReadEntry, Write};
 
 /// A word that was in the way: locked or shut, or not the one that was expected.
@@ -100,7 +101,8 @@ pub(crate) fn lock_all(
     requires ascending { IsAscending writes.now }
     requires apart { AreDistinct (record_places_of writes.now) }
     requires few { length writes.now ≤ 16 }
-    requires small { AreSmall reads.now }
+    requires small { AreSmall reads.now (ground (view pass.old)) }
+    requires unkept { AllByRecursion (IsUnkept (view pass.old)) writes.now }
     requires fresh { found.old ≡ [] }
     requires met { AreMet reads.now [] (view pass.old) }
     ensures of { IsPassOf engine.now pass.new }
@@ -112,7 +114,7 @@ pub(crate) fn lock_all(
         (HasLocked (take (length found.new) writes.now) found.new (view pass.old) (view pass.new)) }
     ensures clear { IfErr result (λ e. writes_at e.word (take (length found.new) writes.now) ≡ false) }
     ensures conflict { IfErr result (λ e. (w : TheWrite) × Contains writes.now w × (w.at ≡ e.word)
-        × IsConflict reads.now e.word e.expected e.seen (view pass.old) (view pass.new)) }
+        × IsRecordConflict reads.now w.key e.word e.expected e.seen (view pass.old) (view pass.new)) }
 {
     let mut done = 0;
     while done < writes.len() {
@@ -135,9 +137,8 @@ fn take(
     requires of { IsPassOf engine.now pass.old }
     requires worker { (view pass.old).role ≡ Worker (worker_of (view pass.old).role) }
     requires idle { can_begin (view pass.old).seat.stage ≡ true }
-    requires place { IsKeyAt (view pass.old) key at }
-    requires small { AreSmall reads.now }
-    requires met { seen_at (view pass.old).reads at ≡ read_word at reads.now }
+    requires place { IsAnyKeyAt (view pass.old) key at }
+    requires met { IsMetSo reads.now key at (view pass.old) }
     ensures of { IsPassOf engine.now pass.new }
     ensures takes { IfOk result (λ word. HasTaken key at word (view pass.old) (view pass.new)) }
     ensures known { IfOk result (λ word. word ≡ unwrap_or (read_word at reads.now) word) }
@@ -146,18 +147,13 @@ fn take(
     ensures glanced { OnErr result (HasGlanced (view pass.old) (view pass.new)) }
     ensures place { IfErr result (λ e. e.word ≡ at) }
     ensures conflict { IfErr result (λ e.
-        IsConflict reads.now e.word e.expected e.seen (view pass.old) (view pass.new)) }
+        IsRecordConflict reads.now key e.word e.expected e.seen (view pass.old) (view pass.new)) }
 {
-    let spot = spot_of(engine, at);
-    let word = confirm(engine, pass, key, spot, at);
-    let expected = known(reads, at, word);
-    if word >= LOCK {
-        return Err(Conflict {
-            word: at,
-            expected,
-            seen: word,
-        });
+    let word = load_word_as::<Brand, ()>(engine, pass, key, (), at);
+    if is_locked(word) {
+        return Err(tell_locked(engine, pass, reads, key, at, word));
     }
+    let expected = known(reads, at, word);
     if word != expected {
         return Err(Conflict {
             word: at,
@@ -165,7 +161,7 @@ fn take(
             seen: word,
         });
     }
-    let seen = lock(engine, pass, key, spot, at, expected);
+    let seen = lock_as::<Brand, ()>(engine, pass, key, (), at, expected);
     if seen != expected {
         return Err(Conflict {
             word: at,
@@ -174,6 +170,62 @@ fn take(
         });
     }
     Ok(seen)
+}
+
+// The conflict at a record whose word was just found locked. Of a tree's that wasn't read it is loaded once more: what is
+// expected there is the word before, which isn't known else.
+fn tell_locked(
+    engine: &Engine,
+    pass: &mut Pass,
+    reads: &[ReadEntry],
+    key: Key,
+    at: u32,
+    word: u64,
+) -> Conflict
+    requires of { IsPassOf engine.now pass.old }
+    requires pass { IsActive (view pass.old).role }
+    requires place { IsAnyKeyAt (view pass.old) key at }
+    requires locked { (word / 2 ^ 60) % 2 ≡ 1 }
+    ensures of { IsPassOf engine.now pass.new }
+    ensures place { result.word ≡ at }
+    ensures conflict { (v : TheView) → (t : ℕ) → IsMetSo reads.now key at v → LoadedWord t at v word (view pass.old)
+        → IsRecordConflict reads.now key result.word result.expected result.seen v (view pass.new) }
+    ensures glanced { HasGlanced (view pass.old) (view pass.new) }
+    ensures most { (view pass.new).steps ≤ (view pass.old).steps + 1 }
+{
+    let expected = known(reads, at, word);
+    if tells_once(engine, reads, key, at) {
+        return Conflict {
+            word: at,
+            expected,
+            seen: word,
+        };
+    }
+    let seen = load_word_as::<Brand, ()>(engine, pass, key, (), at);
+    Conflict {
+        word: at,
+        expected,
+        seen,
+    }
+}
+
+// Whether what is expected at the key's record, whose word stands here, is known behind one load: it was read, or it is an
+// array's.
+fn tells_once(engine: &Engine, reads: &[ReadEntry], key: Key, at: u32) -> bool
+    ensures { result ≡ (is_some (read_word at reads.now)
+        || is_of_array engine.now.table.shared.key.decls key.storage) }
+{
+    if word_read(reads, at).is_some() {
+        return true;
+    }
+    is_array(engine, key.storage)
+}
+
+// Whether a record's word is locked.
+fn is_locked(word: u64) -> bool
+    ensures { result ≡ ((word / 2 ^ 60) % 2 == 1) }
+{
+    word / LOCK % 2 == 1
 }
 
 // The word of the record as it was read whose word stands here, else this one.
@@ -197,8 +249,7 @@ pub(crate) fn unlock_all(engine: &Engine, pass: &mut Pass, writes: &[Write], fou
     let mut done = 0;
     while done < writes.len() {
         let write = writes[done];
-        let spot = spot_of(engine, write.at);
-        open_again(engine, pass, write.key, spot, write.at, found[done]);
+        open_again_as::<Brand, ()>(engine, pass, write.key, (), write.at, found[done]);
         done += 1;
     }
 }

@@ -1,10 +1,12 @@
-// Where the words of records and pointers stand.
+// Where the words of records stand, and in which slots.
 ghost use Rattle.std.specs.Prelude.{◌≡◌, ◌-◌, ◌+◌};
 ghost use Rattle.page_commit.specs.Live.{read_word};
-ghost use Rattle.page_commit.specs.Places.{pointer_at, slot_of as slot_at, spot_at};
+ghost use Rattle.engine_pages.specs.Pages.{decl_of, is_array as is_of_array};
+ghost use Rattle.page_commit.specs.Places.{slot_of as slot_at, spot_at};
 
 use engine_pages::Engine;
-use homes::{At, Spot};
+use homes::Spot;
+use serial_model::{Decl, id_of};
 use tx_sets::ReadEntry;
 
 /// The place of the record whose word stands here.
@@ -18,18 +20,22 @@ pub(crate) fn spot_of(engine: &Engine, at: u32) -> Spot
     }
 }
 
-/// The place of the pointer whose word stands here.
-pub(crate) fn place_of(engine: &Engine, at: u32) -> At
-    ensures { result ≡ pointer_at engine.now.table.shared.key.slots at }
+/// Whether the storage is an array.
+pub fn is_array(engine: &Engine, storage: u8) -> bool
+    ensures { result ≡ is_of_array engine.now.table.shared.key.decls storage }
 {
-    if at < 32 {
-        return At::Root(at.saturating_sub(10) as usize);
-    }
-    let offset = offset_of(engine.slots(), at);
-    At::In(Spot {
-        slot: offset / 64,
-        index: (offset % 64) as usize,
-    })
+    matches!(decl_for(engine, storage), Some(Decl::Array { .. }))
+}
+
+// The storage with this id, as it was declared.
+fn decl_for(engine: &Engine, storage: u8) -> Option<Decl>
+    ensures { result ≡ decl_of engine.now.table.shared.key.decls storage }
+{
+    engine
+        .decls()
+        .iter()
+        .copied()
+        .find(|decl| id_of(decl) == storage)
 }
 
 /// The slot in whose page the word with this place stands.

@@ -19,7 +19,7 @@ use crate::refusing::refuse;
 use array_pages::{Found, find, read_at};
 use engine_pages::{Engine, Pass, RefusalCause, SetName};
 use serial_model::Key;
-use tx_sets::{PointerSet, ReadEntry, ReadSet, Seen, Sets};
+use tx_sets::{PointerSet, ReadEntry, Seen, Sets};
 
 /// The value at a key: what the transaction wrote last, else what it first read.
 #[inline(always)]
@@ -134,7 +134,7 @@ fn read_held(
     let spot = spot_of(engine, at);
     match read_at(engine, pass, key, spot, at) {
         Ok(found) => {
-            if is_wide(&sets.reads, found) {
+            if is_wide(sets, found) {
                 let why = RefusalCause::Wide {
                     set: SetName::Reads,
                 };
@@ -170,7 +170,7 @@ fn read_anew(
 {
     match find(engine, pass, key, &mut sets.holds, &sets.pointers) {
         Ok(found) => {
-            if is_wide(&sets.reads, found) {
+            if is_wide(sets, found) {
                 let why = RefusalCause::Wide {
                     set: SetName::Reads,
                 };
@@ -184,13 +184,12 @@ fn read_anew(
 
 // What was found needs an entry, and there is no room for one.
 #[inline(always)]
-fn is_wide(reads: &ReadSet, found: Found) -> bool
-    ensures value { result ≡ lacks_entry reads.now found }
-    ensures bound { length reads.now ≤ 256 }
+fn is_wide(sets: &Sets, found: Found) -> bool
+    ensures { result ≡ lacks_entry sets.now found }
 {
-    let full = reads.is_full();
+    let room = sets.has_read_room();
     match found {
-        Found::Volatile { .. } => full,
+        Found::Volatile { .. } => !room,
         Found::Snapshot { .. } | Found::Zero { .. } => false,
     }
 }
@@ -198,7 +197,7 @@ fn is_wide(reads: &ReadSet, found: Found) -> bool
 // Keeps what was found of a key: its record, or the pointer at which the pages in memory end. Answers its value.
 #[inline(always)]
 fn keep(sets: &mut Sets, key: Key, found: Found) -> u64
-    requires room { HasRoomFor sets.old.reads found }
+    requires room { HasRoomFor sets.old found }
     requires unread { has_read key sets.old.reads ≡ false }
     requires met { MeetsFound sets.old.pointers found }
     ensures keeps { KeepsFound key found result sets.old sets.new }

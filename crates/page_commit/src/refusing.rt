@@ -14,12 +14,7 @@ use tx_sets::Holds;
 
 /// Drops what was read, and leaves what is held: the transaction was refused for this.
 #[inline(never)]
-pub(crate) fn refuse(
-    engine: &Engine,
-    pass: &mut Pass,
-    holds: &Holds,
-    why: RefusalCause,
-) -> RefusalCause
+pub fn refuse(engine: &Engine, pass: &mut Pass, holds: &Holds, why: RefusalCause) -> RefusalCause
     requires of { IsPassOf engine.now pass.old }
     requires can { CanRefuse holds.now (view pass.old) }
     requires due { IsDue (Some why) (view pass.old) }

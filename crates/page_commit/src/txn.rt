@@ -28,7 +28,8 @@ use tx_sets::Sets;
 /// and writes lies in it.
 #[derive(Drop)]
 pub struct Txn {
-    pub(crate) sets: Sets,
+    /// What the transaction under way has read, met, written and entered: for operations of crates above.
+    pub sets: Sets,
     pub(crate) found: LockWords,
 }
 

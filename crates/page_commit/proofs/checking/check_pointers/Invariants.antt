@@ -4,6 +4,7 @@ use Rattle.tx_sets.specs.declared.sets.Sets.{Sets}
 use Rattle.engine_pages.specs.declared.engine.Engine.{Engine}
 use Rattle.engine_pages.specs.declared.view.View.{View}
 use Rattle.engine_pages.specs.Passes.{Pass, view, IsPassOf}
+use Rattle.page_commit.specs.Places.{ground, pointer_for}
 use Rattle.page_commit.specs.Steps.{HasCheckedSome, HasTried}
 use Rattle.page_commit.proofs.checking.check_pointers.Given as goal
 
@@ -21,3 +22,7 @@ invariant-loop-done l = IsCheckingPointers l.engine l.fn.pass l.pass l.sets l.po
 
 abbrev pub decreases-loop-done : goal.decreases-loop-done
 decreases-loop-done l = length l.pointers - l.done
+
+-- The place of the pointer, as the pass knows it.
+abbrev pub ghosts-check_pointer : goal.ghosts-check_pointer
+ghosts-check_pointer a = record { at = pointer_for (ground (view a.pass.now)) a.at; word = a.word }

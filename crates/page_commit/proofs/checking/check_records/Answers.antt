@@ -1,10 +1,9 @@
 use Rattle.std.proofs.Common.{length, arith}
 use Rattle.engine_pages.specs.Passes.{view}
-use Rattle.page_commit.proofs.StepLaws.{counts_same, more_checked, stops_checked}
-use Rattle.page_commit.proofs.CheckLaws.{starts_checking, check_active, place_now, can_check_one, own_now, word_small}
-use Rattle.page_commit.proofs.CheckLaws.{checked_one, failed_one, check_conflict, check_apart, entry_in, records_checked}
-use Rattle.page_commit.proofs.CheckLaws.{at_own, at_checked, at_held, at_part}
-use Rattle.page_commit.proofs.PlaceLaws.{spot_any}
+use Rattle.page_commit.proofs.StepLaws.{counts_same}
+use Rattle.page_commit.proofs.CheckLaws.{starts_checking, check_active, can_check_one, word_small}
+use Rattle.page_commit.proofs.CheckLaws.{checked_one, check_conflict, entry_in, records_checked}
+use Rattle.page_commit.proofs.CheckLaws.{apart_here, entry_here, failed_here, more_here, own_here, stops_here}
 use Rattle.page_commit.proofs.checking.check_records.Goals as goal
 
 pub loop-done-init : goal.loop-done-init
@@ -15,31 +14,26 @@ loop-done-init c = record {
   so = starts_checking c.args.sets.now (view c.args.pass.now) c.requires.tried;
 }
 
-pub check-seen-requires-clause-pass : goal.check-seen-requires-clause-pass
-check-seen-requires-clause-pass c =
+pub check_as-seen-requires-clause-pass : goal.check_as-seen-requires-clause-pass
+check_as-seen-requires-clause-pass c =
     check_active c.args.sets.now c.loop-done.done 0 (view c.args.pass.now) (view c.loop-done.pass) c.requires.pass
     c.loop-done.invariant.so
 
-pub check-seen-requires-clause-place : goal.check-seen-requires-clause-place
-check-seen-requires-clause-place c =
-    spot_any c.args.engine.now c.loop-done.pass _ _ c.spot_of-spot.result c.loop-done.invariant.of c.spot_of-spot.ensures
-    (place_now c.args.sets.now c.loop-done.done 0 _ (view c.args.pass.now) (view c.loop-done.pass) c.requires.tried
-    c.loop-done.invariant.so (entry_in c.args.reads.now c.args.sets.now c.loop-done.done _ c.requires.reads
-    c.loop-done-test.true))
+pub check_as-seen-requires-clause-place : goal.check_as-seen-requires-clause-place
+check_as-seen-requires-clause-place c =
+    entry_here c.args.reads.now c.args.sets.now c.loop-done.done _ (view c.args.pass.now) (view c.loop-done.pass)
+    c.requires.tried c.requires.reads c.loop-done.invariant.so c.loop-done-test.true
 
-pub check-seen-requires-clause-part : goal.check-seen-requires-clause-part
-check-seen-requires-clause-part c =
-    at_part c.args.engine.now c.loop-done.pass _ _ _ c.spot_of-spot.result c.loop-done.invariant.of c.spot_of-spot.ensures
-    (can_check_one c.args.reads.now c.args.sets.now c.loop-done.done _ (view c.args.pass.now) (view c.loop-done.pass)
-    c.requires.tried c.requires.once c.requires.reads c.loop-done.invariant.so c.loop-done-test.true)
+pub check_as-seen-requires-clause-part : goal.check_as-seen-requires-clause-part
+check_as-seen-requires-clause-part c =
+    can_check_one c.args.reads.now c.args.sets.now c.loop-done.done _ (view c.args.pass.now) (view c.loop-done.pass)
+    c.requires.tried c.requires.once c.requires.reads c.loop-done.invariant.so c.loop-done-test.true
 
-pub check-seen-requires-clause-own : goal.check-seen-requires-clause-own
-check-seen-requires-clause-own c =
-    at_own c.args.engine.now c.loop-done.pass _ _ _ c.spot_of-spot.result c.loop-done.invariant.of c.spot_of-spot.ensures
-    (own_now c.args.sets.now c.loop-done.done 0 _ c.contains_record-own.result (view c.args.pass.now)
-    (view c.loop-done.pass) c.requires.tried c.loop-done.invariant.so
-    (entry_in c.args.reads.now c.args.sets.now c.loop-done.done _ c.requires.reads c.loop-done-test.true)
-    c.contains_record-own.ensures)
+pub check_as-seen-requires-clause-own : goal.check_as-seen-requires-clause-own
+check_as-seen-requires-clause-own c =
+    own_here c.args.reads.now c.args.sets.now c.loop-done.done _ c.contains_record-own.result (view c.args.pass.now)
+    (view c.loop-done.pass) c.requires.tried c.requires.reads c.loop-done.invariant.so c.loop-done-test.true
+    c.contains_record-own.ensures
 
 pub is_as_read-requires : goal.is_as_read-requires
 is_as_read-requires c =
@@ -48,44 +42,36 @@ is_as_read-requires c =
 
 pub returns-then-not-is_as_read-clause-failed : goal.returns-then-not-is_as_read-clause-failed
 returns-then-not-is_as_read-clause-failed c =
-    failed_one c.args.sets.now c.loop-done.done 0 _ _ c.contains_record-own.result c.is_as_read.result c.check-seen.result
-    (view c.args.pass.now) (view c.loop-done.pass) (view c.check-seen.new.pass) c.loop-done.invariant.so
-    c.is_as_read.ensures c.if-not-is_as_read.true
-    (at_checked c.args.engine.now c.loop-done.pass _ _ _ c.check-seen.result (view c.check-seen.new.pass)
-    c.spot_of-spot.result c.loop-done.invariant.of c.spot_of-spot.ensures c.check-seen.ensures.checks)
+    failed_here c.args.reads.now c.args.sets.now c.loop-done.done _ c.contains_record-own.result c.is_as_read.result
+    c.check_as-seen.result (view c.args.pass.now) (view c.loop-done.pass) (view c.check_as-seen.new.pass)
+    c.loop-done.invariant.so c.is_as_read.ensures c.if-not-is_as_read.true c.check_as-seen.ensures.checks
 
 pub returns-then-not-is_as_read-clause-apart : goal.returns-then-not-is_as_read-clause-apart
 returns-then-not-is_as_read-clause-apart c =
-    check_apart c.args.sets.now c.loop-done.done 0 _ c.contains_record-own.result c.is_as_read.result c.check-seen.result
-    (view c.args.pass.now) (view c.loop-done.pass) c.requires.tried c.requires.once c.loop-done.invariant.so
-    (entry_in c.args.reads.now c.args.sets.now c.loop-done.done _ c.requires.reads c.loop-done-test.true)
-    c.contains_record-own.ensures c.is_as_read.ensures c.if-not-is_as_read.true
-    (at_held c.args.engine.now c.loop-done.pass _ _ c.check-seen.result c.spot_of-spot.result c.loop-done.invariant.of
-    c.spot_of-spot.ensures c.check-seen.ensures.held)
+    apart_here c.args.reads.now c.args.sets.now c.loop-done.done _ c.contains_record-own.result c.is_as_read.result
+    c.check_as-seen.result (view c.args.pass.now) (view c.loop-done.pass) c.requires.tried c.requires.once
+    c.requires.reads c.loop-done.invariant.so c.loop-done-test.true c.contains_record-own.ensures c.is_as_read.ensures
+    c.if-not-is_as_read.true c.check_as-seen.ensures.held
 
 pub returns-then-not-is_as_read-clause-conflict : goal.returns-then-not-is_as_read-clause-conflict
 returns-then-not-is_as_read-clause-conflict c =
     check_conflict c.args.reads.now c.args.sets.now c.loop-done.done _ c.contains_record-own.result c.is_as_read.result
-    c.check-seen.result (view c.args.pass.now) (view c.loop-done.pass) (view c.check-seen.new.pass) c.requires.tried
-    c.requires.once c.requires.reads c.loop-done.invariant.so c.loop-done-test.true c.contains_record-own.ensures
-    c.is_as_read.ensures c.if-not-is_as_read.true
-    (at_checked c.args.engine.now c.loop-done.pass _ _ _ c.check-seen.result (view c.check-seen.new.pass)
-    c.spot_of-spot.result c.loop-done.invariant.of c.spot_of-spot.ensures c.check-seen.ensures.checks)
-    (at_held c.args.engine.now c.loop-done.pass _ _ c.check-seen.result c.spot_of-spot.result c.loop-done.invariant.of
-    c.spot_of-spot.ensures c.check-seen.ensures.held)
+    c.check_as-seen.result (view c.args.pass.now) (view c.loop-done.pass) (view c.check_as-seen.new.pass)
+    c.requires.tried c.requires.once c.requires.reads c.loop-done.invariant.so c.loop-done-test.true
+    c.contains_record-own.ensures c.is_as_read.ensures c.if-not-is_as_read.true c.check_as-seen.ensures.checks
+    c.check_as-seen.ensures.held
 
 pub loop-done-preserved : goal.loop-done-preserved
 loop-done-preserved c = record {
-  of = c.check-seen.ensures.of;
+  of = c.check_as-seen.ensures.of;
   count = omega arith;
-  steps = more_checked (view c.args.pass.now) (view c.loop-done.pass) (view c.check-seen.new.pass) c.spot_of-spot.result _ _
-      c.loop-done.done c.check-seen.result c.contains_record-own.result c.loop-done.invariant.steps
-      c.check-seen.ensures.checks;
+  steps = more_here c.args.reads.now c.loop-done.done _ c.contains_record-own.result c.check_as-seen.result
+      (view c.args.pass.now) (view c.loop-done.pass) (view c.check_as-seen.new.pass) c.loop-done.invariant.steps
+      c.check_as-seen.ensures.checks;
   so = checked_one c.args.reads.now c.args.sets.now c.loop-done.done _ c.contains_record-own.result c.is_as_read.result
-      c.check-seen.result (view c.args.pass.now) (view c.loop-done.pass) (view c.check-seen.new.pass) c.requires.reads
-      c.loop-done.invariant.so c.loop-done-test.true c.is_as_read.ensures c.if-not-is_as_read.false
-      (at_checked c.args.engine.now c.loop-done.pass _ _ _ c.check-seen.result (view c.check-seen.new.pass)
-      c.spot_of-spot.result c.loop-done.invariant.of c.spot_of-spot.ensures c.check-seen.ensures.checks);
+      c.check_as-seen.result (view c.args.pass.now) (view c.loop-done.pass) (view c.check_as-seen.new.pass)
+      c.requires.reads c.loop-done.invariant.so c.loop-done-test.true c.is_as_read.ensures c.if-not-is_as_read.false
+      c.check_as-seen.ensures.checks;
 }
 
 pub returns-clause-checked : goal.returns-clause-checked
@@ -96,9 +82,9 @@ returns-clause-checked c =
 pub returns-then-not-is_as_read-clause-most : goal.returns-then-not-is_as_read-clause-most
 returns-then-not-is_as_read-clause-most c =
     let count = counts_same c.args.reads.now c.args.sets.now.reads c.requires.reads in
-    let most = stops_checked (view c.args.pass.now) (view c.loop-done.pass) (view c.check-seen.new.pass)
-    c.spot_of-spot.result _ _ c.loop-done.done (length c.args.reads.now) c.check-seen.result c.contains_record-own.result
-    c.loop-done.invariant.steps c.loop-done-test.true c.check-seen.ensures.checks in omega (arith, count, most)
+    let most = stops_here c.args.reads.now c.loop-done.done _ c.contains_record-own.result c.check_as-seen.result
+    (view c.args.pass.now) (view c.loop-done.pass) (view c.check_as-seen.new.pass) c.loop-done.invariant.steps
+    c.loop-done-test.true c.check_as-seen.ensures.checks in omega (arith, count, most)
 
 pub returns-clause-steps : goal.returns-clause-steps
 returns-clause-steps c =

@@ -3,6 +3,7 @@ use Rattle.tx_sets.specs.declared.reads.ReadEntry.{ReadEntry}
 use Rattle.tx_sets.specs.declared.sets.Sets.{Sets}
 use Rattle.engine_pages.specs.declared.engine.Engine.{Engine}
 use Rattle.engine_pages.specs.Passes.{Pass, view, IsPassOf}
+use Rattle.page_commit.specs.Places.{spot_for}
 use Rattle.page_commit.specs.Steps.{HasCheckedSome}
 use Rattle.page_commit.proofs.checking.check_records.Given as goal
 
@@ -19,3 +20,12 @@ invariant-loop-done l = IsCheckingRecords l.engine l.fn.pass l.pass l.sets l.rea
 
 abbrev pub decreases-loop-done : goal.decreases-loop-done
 decreases-loop-done l = length l.reads - l.done
+
+-- The place of the record, by its word and the kind of its storage.
+abbrev pub ghosts-check_as : goal.ghosts-check_as
+ghosts-check_as a = record {
+  key = a.key;
+  spot = spot_for (view a.pass.now).layout a.key a.at;
+  word = a.word;
+  own = a.own;
+}

@@ -5,7 +5,7 @@ use Rattle.page_commit.specs.Committing.{checks_of}
 use Rattle.page_commit.proofs.CommitLaws.{locked_gone, locked_holds, stopped_met, each_slice, small_slice, met_slice}
 use Rattle.page_commit.proofs.CommitLaws.{apart_slice, conflict_slice, locked_slice, sets_places, sets_ascending}
 use Rattle.page_commit.proofs.CommitLaws.{sets_few, can_commit, stopped_worker, stopped_places, stopped_locks}
-use Rattle.page_commit.proofs.CommitLaws.{stopped_cause}
+use Rattle.page_commit.proofs.CommitLaws.{stopped_cause, unkept_slice}
 use Rattle.page_commit.proofs.DrawLaws.{is_free}
 use Rattle.page_commit.proofs.GiveUpLaws.{locked_refused}
 use Rattle.page_commit.proofs.CommitResults.{commits_for, caused_for, refused_for_all, steps_for, most_for}
@@ -29,6 +29,10 @@ lock_all-requires-clause-few c = sets_few c.args.sets.now c.args.writes.now c.re
 pub lock_all-requires-clause-small : goal.lock_all-requires-clause-small
 lock_all-requires-clause-small c =
     small_slice c.args.sets.now c.args.reads.now (view c.args.pass.now) c.requires.live c.requires.reads
+
+pub lock_all-requires-clause-unkept : goal.lock_all-requires-clause-unkept
+lock_all-requires-clause-unkept c =
+    unkept_slice c.args.sets.now c.args.writes.now (view c.args.pass.now) c.requires.live c.requires.writes
 
 pub lock_all-requires-clause-apart : goal.lock_all-requires-clause-apart
 lock_all-requires-clause-apart c = apart_slice c.args.sets.now c.args.writes.now c.requires.writes c.requires.apart

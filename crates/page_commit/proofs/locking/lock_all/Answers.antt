@@ -36,8 +36,9 @@ take-requires-clause-place c =
 
 pub take-requires-clause-met : goal.take-requires-clause-met
 take-requires-clause-met c =
-    met_at c.args.reads.now c.args.writes.now c.loop-done.done _ (view c.args.pass.now) (view c.loop-done.pass)
-    c.requires.places c.requires.apart c.requires.met c.loop-done.invariant.aside c.loop-done-test.true
+    met_at c.args.reads.now c.args.writes.now c.loop-done.found c.loop-done.done _ (view c.args.pass.now)
+    (view c.loop-done.pass) c.requires.places c.requires.apart c.requires.met c.requires.small c.requires.unkept
+    c.loop-done.invariant.locked c.loop-done.invariant.aside c.loop-done-test.true
 
 pub loop-done-preserved : goal.loop-done-preserved
 loop-done-preserved c = record {

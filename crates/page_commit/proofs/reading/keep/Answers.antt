@@ -1,6 +1,6 @@
 use Rattle.std.proofs.Common.{refl, subst}
 use Rattle.page_commit.specs.Keeping.{HasRoomFor, MeetsFound}
-use Rattle.page_commit.proofs.FoundLaws.{entry_pushed, keeps_as}
+use Rattle.page_commit.proofs.FoundLaws.{entry_pushed, keeps_as, room_below}
 use Rattle.page_commit.proofs.reading.keep.Goals as goal
 
 -- The rest of each is by search: `KeepsRest` by `refl`, the answer by `refl`.
@@ -20,7 +20,7 @@ returns-in-Volatile c = record {
     record { writes = refl; holds = refl; headers = refl },
     refl,
     entry_pushed _ c.args.sets.now.reads _ c.push.result c.push.ensures
-        (subst (HasRoomFor c.args.sets.now.reads) c.in-Volatile.is c.requires.room),
+        (room_below c.args.sets.now (subst (HasRoomFor c.args.sets.now) c.in-Volatile.is c.requires.room)),
   );
 }
 

@@ -19,7 +19,7 @@ find-requires-clause-can c = can_walk c.args.sets.now (view c.args.pass.now) c.r
 
 pub keep-requires-clause-room : goal.keep-requires-clause-room
 keep-requires-clause-room c =
-    room_found c.in-Ok.found c.is_wide.result c.args.sets.now.reads c.is_wide.ensures.value c.is_wide.ensures.bound
+    room_found c.in-Ok.found c.is_wide.result c.args.sets.now c.is_wide.ensures
     c.if-is_wide.false
 
 pub keep-requires-clause-met : goal.keep-requires-clause-met
@@ -59,7 +59,7 @@ returns-then-is_wide-clause-cause c =
     (view c.refuse.new.pass)) (sym c.refuse.ensures.why)
     (wide_cause c.in-Ok.found c.is_wide.result c.args.sets.now
     (record c.args.sets.now { holds = c.find.new.holds }) c.args.key v w (view c.refuse.new.pass) h c.requires.unread
-    c.requires.unwritten c.in-Ok.ensures.found c.is_wide.ensures.value c.if-is_wide.true c.refuse.ensures.gives_up)
+    c.requires.unwritten c.in-Ok.ensures.found c.is_wide.ensures c.if-is_wide.true c.refuse.ensures.gives_up)
 
 pub returns-then-is_wide-clause-refused : goal.returns-then-is_wide-clause-refused
 returns-then-is_wide-clause-refused c =

@@ -24,6 +24,7 @@ returns-in_default-clause-value c =
 pub returns-clause-replies : goal.returns-clause-replies
 returns-clause-replies c =
     rw c.unwrap_or.ensures (own_read c.args.sets.now (view c.args.pass.now) c.args.key c.in-Some.own c.requires.live
+    c.requires.fits
     (sym c.find.ensures ∙ c.in-Some.is))
 
 pub returns-clause-value : goal.returns-clause-value

@@ -44,7 +44,8 @@ returns-in_err-before-clause-cause c =
     rw (p.1, p.2) (inr (
       c.in_ok-at.ensures.room,
       read_refused_since c.in_err-before.field-0.0 c.args.sets.now c.bring_up.new.sets c.read_value_at.new.sets c.args.key
-          (view c.args.pass.now) (view c.bring_up.new.pass) (view c.read_value_at.new.pass) b.only b.reads b.pointers b.writes
+          (view c.args.pass.now) (view c.bring_up.new.pass) (view c.read_value_at.new.pass) b.only b.touched b.reads b.pointers
+          b.writes b.headers
           c.in_err-before.ensures.cause,
     ))
 

@@ -1,0 +1,12 @@
+pub mod TreeWalkLaws
+pub mod WalkedLaws
+pub mod FoundRecord
+pub mod FoundHeader
+pub mod FoundBelow
+pub mod OpLaws
+pub mod DoneLaws
+pub mod DueLaws
+pub mod CauseLaws
+pub mod SinceLaws
+pub mod SetLaws
+pub mod ValueLaws

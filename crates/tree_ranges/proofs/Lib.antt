@@ -1,0 +1,11 @@
+pub mod GivenLaws
+pub mod RowLaws
+pub mod GoneLaws
+pub mod WalkLaws
+pub mod HeadLives
+pub mod StopLaws
+pub mod OverlayLaws
+pub mod LoopLaws
+pub mod StretchLaws
+pub mod ReadInLaws
+pub mod TakeLaws

@@ -1,0 +1,4 @@
+pub mod Rows
+pub mod Causes
+pub mod Leaves
+pub mod Going

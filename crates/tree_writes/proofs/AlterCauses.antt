@@ -1,0 +1,63 @@
+-- Why an operation is refused that reads a key of a tree before it writes it.
+use Rattle.std.proofs.Common.{◌≡◌, inl, inr, ℕ, ◌+◌, ◌<◌, ◌≤◌, false, length, true, sym, ◌∙◌, subst, arith}
+use Rattle.serial_model.specs.declared.key.Key.{Key}
+use Rattle.tx_sets.specs.declared.sets.Sets.{Sets}
+use Rattle.tx_sets.specs.Entries.{has_write}
+use Rattle.engine_pages.specs.declared.layout.Layout.{Layout}
+use Rattle.engine_pages.specs.declared.view.RefusalCause.{RefusalCause}
+use Rattle.engine_pages.specs.declared.view.View.{View}
+use Rattle.engine_pages.specs.Pages.{is_tree}
+use Rattle.page_commit.specs.Live.{IsLive}
+use Rattle.page_commit.specs.Refusing.{HasRefused}
+use Rattle.page_commit.specs.Turning.{OnlyWalked}
+use Rattle.page_commit.proofs.RefuseLaws.{refused_since}
+use Rattle.page_commit.proofs.TurnLaws.{walks_layout, walks_then}
+use Rattle.tree_calls.specs.Causes.{RefusesTreeRead}
+use Rattle.tree_calls.proofs.SinceLaws.{tree_read_since}
+use Rattle.tree_walks.specs.Finds.{find_steps}
+use Rattle.page_commit.specs.Calls.{end_most}
+use Rattle.tree_writes.specs.Causes.{alter_most, bring_most, write_most, RefusesTreeAlter, RefusesTreeWrite}
+use Rattle.tree_writes.specs.Writing.{HasMade}
+
+-- the key's storage is a tree's still
+pub tree_stays : (v w : View) (k : Key) → OnlyWalked v w → is_tree v.layout.decls k.storage ≡ true
+    → is_tree w.layout.decls k.storage ≡ true
+tree_stays v w k only tree =
+    subst (λ (l : Layout). is_tree l.decls k.storage ≡ true) (sym (walks_layout v w only)) tree
+
+-- the read was refused, behind the pages that were brought into memory
+pub read_cause : (why : RefusalCause) (sets mid late : Sets) (k : Key) (u v w : View) → HasMade k sets mid u v
+    → length sets.writes < 16 → RefusesTreeRead mid late k why v w → RefusesTreeAlter sets late k why u w
+read_cause why sets mid late k u v w m room r =
+    inr (inl (
+      room,
+      tree_read_since sets mid k u v w m.only m.reads m.pointers m.headers why late m.touched m.writes r,
+    ))
+
+-- the place of its record was, behind the read
+pub place_cause : (why : RefusalCause) (sets mid late last : Sets) (k : Key) (u v w x : View) → HasMade k sets mid u v
+    → OnlyWalked v w → IsLive late w → has_write k sets.writes ≡ false
+    → RefusesTreeWrite late last k why w x → RefusesTreeAlter sets last k why u x
+place_cause why sets mid late last k u v w x m only live none r =
+    inr (inr (
+      none,
+      record { then = w; walked = walks_then u v w m.only only; sets = late; live = live; cause = r },
+    ))
+
+pub behind_two : (why : RefusalCause) (u v w x : View) → OnlyWalked u v → OnlyWalked v w → HasRefused why w x
+    → HasRefused why u x
+behind_two why u v w x one two r = refused_since why u w x (walks_then u v w one two) r
+
+-- ---- steps
+
+sum_of_three : (u v w x b f e m : ℕ) → v ≤ u + b → w ≤ (v + f) + e → x ≤ w + m → x ≤ u + (b + ((f + e) + m))
+sum_of_three u v w x b f e m one two three = omega (arith, one, two, three)
+
+-- the pages, the read and the write behind it
+pub steps_behind : (u v w x : View) → OnlyWalked u v → OnlyWalked v w → v.steps ≤ u.steps + bring_most u.layout.slots
+    → w.steps ≤ (v.steps + find_steps) + end_most → x.steps ≤ w.steps + write_most w.layout.slots
+    → x.steps ≤ u.steps + alter_most u.layout.slots
+steps_behind u v w x a b one two three =
+    sum_of_three u.steps v.steps w.steps x.steps (bring_most u.layout.slots) find_steps end_most
+    (write_most u.layout.slots) one two
+    (subst (λ (l : Layout). x.steps ≤ w.steps + write_most l.slots) (walks_layout v w b ∙ walks_layout u v a) three)

@@ -1,0 +1,16 @@
+pub mod ValueWrites
+pub mod ReadFirst
+pub mod AlterCauses
+pub mod RemoveLaws
+pub mod MadeLaws
+pub mod Stopping
+pub mod MakeCauses
+pub mod AddedHere
+pub mod LeafStops
+pub mod SplitHere
+pub mod Falling
+pub mod BroughtThen
+pub mod WriteTurns
+pub mod GrowCans
+pub mod GrownSo
+pub mod RoomLaws

@@ -1,0 +1,209 @@
+-- Why pages could not be brought into memory for a write at a key of a tree.
+use Rattle.std.proofs.Common.{◌≡◌, inl, inr, ℕ, suc, ◌+◌, ◌-◌, ◌*◌, ◌/◌, ◌<◌, ◌≤◌, List, [], ◌∷◌, ◌++◌, length, true}
+use Rattle.std.proofs.Common.{refl, sym, ap, ◌∙◌, subst, arith, length-append, Option, Some}
+use Rattle.serial_model.specs.declared.key.Key.{Key}
+use Rattle.homes.specs.Laws.{in_span-parts}
+use Rattle.tx_sets.specs.declared.sets.Sets.{Sets}
+use Rattle.engine_pages.specs.declared.layout.Layout.{Layout}
+use Rattle.engine_pages.specs.declared.view.RefusalCause.{RefusalCause}
+use Rattle.engine_pages.specs.declared.view.RefusalCause.TheVariants as refusals
+use Rattle.engine_pages.specs.declared.view.SetName.TheVariants.{Reads, Writes, Pointers, Holds}
+use Rattle.engine_pages.specs.declared.view.View.{View}
+use Rattle.engine_pages.specs.Pages.{is_tree}
+use Rattle.engine_pages.specs.Slots.{looks}
+use Rattle.engine_pages.specs.Steps.{glance, glanced}
+use Rattle.page_pool.specs.Pool.{IsChanged, IsFull}
+use Rattle.tree_walks.specs.Ways.{IsHeaderChanged, IsPointerChanged}
+use Rattle.tree_making.specs.Making.{RefusesMake}
+use Rattle.page_commit.specs.Turning.{IsHeaderOver}
+use Rattle.tree_calls.proofs.DueLaws.{header_due, header_told, pointer_due, pointer_place, TreeWalked}
+use Rattle.tree_calls.proofs.TreeWalkLaws.{tree_walked}
+use Rattle.tree_writes.proofs.Stopping.{Stopped}
+
+-- ---- a slot, or all slots
+
+slot_last : (before : List ℕ) (at expected seen : ℕ) (u y w : View) → y.steps ≡ u.steps + length (before ++ expected ∷ [])
+    → w ≡ glanced at seen y → w.last ≡ Some (glance (u.steps + suc (length before)) at seen)
+slot_last before at expected seen u y w steps is =
+    let long = length-append before (expected ∷ []) in
+    let count : y.steps ≡ u.steps + suc (length before) = omega (arith, steps, long) in
+    ap (λ (z : View). z.last) is ∙ ap (λ (n : ℕ). Some (glance n at seen)) count
+
+-- behind steps of the call, of which the layout is the same, a slot's word was another one; no word was loaded since
+pub slot_stops : (sets : Sets) (slots : List ℕ) (k : Key) (at expected seen : ℕ) (v u w x : View) → v.steps ≤ u.steps
+    → u.layout ≡ v.layout → x.layout ≡ v.layout → x.looked ≡ w.looked → x.last ≡ w.last → IsChanged at expected seen u w
+    → Stopped sets slots k (refusals.Conflict at expected seen) v x
+slot_stops sets slots k at expected seen v u w x since layout late looked last c =
+    let there : c.slot < v.layout.slots = subst (λ (l : Layout). c.slot < l.slots) layout c.first.there in
+    let here : c.slot < x.layout.slots = subst (λ (l : Layout). c.slot < l.slots) (sym late) there in
+    let saw : x.looked ≡ looks u.steps 0 (c.first.before ++ expected ∷ []) =
+    looked ∙ (ap (λ (z : View). z.looked) c.only ∙ c.first.seen.looked) in
+    let end : x.last ≡ Some (glance (u.steps + suc (length c.first.before)) at seen) =
+    last ∙ slot_last c.first.before at expected seen u c.seen w c.first.seen.steps c.only in
+    record {
+      due = inr (inr (inl (
+        c.slot,
+        record {
+          place = c.place;
+          within = here;
+          before = c.first.before;
+          first = u.steps;
+          count = c.first.count;
+          taken = c.first.taken;
+          usable = c.first.usable;
+          looked = saw;
+          last = end;
+          other = c.other;
+        },
+      )));
+      told = λ met t. t.2 c.slot here c.place;
+      stops = inr record {
+        slot = c.slot;
+        within = there;
+        place = c.place;
+        before = c.first.before;
+        first = u.steps;
+        since = since;
+        count = c.first.count;
+        taken = c.first.taken;
+        usable = c.first.usable;
+        looked = saw;
+        last = end;
+        other = c.other;
+      };
+    }
+
+-- none was usable
+pub full_stops : (sets : Sets) (slots : List ℕ) (k : Key) (held : Option (ℕ × ℕ)) (v u w x : View) → v.steps ≤ u.steps
+    → u.layout ≡ v.layout → x.layout ≡ v.layout → x.looked ≡ w.looked → x.last ≡ w.last → IsFull held u w
+    → Stopped sets slots k (refusals.Full held) v x
+full_stops sets slots k held v u w x since layout late looked last f = record {
+  due = record {
+    words = f.words;
+    step = u.steps;
+    count = f.count ∙ ap (λ (l : Layout). l.slots) (layout ∙ sym late);
+    taken = f.taken;
+    held = f.held;
+    looked = looked ∙ f.seen.looked;
+    earlier = u.last;
+    last = last ∙ f.seen.last;
+  };
+  told = λ met t. t;
+  stops = record {
+    words = f.words;
+    count = f.count ∙ ap (λ (l : Layout). l.slots) layout;
+    taken = f.taken;
+    held = f.held;
+    step = u.steps;
+    since = since;
+    looked = looked ∙ f.seen.looked;
+  };
+}
+
+-- ---- the whole
+
+module _ (sets : Sets) (slots : List ℕ) (k : Key) (v w : View) (h : TreeWalked sets slots v w) where
+  pointer_stops : (at expected seen : ℕ) → IsPointerChanged k sets.pointers at expected seen v w
+      → Stopped sets slots k (refusals.Conflict at expected seen) v w
+  pointer_stops at expected seen p = record {
+    due = pointer_due sets slots k at expected seen v w h p;
+    told = λ met t. t.1 (p.on).span (pointer_place slots k w at h.can p.on);
+    stops = inl (
+      w,
+      tree_walked v w h.walk,
+      inl (
+        record {
+          step = (p.saw).step;
+          last = (p.saw).last;
+          since = (p.saw).since;
+          was = p.was;
+          kept = (p.saw).kept;
+          stands = (p.saw).stands;
+          known = elim p.known [
+            | inl set ↦ inl set.0
+            | inr before ↦ elim before.1 [ inl none ↦ inr (none, before.0) | inr has ↦ inl has ]
+          ];
+          cause = p.cause;
+        },
+        record {
+          place = (p.on).place;
+          span = (p.on).span;
+          is = (p.on).is;
+          tree = subst (λ (i : ℕ). is_tree w.layout.decls i ≡ true) (sym (in_span-parts (p.on).span k (p.on).over).0)
+              (p.on).tree;
+          over = (p.on).over;
+        },
+      ),
+    );
+  }
+
+  header_over : (at expected seen : ℕ) → IsHeaderChanged k sets.headers at expected seen v w → IsHeaderOver w k at
+  header_over at expected seen c =
+      let place : at ≡ ((32 + w.layout.slots) + 64 * c.slot) + 0 = c.word in
+      let slot : (at - (32 + w.layout.slots)) / 64 ≡ c.slot = omega (arith, place) in record {
+        way = record { slot = c.slot; span = c.span };
+        has = (c.on).way;
+        slot = sym slot;
+        tree = subst (λ (i : ℕ). is_tree w.layout.decls i ≡ true) (sym (in_span-parts c.span k (c.on).over).0)
+            (c.on).tree;
+        over = (c.on).over;
+        word = c.word;
+      }
+
+  pub header_stops : (at expected seen : ℕ) → IsHeaderChanged k sets.headers at expected seen v w
+      → Stopped sets slots k (refusals.Conflict at expected seen) v w
+  header_stops at expected seen c = record {
+    due = header_due sets slots k at expected seen v w h c;
+    told = λ met t. header_told sets slots k at expected seen v w h c met t;
+    stops = inl (
+      w,
+      tree_walked v w h.walk,
+      inr (inl (
+        record {
+          step = (c.saw).step;
+          last = (c.saw).last;
+          since = (c.saw).since;
+          was = c.was;
+          kept = (c.saw).kept;
+          stands = (c.saw).stands;
+          known = c.known;
+          cause = elim c.cause [
+            | inl locked ↦ inl (omega (arith, locked))
+            | inr other ↦ inr other
+          ];
+        },
+        header_over at expected seen c,
+      )),
+    );
+  }
+
+  pub make_stops : (why : RefusalCause) → RefusesMake k sets.pointers sets.headers slots why v w
+      → Stopped sets slots k why v w
+  make_stops (refusals.Conflict at expected seen) (inl p) = pointer_stops at expected seen p
+  make_stops (refusals.Conflict at expected seen) (inr (inl c)) = header_stops at expected seen c
+  make_stops (refusals.Conflict at expected seen) (inr (inr c)) =
+      slot_stops sets slots k at expected seen v c.0 w w c.1.since (ap (λ (z : View). z.layout) c.1.is)
+      (ap (λ (z : View). z.layout) h.walk.is) refl refl c.2
+  make_stops (refusals.Full held) r =
+      full_stops sets slots k held v r.before w w r.walked.since (ap (λ (z : View). z.layout) r.walked.is)
+      (ap (λ (z : View). z.layout) h.walk.is) refl refl r.full
+  make_stops (refusals.Wide Reads) r = absurd r.0
+  make_stops (refusals.Wide Writes) r = absurd r.0
+  make_stops (refusals.Wide Pointers) r = absurd r.0
+  make_stops (refusals.Wide Holds) (inl held, led) = record {
+    due = tt;
+    told = λ met t. t;
+    stops = inr (inl (
+      refl,
+      elim held [
+        | inl full ↦ inl full.0
+        | inr long ↦ inr (record { then = w; walked = tree_walked v w h.walk; long = long })
+      ],
+    ));
+  }
+  make_stops (refusals.Wide Holds) (inr page, led) = record {
+    due = tt;
+    told = λ met t. t;
+    stops = inr (inl (refl, inl page.0));
+  }
+  make_stops (refusals.NumberLimit clock) r = absurd r

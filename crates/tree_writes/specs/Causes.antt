@@ -1,0 +1,115 @@
+-- Why a write, an addition or a subtraction at a key of a tree is refused, and how many steps they take.
+use Rattle.std.specs.Prelude.{◌≡◌, ◌≢◌, ◌⊎◌, ℕ, ◌+◌, ◌/◌, ◌%◌, ◌^◌, ◌<◌, ◌≤◌, true, false, length, Contains, Some, None}
+use Rattle.serial_model.specs.declared.key.Key.{Key}
+use Rattle.homes.specs.Homes.{in_span}
+use Rattle.tx_sets.specs.declared.seen.Seen.{Seen}
+use Rattle.tx_sets.specs.declared.sets.Sets.{Sets}
+use Rattle.tx_sets.specs.Entries.{has_write}
+use Rattle.engine_pages.specs.declared.view.RefusalCause.{RefusalCause}
+use Rattle.engine_pages.specs.declared.view.RefusalCause.TheVariants as refusals
+use Rattle.engine_pages.specs.declared.view.SetName.TheVariants.{Reads, Writes, Holds}
+use Rattle.engine_pages.specs.declared.view.Touch.{Touch}
+use Rattle.engine_pages.specs.declared.view.View.{View}
+use Rattle.engine_pages.specs.Pages.{is_tree}
+use Rattle.engine_pages.specs.Steps.{glance}
+use Rattle.engine_pages.specs.Views.{seat_number}
+use Rattle.tree_walks.specs.Finds.{find_steps}
+use Rattle.foster_tree.specs.Splitting.{split_steps}
+use Rattle.tree_making.specs.Making.{make_steps}
+use Rattle.page_commit.specs.Calls.{end_most, IsFullOf, IsSlotConflict}
+use Rattle.page_commit.specs.Live.{IsLive}
+use Rattle.page_commit.specs.Places.{ground, IsTreeKeyIn}
+use Rattle.page_commit.specs.Refusing.{IsPointerConflict}
+use Rattle.page_commit.specs.Turning.{IsHeaderOver, IsTreePointerOver, OnlyWalked}
+use Rattle.tree_calls.specs.Causes.{RefusesTreeRead, WasLong}
+
+-- ---- steps
+
+-- So many steps at most bring the pages on the way to a key of a tree into memory, where there are so many slots, and
+-- end the transaction, if that was refused.
+abbrev pub bring_most : ℕ → ℕ
+bring_most slots = make_steps slots + end_most
+
+-- a write of a key takes those, and those of a split of its leaf
+abbrev pub write_most : ℕ → ℕ
+write_most slots = bring_most slots + (split_steps slots + 3)
+
+-- an addition or subtraction takes those of the pages on the way, of a read, and of a write
+abbrev pub alter_most : ℕ → ℕ
+alter_most slots = bring_most slots + ((find_steps + end_most) + write_most slots)
+
+-- ---- conflicts
+
+-- locks of keys of trees at most were taken, by the pass's seat
+abbrev pub TouchesTrees : View → View → Type 0
+TouchesTrees v w = (t : Touch) → Contains w.touched t → Contains v.touched t
+    ⊎ ((t.seat ≡ seat_number v.role) × (is_tree v.layout.decls t.key.storage ≡ true))
+
+-- The last load or compare_exchange is one of this call, of the word of a record, of whatever key, in a leaf over the
+-- key: the leaf was to be split, or was, which moves all of its records. The word was locked, or was not the expected
+-- one, which is what the transaction had seen or left there before this step.
+pub record IsLeafConflict (k : Key) (at expected seen : ℕ) (u v w : View) : Type 0 where
+  pub step : ℕ
+  pub last : w.last ≡ Some (glance step at seen)
+  pub since : v.steps ≤ step
+  pub stands : Contains w.reads (record { word = at; seen = seen; was = Some expected; kept = None })
+  pub key : Key
+  pub place : IsTreeKeyIn (ground u) key at
+  pub over : in_span (place.way).span k ≡ true
+  pub cause : ((seen / 2 ^ 60) % 2 ≡ 1) ⊎ (seen ≢ expected)
+
+-- The word of the operation's last step, with what was expected there and what it saw, is that of a pointer over the key,
+-- of a header over the key, or of a record in a leaf over the key, by what the call had learned of the pages by then.
+abbrev pub IsGrowConflict : Sets → Key → ℕ → ℕ → ℕ → View → View → Type 0
+IsGrowConflict sets k at expected seen v w =
+    (u : View) × OnlyWalked v u
+    × ((IsPointerConflict sets.pointers at expected seen v w × IsTreePointerOver u k at)
+    ⊎ ((IsPointerConflict sets.headers at expected seen v w × IsHeaderOver u k at)
+    ⊎ IsLeafConflict k at expected seen u v w))
+
+-- ---- full sets
+
+-- The key was to be added to a leaf whose header the transaction keeps: its record would be one more that is kept.
+pub record KeepsHeader (sets : Sets) (k : Key) (v : View) : Type 0 where
+  pub then : View
+  pub walked : OnlyWalked v then
+  pub header : Seen
+  pub among : Contains sets.headers header
+  pub over : IsHeaderOver then k header.at
+
+-- ---- calls
+
+-- A write of the key was refused, before any draw: a pointer, a header or a record in a leaf over the key was in
+-- conflict, or a slot's word; or no slot was usable; or it needed one entry more of a full set, first of all of the write
+-- set. Nothing is locked any more: locks of records were taken where the leaf was to be split.
+abbrev pub RefusesTreeWrite : Sets → Sets → Key → RefusalCause → View → View → Type 0
+RefusesTreeWrite sets new k (refusals.Conflict at expected seen) v w =
+    (has_write k sets.writes ≡ false) × (length sets.writes < 16) × (w.draws ≡ v.draws)
+    × (IsGrowConflict sets k at expected seen v w ⊎ IsSlotConflict at expected seen v w)
+    × (w.blamed ≡ v.blamed) × TouchesTrees v w
+RefusesTreeWrite sets new k (refusals.Full held) v w =
+    (has_write k sets.writes ≡ false) × (length sets.writes < 16) × (w.draws ≡ v.draws) × IsFullOf held v w
+    × (w.blamed ≡ v.blamed) × TouchesTrees v w
+RefusesTreeWrite sets new k (refusals.Wide set) v w =
+    (has_write k sets.writes ≡ false) × (w.draws ≡ v.draws)
+    × (((set ≡ Writes) × (length sets.writes ≡ 16))
+    ⊎ (((set ≡ Holds) × ((length new.holds ≡ 128) ⊎ WasLong k v))
+    ⊎ ((set ≡ Reads) × (256 ≤ length sets.reads + length sets.headers) × KeepsHeader sets k v)))
+    × (w.blamed ≡ v.blamed) × TouchesTrees v w
+RefusesTreeWrite sets new k (refusals.NumberLimit clock) v w = ⊥
+
+-- The key was read first, and what that kept is among these sets then; the write was refused behind it.
+pub record RefusesBehindRead (new : Sets) (k : Key) (why : RefusalCause) (v w : View) : Type 0 where
+  pub then : View
+  pub walked : OnlyWalked v then
+  pub sets : Sets
+  pub live : IsLive sets then
+  pub cause : RefusesTreeWrite sets new k why then w
+
+-- An addition or subtraction at the key was refused: as a write; as a read, where the write set has room; or as a write
+-- behind the read.
+abbrev pub RefusesTreeAlter : Sets → Sets → Key → RefusalCause → View → View → Type 0
+RefusesTreeAlter sets new k why v w =
+    RefusesTreeWrite sets new k why v w
+    ⊎ (((length sets.writes < 16) × RefusesTreeRead sets new k why v w)
+    ⊎ ((has_write k sets.writes ≡ false) × RefusesBehindRead new k why v w))

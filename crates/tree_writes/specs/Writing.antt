@@ -1,0 +1,102 @@
+-- What the parts of a write at a key of a tree leave of a transaction.
+use Rattle.std.specs.Prelude.{◌≡◌, ◌⊎◌, ℕ, ◌+◌, ◌≤◌, true, false, [], ◌∷◌, ◌++◌, length, Contains, IfOk, IfErr, Result}
+use Rattle.serial_model.specs.declared.key.Key.{Key}
+use Rattle.tx_sets.specs.declared.reads.ReadEntry.{ReadEntry}
+use Rattle.tx_sets.specs.declared.seen.Seen.{Seen}
+use Rattle.tx_sets.specs.declared.sets.Sets.{Sets}
+use Rattle.tx_sets.specs.Entries.{has_word, renewed}
+use Rattle.engine_pages.specs.declared.view.RefusalCause.{RefusalCause}
+use Rattle.engine_pages.specs.declared.view.View.{View}
+use Rattle.array_pages.specs.Walks.{HoldsAre}
+use Rattle.tree_heads.specs.Heads.{absent_word}
+use Rattle.foster_tree.specs.Splitting.{split_steps, HasSplitLeaf}
+use Rattle.tree_walks.specs.declared.ways.Leaf.{Leaf}
+use Rattle.tree_walks.specs.Ways.{IsLeafOn}
+use Rattle.wire_form.specs.Leaves.{tree_leaf}
+use Rattle.tree_making.specs.declared.making.Made.{Made}
+use Rattle.tree_making.specs.Making.{IsMade}
+use Rattle.page_commit.specs.Calls.{end_most}
+use Rattle.page_commit.specs.Live.{IsLive}
+use Rattle.page_commit.specs.Places.{ground, IsTreeKeyIn}
+use Rattle.page_commit.specs.Refusing.{HasRefused}
+use Rattle.page_commit.specs.Turning.{GoesOn, HoldsWaysTo, OnlyWalked, PartsStay}
+use Rattle.tree_calls.specs.Keeping.{OnlyWaysOn}
+use Rattle.tree_writes.specs.Causes.{RefusesTreeWrite}
+
+-- Pages on the way to the key may have been brought into memory; nothing was read, met, written, kept or locked.
+pub record HasMade (k : Key) (sets new : Sets) (v w : View) : Type 0 where
+  pub live : IsLive new w
+  pub only : OnlyWalked v w
+  pub paths : OnlyWaysOn k v w
+  pub held : HoldsWaysTo k sets.holds new.holds w
+  pub kept : w.seat.kept ≡ v.seat.kept
+  pub touched : w.touched ≡ v.touched
+  pub reads : new.reads ≡ sets.reads
+  pub pointers : new.pointers ≡ sets.pointers
+  pub headers : new.headers ≡ sets.headers
+  pub writes : new.writes ≡ sets.writes
+
+-- and where the key stands was told: its record's place, or the leaf that lacks it
+pub record HasMadeAt (k : Key) (made : Made) (sets new : Sets) (v w : View) : Type 0 where
+  pub makes : HasMade k sets new v w
+  pub at : IsMade k sets.headers made w
+
+-- The record of the key stands in a leaf that the pass holds. It may be one that the transaction added, which is absent:
+-- where it keeps the header of the leaf, it goes on with one more record, and the new one is among those that were read.
+pub record HasBrought (k : Key) (at : ℕ) (sets new : Sets) (v w : View) : Type 0 where
+  pub live : IsLive new w
+  pub only : OnlyWalked v w
+  pub paths : OnlyWaysOn k v w
+  pub held : HoldsWaysTo k sets.holds new.holds w
+  pub parts : GoesOn v.seat.kept w.seat.kept
+  pub keeps : PartsStay v.seat.kept w.seat.kept
+  pub reads : (new.reads ≡ sets.reads)
+      ⊎ ((e : ReadEntry) × (e.key ≡ k) × (e.word ≡ absent_word) × (new.reads ≡ sets.reads ++ e ∷ []))
+  pub pointers : new.pointers ≡ sets.pointers
+  pub headers : (h : Seen) → Contains new.headers h → has_word h.at sets.headers ≡ true
+  pub heads : length new.headers ≡ length sets.headers
+  pub writes : new.writes ≡ sets.writes
+  pub place : IsTreeKeyIn (ground w) k at
+
+-- ---- a leaf that lacks the key
+
+-- so many steps at most, where there are so many slots: those of a split, of a look at what was moved, and the end
+abbrev pub grow_most : ℕ → ℕ
+grow_most slots = split_steps slots + (3 + end_most)
+
+-- The leaf got the key, whose record's place is told; or the transaction was refused.
+pub record GrowsSo (k : Key) (sets new : Sets) (r : Result ℕ RefusalCause) (v w : View) : Type 0 where
+  pub came : IfOk r (λ at. HasBrought k at sets new v w)
+  pub cause : IfErr r (λ why. RefusesTreeWrite sets new k why v w)
+  pub refused : IfErr r (λ why. HasRefused why v w)
+  pub most : w.steps ≤ v.steps + grow_most v.layout.slots
+
+-- The set has the header at this place, whose word is this now, and the new record of the key joined those that were
+-- read; or it doesn't have it, and nothing has changed.
+pub record HasRenewed (k : Key) (at head word : ℕ) (sets new : Sets) : Type 0 where
+  pub has : has_word head sets.headers ≡ true
+  pub reads : new.reads ≡ sets.reads ++ record { key = k; at = at; word = absent_word; value = 0 } ∷ []
+  pub pointers : new.pointers ≡ sets.pointers
+  pub headers : new.headers ≡ renewed head word sets.headers
+  pub writes : new.writes ≡ sets.writes
+  pub holds : new.holds ≡ sets.holds
+
+abbrev pub KeepsAdded : Key → ℕ → ℕ → ℕ → Sets → Sets → Type 0
+KeepsAdded k at head word sets new =
+    ((has_word head sets.headers ≡ false) × (new ≡ sets)) ⊎ HasRenewed k at head word sets new
+
+-- these sets differ in what is held alone
+pub record OtherHolds (sets new : Sets) : Type 0 where
+  pub reads : new.reads ≡ sets.reads
+  pub pointers : new.pointers ≡ sets.pointers
+  pub headers : new.headers ≡ sets.headers
+  pub writes : new.writes ≡ sets.writes
+
+-- what the transaction was, and is behind a split of the leaf for the key: of the sets, the slots alone have grown
+pub record HasSplitFor (k : Key) (x : Leaf) (at : ℕ) (sets new : Sets) (v w : View) : Type 0 where
+  pub live : IsLive sets v
+  pub on : IsLeafOn k sets.headers x v
+  pub full : length on.leaf.keys ≡ tree_leaf.room
+  pub split : HasSplitLeaf x.slot x.span k at v w
+  pub now : HoldsAre new.holds w
+  pub others : OtherHolds sets new

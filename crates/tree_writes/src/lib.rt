@@ -1,0 +1,20 @@
+//! Operations of transactions that write keys of trees, over pages that threads share.
+//!
+//! Promises: `write` sets a key's value for the transaction alone, as the serial step has it (`done`); `add` and `take`
+//! alter the value that the transaction wrote last or first read, or end the transaction where the result is none
+//! (`turns`). The pages on the way to the key are brought into memory, and a leaf that lacks the key gets it, with an
+//! absent record; a full leaf is split. Where the transaction keeps the header of the leaf, it goes on with the header as
+//! it is then, and with the new record among those that it read. Where a split moves records that the transaction has
+//! read or writes, it is refused. Each refusal tells its cause (`cause`) and ends the transaction (`refused`), and each
+//! operation takes so many steps at most (`most`).
+//! Layout: specs/Causes.antt, why an operation is refused; specs/Writing.antt, what parts of one leave.
+//! Design: docs/TREES.md, docs/COMMIT.md.
+#![tactic(auto)]
+
+mod growing;
+mod making;
+mod removing;
+mod writing;
+
+pub use removing::remove;
+pub use writing::{add, take, write};

@@ -1,0 +1,59 @@
+use Rattle.engine_pages.specs.declared.view.KeptWhy.TheVariants.{Changed}
+use Rattle.engine_pages.specs.Passes.{view}
+use Rattle.tree_drops.proofs.Swung.{can_swing, changed_reads, dropped_now, dropped_reads, keeps_changed, saw_other}
+use Rattle.tree_drops.proofs.Swung.{swung_now, tells_changed}
+use Rattle.tree_drops.proofs.Works.{last_seen}
+use Rattle.tree_drops.proofs.dropping.swing_away.Goals as goal
+
+pub swing-found-requires-clause-swing : goal.swing-found-requires-clause-swing
+swing-found-requires-clause-swing c =
+    can_swing c.args.pointer.place c.args.leaf.span c.args.pointer.at c.args.leaf.slot c.args.leaf.page c.args.pointer.word c.args.leaf.epoch c.args.leaf.count (view c.args.pass.now) c.requires.drop
+
+pub keep-kept-requires-clause-last : goal.keep-kept-requires-clause-last
+keep-kept-requires-clause-last c =
+    let v = view c.args.pass.now in
+    let w = view c.swing-found.new.pass in
+    let n = c.swing-found.result in
+    last_seen v w c.args.pointer.at n (Changed c.args.pointer.word) (saw_other c.args.leaf.slot c.args.pointer.at c.args.leaf.page c.args.pointer.word n v w c.if-found-word.true c.swing-found.ensures.swings)
+
+pub returns-then-found-word-clause-keeps : goal.returns-then-found-word-clause-keeps
+returns-then-found-word-clause-keeps c =
+    let v = view c.args.pass.now in
+    let w = view c.swing-found.new.pass in
+    let n = c.swing-found.result in
+    keeps_changed c.args.leaf.slot c.args.leaf.page c.args.leaf.epoch c.args.pointer.at c.args.pointer.word n c.args.leaf.span c.keep-kept.result v w (view c.keep-kept.new.pass) c.keep-kept.ensures.is
+    c.if-found-word.true (saw_other c.args.leaf.slot c.args.pointer.at c.args.leaf.page c.args.pointer.word n v w c.if-found-word.true c.swing-found.ensures.swings) c.keep-kept.ensures.notes
+
+pub returns-then-found-word-clause-tells : goal.returns-then-found-word-clause-tells
+returns-then-found-word-clause-tells c =
+    let v = view c.args.pass.now in
+    let w = view c.swing-found.new.pass in
+    let n = c.swing-found.result in
+    tells_changed c.args.leaf.slot c.args.leaf.page c.args.pointer.at c.args.pointer.word n c.keep-kept.result v w (view c.keep-kept.new.pass) c.keep-kept.ensures.is c.if-found-word.true
+    c.swing-found.ensures.swings c.keep-kept.ensures.notes c.requires.drop.up.met
+
+pub returns-then-found-word-clause-reads : goal.returns-then-found-word-clause-reads
+returns-then-found-word-clause-reads c =
+    let v = view c.args.pass.now in
+    let w = view c.swing-found.new.pass in
+    let n = c.swing-found.result in
+    λ q other out.
+    changed_reads c.args.leaf.slot c.args.leaf.page c.args.pointer.at c.args.pointer.word n c.keep-kept.result v w (view c.keep-kept.new.pass) c.if-found-word.true
+    c.swing-found.ensures.swings c.keep-kept.ensures.notes q other
+
+pub returns-clause-drops : goal.returns-clause-drops
+returns-clause-drops c =
+    let v = view c.args.pass.now in
+    let w = view c.swing-found.new.pass in
+    let n = c.swing-found.result in
+    dropped_now c.args.leaf.slot c.args.pointer.at c.args.leaf.page n v w (view c.retire.new.pass)
+    (swung_now c.args.leaf.slot c.args.pointer.at c.args.leaf.page c.args.pointer.word n v w c.if-found-word.false c.swing-found.ensures.swings) c.retire.ensures.retires
+
+pub returns-clause-reads : goal.returns-clause-reads
+returns-clause-reads c =
+    let v = view c.args.pass.now in
+    let w = view c.swing-found.new.pass in
+    let n = c.swing-found.result in
+    λ q other out.
+    dropped_reads c.args.leaf.slot c.args.pointer.at c.args.leaf.page n v w (view c.retire.new.pass)
+    (swung_now c.args.leaf.slot c.args.pointer.at c.args.leaf.page c.args.pointer.word n v w c.if-found-word.false c.swing-found.ensures.swings) c.retire.ensures.retires q other

@@ -1,0 +1,52 @@
+use Rattle.std.proofs.Common.{◌+◌, ◌*◌, ap, arith}
+use Rattle.engine_pages.specs.declared.view.KeptWhy.TheVariants.{Changed}
+use Rattle.engine_pages.specs.declared.view.View.{View}
+use Rattle.engine_pages.specs.Passes.{view}
+use Rattle.engine_pages.specs.Words.{spot}
+use Rattle.page_drops.proofs.Entries.{reads_more, reads_noted, reads_self}
+use Rattle.tree_drops.specs.Leaves.{IsKnownCause}
+use Rattle.tree_drops.proofs.Places.{is_changed, known_cause, not_locked, reads_lock, word_here}
+use Rattle.tree_drops.proofs.Works.{keeps_it, last_seen, noted_known, only_self, saw_read}
+use Rattle.tree_drops.proofs.records.lock_record.Goals as goal
+
+pub keep-changed-requires-clause-last : goal.keep-changed-requires-clause-last
+keep-changed-requires-clause-last c =
+    let v = view c.args.pass.now in
+    let u = view c.lock-found.new.pass in
+    last_seen v u c.word_at-at.result c.lock-found.result (Changed c.args.word)
+    (saw_read c.word_at-at.result c.lock-found.result v v u (only_self v)
+    (not_locked c.args.key (spot c.args.leaf.slot c.args.index) c.word_at-at.result c.args.word c.lock-found.result v u c.if-found-word.true c.lock-found.ensures.locks))
+
+pub returns-then-found-word-clause-keeps : goal.returns-then-found-word-clause-keeps
+returns-then-found-word-clause-keeps c =
+    let v = view c.args.pass.now in
+    let u = view c.lock-found.new.pass in
+    let z = view c.keep-changed.new.pass in
+    let t = c.args.leaf.slot in
+    let n = c.lock-found.result in
+    let saw = saw_read c.word_at-at.result n v v u (only_self v)
+    (not_locked c.args.key (spot t c.args.index) c.word_at-at.result c.args.word n v u c.if-found-word.true c.lock-found.ensures.locks) in
+    let keeps = noted_known u z c.keep-changed.result c.keep-changed.ensures.notes in
+    keeps_it (IsKnownCause t c.args.leaf.span c.args.leaf.page c.args.leaf.epoch v z) v u z c.word_at-at.result
+    n (Changed c.args.word) c.keep-changed.result c.keep-changed.ensures.is saw c.keep-changed.ensures.notes
+    (known_cause t c.args.leaf.page c.args.leaf.epoch c.args.index c.word_at-at.result n c.args.leaf.span c.args.key
+    (Changed c.args.word) v z c.requires.key (λ x has. keeps x (saw.only.looks.works.known x has))
+    (is_changed v.layout.slots t c.args.index c.word_at-at.result n c.args.word c.args.leaf.page c.args.leaf.epoch
+    c.args.leaf.span v.pages (c.requires.key.leaf).keys c.requires.index (word_here c.args.engine.now c.args.pass.now c.args.leaf.slot (17 + 3 * c.args.index) c.word_at-at.result c.requires.of c.word_at-at.ensures) c.if-found-word.true))
+
+pub returns-then-found-word-clause-reads : goal.returns-then-found-word-clause-reads
+returns-then-found-word-clause-reads c =
+    let v = view c.args.pass.now in
+    let u = view c.lock-found.new.pass in
+    reads_noted c.args.leaf.slot c.keep-changed.result v u (view c.keep-changed.new.pass)
+    (reads_more c.args.leaf.slot (17 + 3 * c.args.index) c.word_at-at.result c.lock-found.result v v u
+    (let few = c.requires.index in omega (arith, few)) (word_here c.args.engine.now c.args.pass.now c.args.leaf.slot (17 + 3 * c.args.index) c.word_at-at.result c.requires.of c.word_at-at.ensures) (reads_self c.args.leaf.slot v)
+    (ap (λ (y : View). y.reads)
+    (not_locked c.args.key (spot c.args.leaf.slot c.args.index) c.word_at-at.result c.args.word c.lock-found.result v u c.if-found-word.true c.lock-found.ensures.locks)))
+    c.keep-changed.ensures.notes
+
+pub returns-clause-reads : goal.returns-clause-reads
+returns-clause-reads c =
+    let v = view c.args.pass.now in
+    reads_lock c.args.leaf.slot c.args.index c.word_at-at.result c.args.word c.lock-found.result c.args.key
+    (spot c.args.leaf.slot c.args.index) v (view c.lock-found.new.pass) c.requires.index (word_here c.args.engine.now c.args.pass.now c.args.leaf.slot (17 + 3 * c.args.index) c.word_at-at.result c.requires.of c.word_at-at.ensures) c.lock-found.ensures.locks

@@ -1,6 +1,6 @@
 -- How a call goes that runs nothing, or the rounds of one script.
 use Rattle.std.proofs.Common.{◌≡◌, ℕ, ◌∷◌, ◌⊎◌, inl, inr, ◌∙◌, sym, ap, subst, refl, ◌+◌, ◌<◌, ◌≤◌, List, [], ◌++◌}
-use Rattle.std.proofs.Common.{length, Option, Some, None, Result, arith, length-append, Ok, Err}
+use Rattle.std.proofs.Common.{length, Option, Some, None, arith, length-append, Ok, Err}
 use Rattle.std.specs.FinMap.{empty}
 use Rattle.std.specs.Io.KnownBytes.{Consumes, IsAtEnd}
 use Rattle.std.proofs.lemmas.Bool.{lt-ltb}
@@ -33,13 +33,12 @@ use Rattle.program_calls.specs.declared.ending.Ending.{Ending}
 use Rattle.program_calls.specs.declared.ending.Ending.TheVariants.{Finished, NoScript, Shape, Usage, ReadFault, NoDevice, Damaged, AtLimit, NoMemory, NoSnapshot}
 use Rattle.program_calls.specs.Ending.{AreBytes, Comes, IsNoText, IsReadOut, ReadsFirst, body_text, most_read}
 use Rattle.program_calls.specs.Main.{Came, Course}
-use Rattle.program_calls.specs.RoundCauses.{slots_asked}
 use Rattle.program_calls.specs.OnTheWay.{AddsRun, IsUnreadOf, ReadsText, RunsInBrief, RunsRounds, RunsScript}
 use Rattle.program_calls.specs.RunKept.{KeepsRun, StandsWhenStopped}
 use Rattle.program_calls.specs.Vaults.{IsUntouched, Vaults, vaults_of}
 use Rattle.program_calls.proofs.CrashesBegun.{stops_untouched}
 use Rattle.program_calls.proofs.Sentences.{recovered_from, rests_behind, snapshots_are, stands_for, stops_cover, stops_leave}
-use Rattle.program_calls.proofs.StandsStill.{none_over, none_slotted, nothing_come, untouched_snapshots}
+use Rattle.program_calls.proofs.StandsStill.{none_over, nothing_come, untouched_snapshots}
 use Rattle.program_calls.proofs.StandsStill.{untouched_stands}
 
 -- where a run would begin that never does
@@ -231,9 +230,9 @@ module _ {D : Type 0} (v : Vaults D) (whole : IsWhole v.was)
     covers = stops_cover v (nothing_of bytes ending) (nothing_kept ending same);
     kept = stands_for v (nothing_of bytes ending) (nothing_kept ending same);
     behind = rests_behind v (nothing_of bytes ending) (nothing_kept ending same);
-    history = nothing_come [] empty;
+    history = nothing_come [];
     caused = record {
-      in_rounds = record { caused = tt; beside = tt; durable = tt; sequences = tt; marks = tt; tried = tt; counted = tt; met = tt; plain = λ tree. tt; slotted = none_slotted (slots_asked command) [] empty };
+      in_rounds = record { caused = tt; beside = tt; durable = tt; sequences = tt; marks = tt; tried = tt; counted = tt; met = tt; slotted = tt };
       full = λ found told. tt;
       files = none_over;
     };

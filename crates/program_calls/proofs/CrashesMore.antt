@@ -13,23 +13,20 @@ use Rattle.serial_model.specs.History.{Entry, EpochsNeverFall, Rises, as_of, sta
 use Rattle.serial_model.specs.State.{State}
 use Rattle.serial_model.specs.declared.decl.Decl.{Decl}
 use Rattle.serial_model.specs.declared.number.Commit.{Commit}
-use Rattle.script_grammar.specs.Script.{Round}
 use Rattle.wire_form.specs.LogFile.{IsLineOf}
 use Rattle.wire_form.specs.declared.savepoint.Savepoint.{Savepoint}
 use Rattle.log_writer.specs.Points.{sequence_of}
 use Rattle.log_writer.specs.declared.saved.Saved.{Saved}
 use Rattle.joint_crashes.specs.Images.{Images, epoch_of}
-use Rattle.joint_crashes.specs.JointCrash.{Moments, parts_of}
+use Rattle.joint_crashes.specs.JointCrash.{Moments}
 use Rattle.recovery_core.specs.Recoverable.{Reading}
-use Rattle.joint_crashes.specs.Story.{IsTold, Story}
+use Rattle.joint_crashes.specs.Story.{Story}
 use Rattle.tx_script.specs.Causes.{AllCaused}
 use Rattle.tx_script.specs.Run.{Ran}
-use Rattle.tx_script.specs.declared.answer.Answer.{Answer}
 use Rattle.round_engine.specs.Changes.{AreLogged}
-use Rattle.round_engine.specs.Crashes.{CarriesCrashes, LeavesCrashes, StaysReady}
+use Rattle.round_engine.specs.Crashes.{CarriesCrashes, LeavesCrashes}
 use Rattle.round_engine.specs.Ends.{comes_to_swap, swaps}
-use Rattle.round_engine.specs.RanRound.{LeavesVault, StopsIn}
-use Rattle.round_engine.specs.Saves.{saves_told}
+use Rattle.round_engine.specs.RanRound.{LeavesVault}
 use Rattle.round_engine.specs.Standing.{RuntimeState, StandsOn, files_of}
 use Rattle.round_engine.specs.Swaps.{behind_swap, since_swap}
 use Rattle.program_calls.specs.RunKept.{RecordsOf}
@@ -41,7 +38,7 @@ use Rattle.program_calls.proofs.KeptBegun.{Begun, begun_at, begun_stands, least_
 use Rattle.program_calls.proofs.KeptEpochs.{as_of-more}
 use Rattle.program_calls.proofs.KeptPages.{each_snapshot}
 use Rattle.program_calls.proofs.KeptParts.{KeptParts}
-use Rattle.program_calls.proofs.RecordsKept.{records_more, records_still}
+use Rattle.program_calls.proofs.RecordsKept.{records_more}
 use Rattle.program_calls.proofs.SnapshotsKept.{each_more}
 
 -- nothing failed where the store is up
@@ -330,84 +327,4 @@ module _ {D : Type 0} {tells : D → Option (List ℕ)} {clock : D → ℕ} {ima
               length-append (flat_map saved_in rans) (saved_in ran),
             );
         unfailed = recorded_now.1 none;
-      }
-
--- ---- memory was wanted
-
-nothing_begun : (stored : List Saved) (failed : Option Saved) → map (λ (t : Saved). t.epoch) stored ≡ []
-    → (is_some failed ≡ true → ⊥) → stored ++ option_to_list failed ≡ []
-nothing_begun [] None none not = refl
-nothing_begun [] (Some x) none not = absurd (not refl)
-nothing_begun (x ∷ stored) failed none not = absurd cc
-
-module _ {D : Type 0} {tells : D → Option (List ℕ)} {clock : D → ℕ} {image_at : D → ℕ → List ℕ → Type 0}
-    {faults : D → ℕ} {from : Moments} {reading : Reading} {decls : List Decl} {settled saved : ℕ} {s : State}
-    {rans : List Ran} {ordered : List Entry} {commits gone : ℕ → List Commit} {old new : RuntimeState} {before now : Vault D} where
-  -- A round that stopped for want of memory saved nothing: each crash stands for what it stood for before.
-  pub crashes_stopped : {tries : ℕ} {round : Round}
-      → (ready : KeptBefore tells clock image_at from reading decls settled saved s rans ordered commits gone old before)
-      → (stop : StopsIn tries round old new)
-      → (leaves : LeavesVault tells clock image_at faults stop.ran stop.logged old new before now)
-      → CarriesCrashes tells clock image_at stop.logged (leaves.stored ++ option_to_list leaves.failed)
-      stop.ran old new before now
-      → CrashesKept clock image_at from reading decls settled saved s rans ordered now
-  crashes_stopped ready stop leaves carries =
-      let was = ready.kept in
-      let points = was.points in
-      let begun : List Saved = leaves.stored ++ option_to_list leaves.failed in
-      let last : ℕ = sequence_of old.save.newest in
-      let carried : LeavesCrashes tells clock image_at was.story from was.low commits stop.logged gone ready.durable
-      ready.closed begun stop.ran old new before now =
-      carries was.story from was.low commits gone ready.durable ready.closed ready.knows in
-      let high : was.high ≡ last = ready.high_is in
-      let none : begun ≡ [] = nothing_begun leaves.stored leaves.failed
-      (leaves.has_stored.epochs
-      ∙ ap (λ (told : List Answer). saves_told told ++ option_to_list stop.ran.printed.durable) stop.unanswered
-      ∙ ap option_to_list stop.durable)
-      (λ fails. stop.unstored (leaves.has_stored.fails.0 fails)) in
-      let same : last + length begun ≡ last = omega (arith, ap length none) in
-      let settled_first : settled ≤ last = omega (arith, points.reaches, high) in
-      record {
-        story = carried.after;
-        low = was.low;
-        high = last;
-        points = record {
-          read = points.read;
-          within = points.within;
-          reaches = settled_first;
-          first_epoch = ap epoch_of (carried.same.point settled settled_first) ∙ points.first_epoch;
-          old = λ k left at_least at_most found. points.old k left at_least at_most
-              (found_before left k carried.same (omega (arith, at_most, settled_first)) found);
-          later = λ k left past less found.
-              subst (λ (o : Option Savepoint). StandsThen reading decls saved s ordered left (epoch_of o))
-              (sym (carried.same.point k less)) (points.later k left past (omega (arith, less, high))
-              (found_before left k carried.same less found));
-          rise = λ j k at_least less within. omega (
-            arith,
-            points.rise j k at_least less (omega (arith, within, high)),
-            ap epoch_of (carried.same.point j (omega (arith, less, within))),
-            ap epoch_of (carried.same.point k within),
-          );
-          above = points.above;
-        };
-        told = subst (λ h. IsTold clock image_at carried.after from was.low h (parts_of now)) same carried.told;
-        stays = subst (λ h. StaysReady clock image_at carried.after was.low h (parts_of now)) same carried.stays;
-        instant = carried.instant;
-        stored = λ i epoch at.
-            let is = was.stored i epoch at in
-            record {
-              tie = is.tie;
-              end = is.end;
-              has = leaves.ties_stay is.tie is.has;
-              of_store = is.of_store;
-              ended = is.ended;
-              within = omega (arith, is.within, high);
-              least = omega (
-                arith,
-                is.least,
-                ap epoch_of (carried.same.point (settled + 1 + i) (omega (arith, is.within, high))),
-              );
-            };
-        recorded = records_still old.save.newest leaves.stored leaves.failed was.recorded none ready.unfailed
-            ready.many leaves.ties_are;
       }

@@ -1,12 +1,10 @@
 -- What the vault stands for as the run has ended.
-use Rattle.std.proofs.Common.{◌≡◌, ◌⊎◌, ◌∙◌, ◌≤◌, ◌<◌, ◌*◌, sym, ap, subst, refl, inl, inr, ℕ, arith, List, [], ◌∷◌}
-use Rattle.std.proofs.Common.{◌++◌, false, true, true≢false, cond, Option, Some, None, length}
-use Rattle.std.specs.Prelude.{◌&&◌, flat_map, is_some, map, not, option_to_list, slice_get, take}
+use Rattle.std.proofs.Common.{◌≡◌, ◌⊎◌, ◌∙◌, ◌≤◌, ◌<◌, ◌*◌, sym, ap, subst, refl, inl, inr, ℕ, arith, List, []}
+use Rattle.std.proofs.Common.{◌++◌, true, Option, Some, None, length}
+use Rattle.std.specs.Prelude.{flat_map, map, slice_get, take}
 use Rattle.std.proofs.lemmas.Grind.{flat_map-append}
-use Rattle.std.specs.List.{Contains}
 use Rattle.std.proofs.lemmas.List.{append-nil, length-map, length-take, map-append, take_at}
 use Rattle.std.proofs.lemmas.Option.{same_Some}
-use Rattle.lists.specs.Elements.{in_none}
 use Rattle.lists.specs.Fronts.{IsFront, front_append, front_from, front_length, front_take, front_then}
 use Rattle.log_writer.specs.Cuts.{whole_bank}
 use Rattle.log_writer.specs.Vault.{IsWhole, disk_in}
@@ -16,14 +14,12 @@ use Rattle.serial_model.specs.History.{Entry, EpochsNeverFall, Rises, as_of}
 use Rattle.serial_model.specs.State.{State}
 use Rattle.serial_model.specs.declared.decl.Decl.{Decl}
 use Rattle.serial_model.specs.declared.number.Commit.{Commit}
-use Rattle.script_grammar.specs.Script.{Round}
 use Rattle.wire_form.specs.LogFile.{lines_bytes}
 use Rattle.wire_form.specs.declared.page.Page.{Page}
 use Rattle.wire_form.specs.declared.savepoint.Savepoint.{Savepoint}
 use Rattle.log_writer.specs.Save.{Names}
-use Rattle.log_writer.specs.declared.saved.Saved.{Saved}
 use Rattle.snapshot_store.specs.Content.{words_of}
-use Rattle.snapshot_store.specs.Store.{StoreState, bytes_of_page, bytes_of_pages}
+use Rattle.snapshot_store.specs.Store.{bytes_of_page, bytes_of_pages}
 use Rattle.joint_crashes.specs.Images.{Images, count_of, counted_of}
 use Rattle.joint_crashes.specs.JointCrash.{parts_of}
 use Rattle.recovery_core.specs.Catalogues.{newest_decls}
@@ -36,36 +32,23 @@ use Rattle.checkpoints.specs.SettlesInto.{SettlesInto}
 use Rattle.joint_crashes.specs.VaultReads.{some_of}
 use Rattle.recovery_core.specs.declared.recovered.Recovered.{Recovered}
 use Rattle.checkpoints.specs.declared.without_entries.Settled.{Settled}
-use Rattle.worker_logs.specs.Logs.{LogState, reset_log}
+use Rattle.worker_logs.specs.Logs.{LogState}
 use Rattle.worker_logs.specs.Saves.{closed_number, growing_number}
 use Rattle.worker_logs.specs.declared.savepoints.Side.{Side}
 use Rattle.worker_logs.specs.declared.savepoints.Side.TheVariants.{Even, Odd}
-use Rattle.tx_script.specs.Causes.{keeper_at_end}
 use Rattle.tx_script.specs.Run.{Ran}
-use Rattle.tx_script.specs.declared.answer.Answer.{Answer}
 use Rattle.tx_script.specs.declared.answer.Answer.TheVariants as answers
-use Rattle.round_engine.specs.Ends.{closed_failed, comes_to_swap, swaps}
-use Rattle.round_engine.specs.Logs.{AreClosedFiles, AreLogs}
-use Rattle.round_engine.specs.RanRound.{LeavesVault, StopsIn}
-use Rattle.round_engine.specs.Swaps.{behind_swap}
-use Rattle.round_engine.specs.Saves.{newest_after, saves_told}
-use Rattle.round_engine.specs.Sides.{other_side}
+use Rattle.round_engine.specs.Logs.{AreClosedFiles}
 use Rattle.round_engine.specs.Standing.{RuntimeState, StandsOn}
 use Rattle.program_calls.specs.RunKept.{last_saved}
 use Rattle.program_calls.specs.Snapshots.{EachSnapshot}
 use Rattle.program_calls.proofs.KeptFiles.{closed_file, growing_file, item_at}
-use Rattle.program_calls.proofs.KeptIn.{StandsFor}
 use Rattle.program_calls.proofs.KeptLines.{front_takes, halves}
 use Rattle.program_calls.proofs.KeptPages.{each_snapshot}
 use Rattle.program_calls.proofs.KeptParts.{KeptParts}
 use Rattle.program_calls.proofs.KeptPoints.{PointAt, point_stands}
 use Rattle.program_calls.proofs.KeptRounds.{KeptSoFar, Stood}
 use Rattle.program_calls.proofs.SnapshotsKept.{chained}
-
--- nothing was stored where no epoch is told
-none_stored : (stored : List Saved) → map (λ (s : Saved). s.epoch) stored ≡ [] → stored ≡ []
-none_stored [] none = refl
-none_stored (saved ∷ more) none = absurd cc
 
 -- Devices that stand for this epoch and this state after a run, with catalogues of these storages: each of their
 -- snapshots is as it has to be, and their pages are so many of these.
@@ -263,16 +246,6 @@ module _ {D : Type 0} {tells : D → Option (List ℕ)} {clock : D → ℕ} {ima
       let file = growing_file r.side vault w stands.whole below in
       record { log = log.0; bank = file.bank; at = log.1; there = file.there }
 
--- no line of the maintenance thread was answered
-no_snap : (said : List Answer) → said ≡ [] → (epoch new : ℕ)
-    → Contains said (answers.Snap epoch new) → ⊥
-no_snap said none epoch new has =
-    in_none (answers.Snap epoch new) (subst (λ l. Contains l (answers.Snap epoch new)) none has)
-
--- where nothing was made durable no join comes to its swap
-no_swap : (ran : Ran) → ran.printed.durable ≡ None → comes_to_swap ran ≡ false
-no_swap ran none = ap (λ (d : Option ℕ). is_some d && not (keeper_at_end ran).counted) none
-
 -- a closed log file that is told
 shut_of : {D : Type 0} {tells : D → Option (List ℕ)} {clock : D → ℕ} {image_at : D → ℕ → List ℕ → Type 0}
     (r : RuntimeState) (vault : Vault D) (gone : ℕ → List Commit) (closed : ℕ → List ℕ) (found : Images)
@@ -317,53 +290,3 @@ module _ {D : Type 0} {tells : D → Option (List ℕ)} {clock : D → ℕ} {ima
         | inr none ↦ inr (subst (λ (o : Option Savepoint). counted_of o (closed_number r.side w) ≡ 0)
             kept.parts.newest_is (none w below))
       ])
-
-  -- A round that stopped for want of memory saved nothing: the vault stands for what it stood for before it.
-  pub kept_stopped : {faults : D → ℕ} {decls : List Decl} {s : State} {saved : ℕ} {rans : List Ran}
-      {ordered : List Entry} {tries : ℕ} {round : Round} {old new : RuntimeState} {before now : Vault D} (was found : Images)
-      → KeptSoFar tells clock image_at was decls s saved rans ordered old before
-      → StandsOn tells clock image_at old before → old.stands.ended ≡ false → (stop : StopsIn tries round old new)
-      → LeavesVault tells clock image_at faults stop.ran stop.logged old new before now
-      → new.save.down ≡ None → new.store.sound ≡ true → Rises ordered → EpochsNeverFall ordered
-      → AreTold tells (parts_of now) found
-      → StandsBehind was found decls saved s ordered (last_saved saved rans)
-      (as_of decls s ordered (last_saved saved rans)) (words_of old.store.pages) (count_of old.save.newest)
-  kept_stopped {decls = decls} {s = s} {saved = saved} {ordered = ordered} {old = old} {new = new} {before = before}
-      {now = now} was found kept stands going stop leaves up sound rises falls told =
-      let lr = leaves.runs kept.commits kept.gone kept.durable kept.closed kept.logs (kept.open_files going) in
-      let stored = none_stored leaves.stored (leaves.has_stored.epochs
-      ∙ ap (λ (told : List Answer). saves_told told ++ option_to_list stop.ran.printed.durable) stop.unanswered
-      ∙ ap option_to_list stop.durable) in
-      let newest : new.save.newest ≡ old.save.newest =
-      leaves.has_stored.newest ∙ ap (newest_after old.save.newest) stored in
-      let left : comes_to_swap stop.ran ≡ false = no_swap stop.ran stop.durable in
-      let unturned : swaps stop.ran ≡ false = ap (λ b. b && not (closed_failed stop.ran)) left in
-      let side : new.side ≡ old.side =
-      leaves.files.side ∙ ap (λ b. cond b (other_side old.side) old.side) unturned in
-      let store : new.store ≡ old.store =
-      (leaves.gleans.kept (no_snap stop.ran.printed.answers stop.unanswered) sound).0 in
-      let many : length leaves.logs ≡ 8 = ap length (sym (leaves.files.logs_are
-      ∙ ap (λ b. cond b (map reset_log leaves.logs) leaves.logs) unturned)) ∙ leaves.stands.workers in
-      let files = subst (λ b. AreClosedFiles tells clock image_at (behind_swap b (λ w. kept.commits w ++ stop.logged w)
-      kept.gone) (behind_swap b lr.durable kept.closed) new now) unturned
-      (lr.are_closed (λ comes. absurd (true≢false (sym comes ∙ left)))) in
-      parts_stand was found kept.was kept.parts rises falls
-      (subst (Names found.save) newest (leaves.stands.stored up found.save told.save).names)
-      (subst (λ (x : StoreState). IsFront (bytes_of_pages x.pages) found.snaps) store
-      ((leaves.stands.snapshot sound).holds found.snaps told.snaps))
-      (λ w below.
-      let had = has_log stands w below in
-      let n = growing_number old.side w in
-      let bank = growing_file old.side now w leaves.stands.whole below in
-      let log = item_at leaves.logs w (omega (arith, below, many)) in
-      let epochs = item_at stop.ran.beside.marks w (omega (arith, below, stop.begins.workers)) in
-      let grows = (lr.each w had.log log.0 had.bank bank.bank epochs.0 had.at log.1 had.there bank.there epochs.1).ran.grows
-      in (
-        front_from (kept.durable w) had.log.journal.lines (lines_bytes (kept.commits w))
-            (sym (kept.logs w had.log had.bank had.at had.there).lines),
-        front_then (kept.durable w) (lr.durable w) (found.bank n) grows.more
-            (grows.end (found.bank n) (reads bank.bank (found.bank n) (told.bank n bank.bank bank.there))),
-      ))
-      (λ w below. inl (subst (λ (x : Side). IsFront (kept.closed w) (lines_bytes (kept.gone w))
-      × IsFront (kept.closed w) (found.bank (closed_number x w))) side
-      (shut_of new now kept.gone kept.closed found leaves.stands files told w below)))

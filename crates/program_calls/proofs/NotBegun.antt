@@ -49,7 +49,6 @@ use Rattle.checkpoints.specs.SettlesInto.{SettlesInto}
 use Rattle.tx_script.specs.Causes.{last_sequence}
 use Rattle.tx_script.specs.Run.{clock_after}
 use Rattle.round_engine.specs.Begun.{begun}
-use Rattle.round_engine.specs.LineEngines.{SharesWords}
 use Rattle.round_engine.specs.Logs.{AreClosedFiles, AreLogs}
 use Rattle.round_engine.specs.Standing.{RuntimeState, StandsOn}
 use Rattle.round_engine.specs.declared.report.LimitName.{LimitName}
@@ -456,7 +455,7 @@ module _ {D : Type 0} {tells : D → Option Bytes} {clock : D → ℕ} {image_at
       → SettlesInto tells clock image_at r script.decls between is settled → KeptSnapshots r settled → AreQuiet faults between is
       → SettleRecords r true between is → IfSome r.saved (IsWithin r snap) → (IsStoreDue r → sequence_of r.save.newest ≡ last_sequence → ⊥)
       → runtime ≡ begun settled.decls settled.state runtime.stands settled.save settled.store room (clock_after settled.saved.epoch)
-      → (SharesWords runtime.stands → runtime.stands.slots ≡ slots)
+      → runtime.stands.slots ≡ slots
       → AllByRecursion IsWholePage settled.store.pages → AllByRecursion (AllByRecursion (λ w. w < 2 ^ 64)) (words_of settled.store.pages)
       → StandsOn tells clock image_at runtime is
       → (((number : ℕ) (bank : D) → disk_in is (Bank number) ≡ Some bank → tells bank ≡ Some []) → AreLogs tells clock image_at (λ worker. []) (λ worker. []) runtime is
@@ -507,7 +506,7 @@ module _ {D : Type 0} {tells : D → Option Bytes} {clock : D → ℕ} {image_at
   pub begins_over : (is now : Vault D) (settled : Settled) (runtime : RuntimeState) → SettlingLeaves tells clock image_at between r is → now ≡ is → SettlesInto tells clock image_at r script.decls between is settled → KeptSnapshots r settled → AreQuiet faults between is
       → SettleRecords r true between is → IfSome r.saved (IsWithin r snap) → (IsStoreDue r → sequence_of r.save.newest ≡ last_sequence → ⊥)
       → runtime ≡ begun settled.decls settled.state runtime.stands settled.save settled.store room (clock_after settled.saved.epoch)
-      → (SharesWords runtime.stands → runtime.stands.slots ≡ slots)
+      → runtime.stands.slots ≡ slots
       → AllByRecursion IsWholePage settled.store.pages → AllByRecursion (AllByRecursion (λ w. w < 2 ^ 64)) (words_of settled.store.pages)
       → StandsOn tells clock image_at runtime now
       → (((number : ℕ) (bank : D) → disk_in is (Bank number) ≡ Some bank → tells bank ≡ Some []) → AreLogs tells clock image_at (λ worker. []) (λ worker. []) runtime now

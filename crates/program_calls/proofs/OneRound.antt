@@ -60,12 +60,14 @@ pub stored_length : (newest : Option Savepoint) (stored : List Saved) → sequen
 stored_length newest [] = omega arith
 stored_length newest (saved ∷ more) = omega (arith, stored_length (Some (point_of (sequence_of newest + 1) saved)) more)
 
-pub met-push : (rans : List Ran) (ran : Ran) (rounds : List Round) (round : Round) → slice_get rounds (length rans) ≡ Some round
-    → AllMet rans rounds → AreMet ran round → AllMet (rans ++ ran ∷ []) rounds
-met-push [] ran [] round at so one = cc
-met-push [] ran (r ∷ rounds) round at so one = let same : r ≡ round = cc in (subst (λ x. AreMet ran x) (sym same) one, tt)
-met-push (q ∷ rans) ran [] round at so one = absurd so
-met-push (q ∷ rans) ran (r ∷ rounds) round at so one = (so.0, met-push rans ran rounds round at so.1 one)
+pub met-push : (decls : List Decl) (rans : List Ran) (ran : Ran) (rounds : List Round) (round : Round)
+    → slice_get rounds (length rans) ≡ Some round → AllMet decls rans rounds → AreMet decls ran round
+    → AllMet decls (rans ++ ran ∷ []) rounds
+met-push decls [] ran [] round at so one = cc
+met-push decls [] ran (r ∷ rounds) round at so one =
+    let same : r ≡ round = cc in (subst (λ x. AreMet decls ran x) (sym same) one, tt)
+met-push decls (q ∷ rans) ran [] round at so one = absurd so
+met-push decls (q ∷ rans) ran (r ∷ rounds) round at so one = (so.0, met-push decls rans ran rounds round at so.1 one)
 
 pub marked-push : (rans : List Ran) (ran : Ran) (rounds : List Round) (round : Round) → slice_get rounds (length rans) ≡ Some round
     → AreMarked rans rounds → IsMarked round ran → AreMarked (rans ++ ran ∷ []) rounds

@@ -7,21 +7,20 @@ use Rattle.lists.specs.Each.{all_push}
 use Rattle.lists.specs.declared.memory.Memory.{Memory}
 use Rattle.outside.specs.Disk.{IfTold, Only}
 use Rattle.log_writer.specs.Vault.{IsWhole}
-use Rattle.outside.specs.declared.device.Device.TheVariants.{Snaps}
 use Rattle.log_writer.specs.declared.vault.Vault.{Vault}
 use Rattle.serial_model.specs.History.{Entry, as_of}
 use Rattle.serial_model.specs.State.{State}
 use Rattle.serial_model.specs.declared.decl.Decl.{Decl}
 use Rattle.script_grammar.specs.Script.{Bytes, Round, Script}
 use Rattle.joint_crashes.specs.Images.{Images, count_of}
-use Rattle.joint_crashes.specs.JointCrash.{IsNow, Moments, Parts, parts_of}
+use Rattle.joint_crashes.specs.JointCrash.{Parts, parts_of}
 use Rattle.recovery_core.specs.Recoverable.{IsRecoverable, Reading}
-use Rattle.joint_crashes.specs.Resting.{AreTold, IsResting}
+use Rattle.joint_crashes.specs.Resting.{AreTold}
 use Rattle.joint_crashes.specs.VaultReads.{whole_read}
 use Rattle.tx_script.specs.Run.{Ran}
 use Rattle.round_engine.specs.Crashes.{CarriesCrashes}
 use Rattle.round_engine.specs.Ends.{end_of}
-use Rattle.round_engine.specs.RanRound.{AreFailed, LeavesVault, RanRound, Rounds, StopsIn}
+use Rattle.round_engine.specs.RanRound.{AreFailed, LeavesVault, RanRound, Rounds}
 use Rattle.round_engine.specs.Standing.{RuntimeState, StandsOn}
 use Rattle.round_engine.specs.Unbegun.{IsUnbegun}
 use Rattle.round_engine.specs.declared.report.End.{End}
@@ -40,18 +39,17 @@ use Rattle.program_calls.specs.OnTheWay.{EndsBefore, RunsRounds, ending_of}
 use Rattle.program_calls.specs.RanOver.{RunsOverFiles, files_before, EndsDurable, IsUnbroken, KeepsPages}
 use Rattle.program_calls.specs.EndLaws.{EndTells, end_tells, goes_on_quiet}
 use Rattle.program_calls.proofs.KeptOver.{files_from, log_of_parts}
-use Rattle.program_calls.proofs.StandsStill.{none_over, none_slotted, nothing_come}
+use Rattle.program_calls.proofs.StandsStill.{none_over, nothing_come}
 use Rattle.program_calls.proofs.CrashesKept.{CrashesKept, crash_covered, crash_leaves, rests_kept}
-use Rattle.program_calls.proofs.CrashesMore.{crashes_stopped}
 use Rattle.program_calls.proofs.CrashesRead.{crashes_read}
 use Rattle.program_calls.proofs.KeptAll.{IsLasting, kept_all}
-use Rattle.program_calls.proofs.KeptEnd.{StandsBehind, kept_at_end, kept_stopped}
+use Rattle.program_calls.proofs.KeptEnd.{StandsBehind, kept_at_end}
 use Rattle.program_calls.proofs.SameVault.{crashes_room, parts_room, whole_room}
 use Rattle.program_calls.proofs.SnapshotsKept.{each_told}
 use Rattle.program_calls.proofs.KeptThrough.{one_kept, storages_kept}
 use Rattle.program_calls.proofs.SameRun.{as_of_same}
 use Rattle.program_calls.proofs.VaultsLater.{devices_in-push, failed_none, none_failed_in}
-use Rattle.program_calls.proofs.OneRound.{all_none_full, down_none, none_damaged}
+use Rattle.program_calls.proofs.OneRound.{all_none_full, none_damaged}
 use Rattle.program_calls.proofs.SoFar.{BeginsAt, CrashesBehind, at_now, RanSoFar, RanOneMore, one_more, no_run}
 use Rattle.std.proofs.lemmas.List.{length-take, length-map}
 use Rattle.std.proofs.Math.Seq.{take-length}
@@ -232,19 +230,6 @@ module _ {D : Type 0} (tells : D → Option Bytes) (clock : D → ℕ) (image_at
       subst (λ (x : Reading). CrashesKept clock image_at from x r.stands.decls so.opening.sequence so.opening.saved
       so.opening.state so.rans so.run.ordered before) (one_reading found k.was.reading reading k.was.is is)
       (so.crashes found from told rest here).kept
-
-  -- and behind a round that stopped for want of memory
-  crashes_behind : (r s : RuntimeState) (count : ℕ) (before now : Vault D) (round : Round)
-      (so : RanSoFar tells clock image_at faults snap slots tries script was r count before) (stop : StopsIn tries round r s)
-      → (leaves : LeavesVault tells clock image_at faults stop.ran stop.logged r s before now)
-      → CarriesCrashes tells clock image_at stop.logged (leaves.stored ++ option_to_list leaves.failed) stop.ran r s
-      before now
-      → CrashesBehind tells clock image_at faults snap slots tries script was r.stands.decls so.opening so.rans so.run.ordered now
-  crashes_behind r s count before now round so stop leaves carries found from reading is told rest here =
-      let k = so.kept found told in
-      subst (λ (x : Reading). CrashesKept clock image_at from x r.stands.decls so.opening.sequence so.opening.saved
-      so.opening.state so.rans so.run.ordered now) (one_reading found k.was.reading reading k.was.is is)
-      (crashes_stopped (so.crashes found from told rest here) stop leaves carries)
 
   -- and through reads from then on
   stopped_reading : (opening : Opening) (rans : List Ran) (ordered : List Entry) (decls : List Decl) (now : Vault D)
@@ -443,7 +428,7 @@ module _ {D : Type 0} (tells : D → Option Bytes) (clock : D → ℕ) (image_at
         );
         caused = so.caused;
         full = λ found told. all_none_full script.decls so.opening.state so.run.ordered so.rans so.went_on;
-        history = (r.stands.decls, so.same, λ arrays. (r.stands.mine, (so.history arrays).1));
+        history = (r.stands.decls, so.same, (r.stands.mine, so.history));
         files = runs_over r count now now so (pages_behind so.opening so.rans so.run.ordered r.stands.decls now
             (words_of r.store.pages) (count_of r.save.newest) keeps (λ durable found told.
             so.paged found told ∙ sym (words_many r.store.pages)) (λ before last is none.
@@ -489,7 +474,7 @@ module _ {D : Type 0} (tells : D → Option Bytes) (clock : D → ℕ) (image_at
         comes = inl (so.went_on, inr so.begins);
         caused = so.caused;
         full = λ found told. all_none_full script.decls so.opening.state so.run.ordered so.rans so.went_on;
-        history = (r.stands.decls, so.same, λ arrays. (r.stands.mine, (so.history arrays).1));
+        history = (r.stands.decls, so.same, (r.stands.mine, so.history));
         files = runs_over r count before now so (pages_behind so.opening so.rans so.run.ordered r.stands.decls now
             (words_of r.store.pages) (count_of r.save.newest) keeps (λ durable found told.
             so.paged found told ∙ sym (words_many r.store.pages)) (λ before last is none.
@@ -514,70 +499,18 @@ module _ {D : Type 0} (tells : D → Option Bytes) (clock : D → ℕ) (image_at
       memory_not_finished : (let e : Ending = NoMemory in e ≡ Finished) → ⊥
       memory_not_finished is = cc
 
-  -- memory was wanted in a round
-  at_memory : {Shows : List Ran → State → Ending → Type 0} (r s : RuntimeState) (count : ℕ) (before now : Vault D) (round : Round)
-      → (so : RanSoFar tells clock image_at faults snap slots tries script was r count before)
-      → (stop : StopsIn tries round r s) → (leaves : LeavesVault tells clock image_at faults stop.ran stop.logged r s before now)
-      → CarriesCrashes tells clock image_at stop.logged (leaves.stored ++ option_to_list leaves.failed) stop.ran r s
-      before now → Shows so.rans r.stands.state NoMemory
-      → RunsRounds (at_now tells clock image_at faults snap slots tries script was now) snap slots tries script Shows
-  at_memory r s count before now round so stop leaves carries shown =
-      let up : s.save.down ≡ None = down_none s.save.down leaves.failed leaves.has_stored.down
-      (λ fails. stop.unstored (leaves.has_stored.fails.0 fails)) in
-      let pages : s.store.sound ≡ true = leaves.sound (λ has. let it = stop.only_logs Snaps has in absurd cc) in
-      let keeps : (found now_found : Images) → AreTold tells (parts_of was) found → AreTold tells (parts_of now) now_found
-      → StandsBehind found now_found r.stands.decls so.opening.saved so.opening.state so.run.ordered (last_saved so.opening.saved so.rans) (as_of r.stands.decls so.opening.state so.run.ordered (last_saved so.opening.saved so.rans))
-      (words_of r.store.pages) (count_of r.save.newest) =
-      λ found now_found told told_now. kept_stopped reads found now_found (so.kept found told) so.stands so.unended stop leaves up pages so.run.serial.rising so.run.serial.epochs told_now in
-      record {
-        rans = so.rans;
-        ending = NoMemory;
-        opening = so.opening;
-        state = r.stands.state;
-        run = so.run;
-        comes = inl (so.went_on, inr so.begins);
-        caused = so.caused;
-        full = λ found told. all_none_full script.decls so.opening.state so.run.ordered so.rans so.went_on;
-        history = (r.stands.decls, so.same, λ arrays. (r.stands.mine, (so.history arrays).1));
-        files = runs_over r count before now so (pages_behind so.opening so.rans so.run.ordered r.stands.decls now
-            (words_of r.store.pages) (count_of r.save.newest) keeps (λ durable found told.
-            so.paged found told ∙ sym (words_many r.store.pages)) (λ before last is none.
-            absurd (goes_durable so.rans before last is so.went_on so.caused.durable none)));
-        kept = record {
-          stands = λ sound. through so.opening so.rans so.run.ordered r.stands.decls now (words_of r.store.pages) (count_of r.save.newest) so.begins so.same keeps;
-          snapshots = λ sound. snapshots_behind so.opening so.rans so.run.ordered r.stands.decls now (words_of r.store.pages) (count_of r.save.newest) so.same keeps;
-          declared = λ some sound. declares so.opening so.rans so.run.ordered r.stands.decls now (words_of r.store.pages) (count_of r.save.newest) so.same keeps;
-          whole = λ finished. absurd (memory_not_finished finished);
-          stops = stopped_through so.opening so.rans so.run.ordered r.stands.decls now so.begins so.same leaves.stands.whole
-              (crashes_behind r s count before now round so stop leaves carries);
-          through_reads = λ some. stopped_reading so.opening so.rans so.run.ordered r.stands.decls now so.begins so.same leaves.stands.whole
-              (crashes_behind r s count before now round so stop leaves carries);
-        };
-        shown = shown;
-      }
-    where
-      memory_not_finished : (let e : Ending = NoMemory in e ≡ Finished) → ⊥
-      memory_not_finished is = cc
-
-  -- it was wanted before it, or in it
   pub at_want : {Shows : List Ran → State → Ending → Type 0} (r s : RuntimeState) (count : ℕ) (before now : Vault D)
       (round : Round) (memory : Memory)
       → (so : RanSoFar tells clock image_at faults snap slots tries script was r count before)
       → Rounds tells clock image_at faults tries round r s before now (Err memory) → Shows so.rans r.stands.state NoMemory
       → RunsRounds (at_now tells clock image_at faults snap slots tries script was now) snap slots tries script Shows
-  at_want r s count before now round memory so rounds shown = elim rounds [
-    | inl unbegun ↦ at_begin r s count before now so unbegun shown
-    | inr some ↦ at_memory r s count before now round so some.0 some.1 some.2 shown
-  ]
+  at_want r s count before now round memory so rounds shown = at_begin r s count before now so rounds shown
 
   -- the vault is whole then
   pub want_whole : (r s : RuntimeState) (count : ℕ) (before now : Vault D) (round : Round) (memory : Memory)
       → RanSoFar tells clock image_at faults snap slots tries script was r count before
       → Rounds tells clock image_at faults tries round r s before now (Err memory) → IsWhole now
-  want_whole r s count before now round memory so rounds = elim rounds [
-    | inl unbegun ↦ whole_room unbegun.devices so.stands.whole
-    | inr some ↦ some.1.stands.whole
-  ]
+  want_whole r s count before now round memory so rounds = whole_room rounds.devices so.stands.whole
 
   -- a run that doesn't begin
   pub not_begun : {Shows : List Ran → State → Ending → Type 0} (now : Vault D) (ending : Ending)
@@ -589,9 +522,9 @@ module _ {D : Type 0} (tells : D → Option Bytes) (clock : D → ℕ) (image_at
     state = before.opening.state;
     run = no_run tells clock image_at faults snap slots tries script was before.opening;
     comes = before.comes;
-    caused = record { caused = tt; beside = tt; durable = tt; sequences = tt; marks = tt; tried = tt; counted = tt; met = tt; plain = λ tree. tt; slotted = none_slotted slots script.decls before.opening.state };
+    caused = record { caused = tt; beside = tt; durable = tt; sequences = tt; marks = tt; tried = tt; counted = tt; met = tt; slotted = tt };
     full = λ found told. tt;
-    history = nothing_come script.decls before.opening.state;
+    history = nothing_come script.decls;
     files = none_over;
     kept = before.kept;
     shown = shown;
@@ -604,25 +537,16 @@ module _ {D : Type 0} (tells : D → Option Bytes) (clock : D → ℕ) (image_at
       → RestsAgain tells clock image_at status was now
   rests_on status r now stands up = record { again = λ not_4 not_5 one bytes told. (stands.stored up bytes told).only }
 
-  -- memory was wanted in a round: nothing was stored
-  rests_stopped : (r s : RuntimeState) (before now : Vault D) (round : Round) → (stop : StopsIn tries round r s)
-      → LeavesVault tells clock image_at faults stop.ran stop.logged r s before now → RestsAgain tells clock image_at 8 was now
-  rests_stopped r s before now round stop leaves =
-      rests_on 8 s now leaves.stands (down_none s.save.down leaves.failed leaves.has_stored.down (λ fails. stop.unstored (leaves.has_stored.fails.0 fails)))
-
   pub rests_wanting : (r s : RuntimeState) (count : ℕ) (before now : Vault D) (round : Round) (memory : Memory)
       → RanSoFar tells clock image_at faults snap slots tries script was r count before
       → Rounds tells clock image_at faults tries round r s before now (Err memory)
       → RestsAgain tells clock image_at 8 was now
-  rests_wanting r s count before now round memory so rounds = elim rounds [
-    | inl unbegun ↦
-        let stored = so.stands.stored (store_up r before so.stands so.unended) in
-        record {
-          again = λ not_4 not_5 one. subst (λ d. IfTold (tells d) (Only clock image_at d)) (sym unbegun.devices.save)
-              (λ bytes told. (stored bytes told).only);
-        }
-    | inr some ↦ rests_stopped r s before now round some.0 some.1
-  ]
+  rests_wanting r s count before now round memory so rounds =
+      let stored = so.stands.stored (store_up r before so.stands so.unended) in
+      record {
+        again = λ not_4 not_5 one. subst (λ d. IfTold (tells d) (Only clock image_at d)) (sym rounds.devices.save)
+            (λ bytes told. (stored bytes told).only);
+      }
 
   -- a round ended the run by a limit
   rests_ended : (s : RuntimeState) (now : Vault D) (opening : Opening) (rans : List Ran) (ran : Ran)

@@ -1,7 +1,7 @@
 -- A run over declarations is one over any list of the same ones: what transactions do depends on which storages there
 -- are, and not on their order.
 use Rattle.std.proofs.Common.{◌≡◌, ◌∙◌, sym, ap, subst, refl, ℕ, Bool, true≢false, inl, inr, List, [], ◌∷◌}
-use Rattle.std.proofs.Common.{Some}
+use Rattle.std.proofs.Common.{◌+◌, Some}
 use Rattle.std.specs.Prelude.{IsTrue, nat_le, filter}
 use Rattle.std.specs.FinMap.{get}
 use Rattle.std.specs.List.{list_any}
@@ -18,8 +18,9 @@ use Rattle.serial_model.specs.declared.decl.Decl.{Decl}
 use Rattle.serial_model.specs.declared.number.Number.{Number}
 use Rattle.serial_model.specs.declared.op.Op.{Op}
 use Rattle.serial_model.specs.declared.op.Op.TheVariants.{Read, Write, Remove, Add, Take, Scan}
-use Rattle.script_grammar.specs.Script.{Keeper, Line, Round, Worker}
-use Rattle.tx_script.specs.Run.{CanRun, CanRunLine, IsRun, Ran}
+use Rattle.script_grammar.specs.Script.{Keeper, Line, Round, Worker, worker_lines}
+use Rattle.tx_script.specs.Conflicts.{AreMet, IsMet, IsOnTree, LinesMet, WorkersMet}
+use Rattle.tx_script.specs.Run.{CanRun, CanRunLine, InConflict, IsRun, NoNumber, NoRoom, NoSlot, Ran, TryRefusal}
 use Rattle.program_calls.specs.Beginning.{SameDecls}
 
 -- in another order they are the same
@@ -113,6 +114,53 @@ module _ (ds es : List Decl) (same : SameDecls ds es) where
   can_run_same round can = record {
     few_lines = can.few_lines;
     lines = all_weaker (CanRunLine ds) (CanRunLine es) same_line round.lines can.lines;
+  }
+
+  -- ---- refusals
+
+  same_on_tree : (op : Op) → IsOnTree es op → IsOnTree ds op
+  same_on_tree (Read k) is = same_test (is_tree_of k.storage) ∙ is
+  same_on_tree (Write k v) is = same_test (is_tree_of k.storage) ∙ is
+  same_on_tree (Remove k) is = same_test (is_tree_of k.storage) ∙ is
+  same_on_tree (Add k v) is = same_test (is_tree_of k.storage) ∙ is
+  same_on_tree (Take k v) is = same_test (is_tree_of k.storage) ∙ is
+  same_on_tree (Scan storage low high) is = same_test (is_tree_of storage) ∙ is
+
+  same_try : (lines : List (List (List Op))) (dropped : Type 0) (worker : ℕ) (ops : List Op) (refusal : TryRefusal)
+      → IsMet es lines dropped worker ops refusal → IsMet ds lines dropped worker ops refusal
+  same_try lines dropped worker ops (InConflict met) m = m
+  same_try lines dropped worker ops (NoSlot words) m = m
+  same_try lines dropped worker ops NoRoom m = (m.0, m.1, same_on_tree m.0 m.2)
+  same_try lines dropped worker ops NoNumber m = tt
+
+  same_tries : (lines : List (List (List Op))) (dropped : Type 0) (worker : ℕ) (mine : List (List Op))
+      (refused : List (List TryRefusal)) → LinesMet es lines dropped worker mine refused
+      → LinesMet ds lines dropped worker mine refused
+  same_tries lines dropped worker [] [] met = tt
+  same_tries lines dropped worker [] (refusals ∷ more) met = absurd met
+  same_tries lines dropped worker (ops ∷ mine) [] met = absurd met
+  same_tries lines dropped worker (ops ∷ mine) (refusals ∷ more) met = (
+    all_weaker (IsMet es lines dropped worker ops) (IsMet ds lines dropped worker ops)
+        (same_try lines dropped worker ops) refusals met.0,
+    same_tries lines dropped worker mine more met.1,
+  )
+
+  same_workers : (lines : List (List (List Op))) (dropped : Type 0) (worker : ℕ) (mine : List (List (List Op)))
+      (refused : List (List (List TryRefusal))) → WorkersMet es lines dropped worker mine refused
+      → WorkersMet ds lines dropped worker mine refused
+  same_workers lines dropped worker [] [] met = tt
+  same_workers lines dropped worker [] (refused ∷ others) met = absurd met
+  same_workers lines dropped worker (mine ∷ more) [] met = absurd met
+  same_workers lines dropped worker (mine ∷ more) (refused ∷ others) met = (
+    same_tries lines dropped worker mine refused met.0,
+    same_workers lines dropped (worker + 1) more others met.1,
+  )
+
+  -- What the lines have to do with their refusals is the same.
+  pub met_same : (ran : Ran) (round : Round) → AreMet es ran round → AreMet ds ran round
+  met_same ran round met = record {
+    workers = same_workers (worker_lines round) (ran.beside.drops ≡ [] → ⊥) 0 (worker_lines round) ran.beside.refused
+        met.workers;
   }
 
   -- ---- runs

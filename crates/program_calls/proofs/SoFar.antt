@@ -33,19 +33,17 @@ use Rattle.joint_crashes.specs.VaultReads.{AreQuiet}
 use Rattle.checkpoints.specs.declared.without_entries.Settled.{Settled}
 use Rattle.worker_logs.specs.Saves.{CountsOf}
 use Rattle.worker_logs.specs.declared.savepoints.Side.TheVariants.{Even}
-use Rattle.serial_model.specs.declared.decl.Decl.TheVariants.{Tree}
 use Rattle.tx_script.specs.Causes.{AllCaused, keeper_before}
 use Rattle.tx_script.specs.CausedBeside.{CausedBeside}
-use Rattle.tx_script.specs.Draws.{DrawsAreCounted, RunsPlainly}
+use Rattle.tx_script.specs.Draws.{DrawsAreCounted}
 use Rattle.tx_script.specs.Run.{IsRun, IsScriptRun, LogFiles, Ran, clock_after, printed_commits, entries_of_round, joined}
 use Rattle.round_engine.specs.Begun.{begun}
 use Rattle.round_engine.specs.Changes.{AreLogged}
 use Rattle.round_engine.specs.Crashes.{CarriesCrashes}
 use Rattle.round_engine.specs.Ends.{comes_to_swap, swaps}
-use Rattle.round_engine.specs.Histories.{ComeFrom, are_arrays, comes_more, none_come}
+use Rattle.round_engine.specs.Histories.{ComeFrom, comes_more, none_come}
 use Rattle.round_engine.specs.KnownAtFirst.{left_since}
 use Rattle.round_engine.specs.Logs.{AreClosedFiles, AreLogs}
-use Rattle.round_engine.specs.LineEngines.{SharesWords}
 use Rattle.round_engine.specs.RanRound.{AreFailed, LeavesVault, RanRound}
 use Rattle.round_engine.specs.Standing.{IsReady, RuntimeState, StandsOn, files_of}
 use Rattle.round_engine.specs.Swaps.{since_swap}
@@ -73,7 +71,7 @@ use Rattle.program_calls.proofs.CrashesKept.{CrashesKept, KeptBefore}
 use Rattle.program_calls.proofs.CrashesMore.{crashes_more, ready_more}
 use Rattle.program_calls.proofs.KeptAll.{joined_where_none}
 use Rattle.program_calls.proofs.RoundsJoined.{clock_from, printed_commits-push, run-push}
-use Rattle.program_calls.proofs.SameRun.{same_run, same_state}
+use Rattle.program_calls.proofs.SameRun.{met_same, same_run, same_state}
 use Rattle.program_calls.proofs.VaultsLater.{failed_back, quiet_failed, rose_back}
 use Rattle.program_calls.proofs.SavedPages.{least_pages, round_pages, settled_pages}
 use Rattle.program_calls.proofs.OneRound.{clock_from-push, sequence_after, sequence_after-push, sequences-push, stored_length}
@@ -181,9 +179,8 @@ module _ {D : Type 0} (tells : D → Option Bytes) (clock : D → ℕ) (image_at
     pub crashes : CrashesAt r.stands.decls opening rans run.ordered r now kept
     pub over : OverSoFar r.stands.decls opening rans run.ordered r now kept
     pub paged : (found : Images) → AreTold tells (parts_of was) found → count_of r.save.newest ≡ length r.store.pages
-    pub history : are_arrays r.stands.decls opening.state ≡ true
-        → SharesWords r.stands × ComeFrom r.stands.decls (printed_commits 0 rans script.rounds) r.stands.mine
-    pub slotted : are_arrays r.stands.decls opening.state ≡ true → IsSlotted r rans
+    pub history : ComeFrom r.stands.decls (printed_commits 0 rans script.rounds) r.stands.mine
+    pub slotted : IsSlotted r rans
 
   -- what was run up to a round and of it, and where that left all; the round may have ended the run
   pub record RanOneMore (r : RuntimeState) (now : Vault D) (opening : Opening) (before : List Ran) (ran : Ran) : Type 0 where
@@ -216,10 +213,9 @@ module _ {D : Type 0} (tells : D → Option Bytes) (clock : D → ℕ) (image_at
         → (ran.beside.pages ≤ count_of r.save.newest) × (ran.beside.pages ≤ length r.store.pages)
     pub untold : (damage : Device × ℕ) → ran.beside.damaged ≡ Some damage → (found : Images) → AreTold tells (parts_of was) found → ⊥
     pub full : (found : Images) → AreTold tells (parts_of was) found → AreFull script.decls opening.state run.ordered ran
-    pub history : ComeFromWords script.decls opening.state (printed_commits 0 (before ++ ran ∷ []) script.rounds)
-    pub on_words : are_arrays r.stands.decls opening.state ≡ true → SharesWords r.stands
-        × ComeFrom r.stands.decls (printed_commits 0 (before ++ ran ∷ []) script.rounds) r.stands.mine
-    pub slotted : are_arrays r.stands.decls opening.state ≡ true → IsSlotted r (before ++ ran ∷ [])
+    pub history : ComeFromWords script.decls (printed_commits 0 (before ++ ran ∷ []) script.rounds)
+    pub on_words : ComeFrom r.stands.decls (printed_commits 0 (before ++ ran ∷ []) script.rounds) r.stands.mine
+    pub slotted : IsSlotted r (before ++ ran ∷ [])
 
   -- the log files and pages of a round more
   over_one : (r s : RuntimeState) (count : ℕ) (before now : Vault D) (round : Round) (report : Report)
@@ -373,21 +369,15 @@ module _ {D : Type 0} (tells : D → Option Bytes) (clock : D → ℕ) (image_at
       (own_logged k so.stands refl state_is so.unended one leaves (length so.rans) rises falls) one.lines.lines_are of.workers of.later
       one.lines.caused one.begins.files leaves rises falls (so.crashes found from told rest here) carries))) in
       let commits = printed_commits-push 0 so.rans one.ran script.rounds round at_index so.run.lines in
-      let on_words : are_arrays s.stands.decls so.opening.state ≡ true → SharesWords s.stands
-      × ComeFrom s.stands.decls (printed_commits 0 (so.rans ++ one.ran ∷ []) script.rounds) s.stands.mine = λ arrays.
-      let h = so.history (ap (λ ds. are_arrays ds so.opening.state) (sym one.lines.decls) ∙ arrays) in
-      let kept = one.history h.0 in (
-        kept.shares,
-        subst (λ es. ComeFrom s.stands.decls es s.stands.mine) (sym commits)
-            (subst (λ ds. ComeFrom ds (printed_commits 0 so.rans script.rounds
-            ++ entries_of_round (0 + length so.rans) one.ran round) s.stands.mine) (sym one.lines.decls)
-            (comes_more r.stands.decls (0 + length so.rans) round one.ran.printed.outcomes (printed_commits 0 so.rans script.rounds)
-            r.stands.mine s.stands.mine h.1 kept.gathered)),
-      ) in
-      let slotted : are_arrays s.stands.decls so.opening.state ≡ true → IsSlotted s (so.rans ++ one.ran ∷ []) =
-      λ arrays. let were = so.slotted (ap (λ ds. are_arrays ds so.opening.state) (sym one.lines.decls) ∙ arrays) in (
-        one.lines.slots ∙ were.0,
-        all_push (λ (ran : Ran). ran.beside.slots ≡ slots) so.rans one.ran were.1 (one.begins.slots ∙ were.0),
+      let on_words : ComeFrom s.stands.decls (printed_commits 0 (so.rans ++ one.ran ∷ []) script.rounds) s.stands.mine =
+      subst (λ es. ComeFrom s.stands.decls es s.stands.mine) (sym commits)
+      (subst (λ ds. ComeFrom ds (printed_commits 0 so.rans script.rounds
+      ++ entries_of_round (0 + length so.rans) one.ran round) s.stands.mine) (sym one.lines.decls)
+      (comes_more r.stands.decls (0 + length so.rans) round one.ran.printed.outcomes (printed_commits 0 so.rans script.rounds)
+      r.stands.mine s.stands.mine so.history one.history.gathered)) in
+      let slotted : IsSlotted s (so.rans ++ one.ran ∷ []) = (
+        one.lines.slots ∙ so.slotted.0,
+        all_push (λ (ran : Ran). ran.beside.slots ≡ slots) so.rans one.ran so.slotted.1 (one.begins.slots ∙ so.slotted.0),
       ) in
       record {
         same = same;
@@ -401,11 +391,10 @@ module _ {D : Type 0} (tells : D → Option Bytes) (clock : D → ℕ) (image_at
           marks = marked-push so.rans one.ran script.rounds round at_index so.caused.marks
               (marked round r s report one begins so.stands.workers ready.logs);
           tried = all_push (λ (ran : Ran). ran.beside.tries ≡ tries) so.rans one.ran so.caused.tried one.begins.tried;
-          met = met-push so.rans one.ran script.rounds round at_index so.caused.met one.met;
+          met = met-push script.decls so.rans one.ran script.rounds round at_index so.caused.met
+              (met_same script.decls r.stands.decls so.same one.ran round one.met);
           counted = all_push DrawsAreCounted so.rans one.ran so.caused.counted one.counted;
-          plain = λ tree. all_push RunsPlainly so.rans one.ran (so.caused.plain tree)
-              (one.plain (tree.0, (so.same (Tree tree.0)).0 tree.1));
-          slotted = (s.stands.decls, same, λ arrays. (slotted arrays).1);
+          slotted = slotted.1;
         };
         own = one.lines.caused;
         sequence = ap sequence_of stored.newest ∙ stored_length r.save.newest leaves.stored
@@ -454,7 +443,7 @@ module _ {D : Type 0} (tells : D → Option Bytes) (clock : D → ℕ) (image_at
         untold = λ damage is found told. never_damaged (so.kept found told) so.stands refl state_is so.unended one leaves (length so.rans) rises falls damage is;
         full = λ found told. subst (λ l. AreFull script.decls so.opening.state l one.ran) (sym all)
             (full_in script.decls so.same (so.kept found told) so.stands refl state_is so.unended one leaves (length so.rans));
-        history = (s.stands.decls, same, λ arrays. (s.stands.mine, (on_words arrays).1));
+        history = (s.stands.decls, same, (s.stands.mine, on_words));
         on_words = on_words;
         slotted = slotted;
       }
@@ -504,7 +493,7 @@ module _ {D : Type 0} (tells : D → Option Bytes) (clock : D → ℕ) (image_at
           same = b.same;
           run = no_run opening;
           begins = begins;
-          caused = record { caused = tt; beside = tt; durable = tt; sequences = tt; marks = tt; tried = tt; counted = tt; met = tt; plain = λ tree. tt; slotted = (settled.decls, b.same, λ arrays. tt) };
+          caused = record { caused = tt; beside = tt; durable = tt; sequences = tt; marks = tt; tried = tt; counted = tt; met = tt; slotted = tt };
           went_on = tt;
           clock_is = refl;
           sequence = refl;
@@ -516,11 +505,8 @@ module _ {D : Type 0} (tells : D → Option Bytes) (clock : D → ℕ) (image_at
           quiet = b.quiet;
           kept = λ found told. (kept found told).0;
           paged = λ found told. settled_pages b.settles;
-          history = λ arrays. (arrays, none_come settled.decls);
-          slotted = λ arrays. (
-            subst (λ (x : RuntimeState). SharesWords x.stands → x.stands.slots ≡ slots) b.begins b.slots_are arrays,
-            tt,
-          );
+          history = none_come settled.decls;
+          slotted = (subst (λ (x : RuntimeState). x.stands.slots ≡ slots) b.begins b.slots_are, tt);
           over = record {
             words = words_of settled.store.pages;
             begins = λ found told.

@@ -10,7 +10,6 @@ use Rattle.serial_model.specs.State.{State}
 use Rattle.recovery_core.specs.Recoverable.{Reading}
 use Rattle.round_engine.specs.Histories.{none_come}
 use Rattle.program_calls.specs.Main.{ComeFromWords}
-use Rattle.program_calls.specs.RoundCauses.{HaveSlots}
 use Rattle.program_calls.specs.RunKept.{HasEachSnapshot, StandsThrough}
 use Rattle.program_calls.specs.RanOver.{RunsOverFiles, files_before}
 use Rattle.program_calls.specs.Vaults.{IsUntouched, TellsTheSame, Vaults}
@@ -56,9 +55,5 @@ none_over {saved = saved} = record {
 }
 
 -- no commit comes from words to which none came
-pub nothing_come : (decls : List Decl) (s : State) → ComeFromWords decls s []
-nothing_come decls s = (decls, (λ d. ((λ has. has), (λ has. has))), λ arrays. ([], none_come decls))
-
--- where no round was run none has other slots
-pub none_slotted : (slots : ℕ) (decls : List Decl) (s : State) → HaveSlots slots decls s []
-none_slotted slots decls s = (decls, (λ d. ((λ has. has), (λ has. has))), λ arrays. tt)
+pub nothing_come : (decls : List Decl) → ComeFromWords decls []
+nothing_come decls = (decls, (λ d. ((λ has. has), (λ has. has))), ([], none_come decls))

@@ -18,10 +18,10 @@ use Rattle.tx_script.specs.declared.answer.Answer.TheVariants as answers
 use Rattle.tx_script.specs.declared.outcome.Outcome.{Outcome}
 use Rattle.tx_script.specs.declared.outcome.Outcome.TheVariants as outcomes
 use Rattle.tx_script.specs.Causes.{AllCaused, AnswersCaused, IsAnswerTo, KeeperAt, LogsCaused}
-use Rattle.tx_script.specs.Causes.{IsTryCause, WorkersCaused, last_caused}
+use Rattle.tx_script.specs.Causes.{WorkersCaused}
 use Rattle.tx_script.specs.Causes.{keeper_after, keeper_at_end, keeper_before, last_sequence, log_limit, log_of}
 use Rattle.tx_script.specs.Causes.{longest_line}
-use Rattle.tx_script.specs.Run.{AdvancesTo, LogFailed, LogFiles, LogFull, LogRefusal, NoRoom, Ran, TryRefusal}
+use Rattle.tx_script.specs.Run.{AdvancesTo, LogFailed, LogFiles, LogFull, LogRefusal, Ran, TryRefusal}
 use Rattle.tx_script.specs.Run.{is_limit}
 use Rattle.tx_script.specs.Draws.{limited_at_draws}
 use Rattle.tx_script.specs.Tries.{AllCome}
@@ -586,30 +586,30 @@ durable_unlimited ran caused advances told durable =
 -- ---- a round that goes on
 
 -- The line was run: it is committed, or each of its tries was refused with a conflict, or the last one found no usable
--- slot.
+-- slot, or filled a set.
 abbrev pub WasRun : Outcome → Type 0
 WasRun (outcomes.Committed verdict number replies) = ⊤
 WasRun outcomes.Conflict = ⊤
 WasRun outcomes.Full = ⊤
+WasRun outcomes.Wide = ⊤
 WasRun _ = ⊥
 
 -- So is a line that nothing refused.
-was_run : (slots first last tries : ℕ) (log : Option LogRefusal) (mine : List Outcome)
-    (refused : List (List TryRefusal)) → log ≡ None → AllCome first last tries log mine refused
-    → AllByRecursion (AllByRecursion (IsTryCause slots)) refused → list_any is_limit mine ≡ false
+was_run : (first last tries : ℕ) (log : Option LogRefusal) (mine : List Outcome) (refused : List (List TryRefusal))
+    → log ≡ None → AllCome first last tries log mine refused → list_any is_limit mine ≡ false
     → AllByRecursion WasRun mine
-was_run slots first last tries log [] refused up come caused none = tt
-was_run slots first last tries log (outcome ∷ more) [] up come caused none = absurd come
-was_run slots first last tries log (outcomes.Committed verdict number replies ∷ more) (refusals ∷ refused) up come caused
-    none = (tt, was_run slots first last tries log more refused up come.1 caused.1 none)
-was_run slots first last tries log (outcomes.Conflict ∷ more) (refusals ∷ refused) up come caused none =
-    (tt, was_run slots first last tries log more refused up come.1 caused.1 none)
-was_run slots first last tries log (outcomes.Full ∷ more) (refusals ∷ refused) up come caused none =
-    (tt, was_run slots first last tries log more refused up come.1 caused.1 none)
-was_run slots first last tries log (outcomes.Wide ∷ more) (refusals ∷ refused) up come caused none =
-    absurd (last_caused slots tries NoRoom refusals come.0.1 caused.0)
-was_run slots first last tries log (outcomes.Limit ∷ more) (refusals ∷ refused) up come caused none = absurd cc
-was_run slots first last tries log (outcomes.Unrun ∷ more) (refusals ∷ refused) up come caused none =
+was_run first last tries log [] refused up come none = tt
+was_run first last tries log (outcome ∷ more) [] up come none = absurd come
+was_run first last tries log (outcomes.Committed verdict number replies ∷ more) (refusals ∷ refused) up come none =
+    (tt, was_run first last tries log more refused up come.1 none)
+was_run first last tries log (outcomes.Conflict ∷ more) (refusals ∷ refused) up come none =
+    (tt, was_run first last tries log more refused up come.1 none)
+was_run first last tries log (outcomes.Full ∷ more) (refusals ∷ refused) up come none =
+    (tt, was_run first last tries log more refused up come.1 none)
+was_run first last tries log (outcomes.Wide ∷ more) (refusals ∷ refused) up come none =
+    (tt, was_run first last tries log more refused up come.1 none)
+was_run first last tries log (outcomes.Limit ∷ more) (refusals ∷ refused) up come none = absurd cc
+was_run first last tries log (outcomes.Unrun ∷ more) (refusals ∷ refused) up come none =
     absurd (let is = come.0.1 in cc)
 
 -- where no device failed, and no log file is full, no log was refused
@@ -625,19 +625,17 @@ log_up files failed worker (Some (LogFull size)) logs quiet caused full = absurd
 all_run : (ran : Ran) (files : LogFiles) (failed : List Device) (worker : ℕ) (logs : List (Option LogRefusal))
     (workers : List (List Outcome)) (refused : List (List (List TryRefusal))) → failed ≡ []
     → LogsCaused files failed worker logs → full_length logs ≡ None → WorkersCaused ran logs workers refused
-    → AllByRecursion (AllByRecursion (AllByRecursion (IsTryCause ran.beside.slots))) refused
     → list_any (list_any is_limit) workers ≡ false
     → AllByRecursion (AllByRecursion WasRun) workers
-all_run ran files failed worker [] [] refused quiet caused full by tries none = tt
-all_run ran files failed worker (log ∷ logs) [] refused quiet caused full by tries none = tt
-all_run ran files failed worker [] (mine ∷ more) refused quiet caused full by tries none = absurd by
-all_run ran files failed worker (log ∷ logs) (mine ∷ more) [] quiet caused full by tries none = absurd by
-all_run ran files failed worker (log ∷ logs) (mine ∷ more) (tried ∷ refused) quiet caused full by tries none =
+all_run ran files failed worker [] [] refused quiet caused full by none = tt
+all_run ran files failed worker (log ∷ logs) [] refused quiet caused full by none = tt
+all_run ran files failed worker [] (mine ∷ more) refused quiet caused full by none = absurd by
+all_run ran files failed worker (log ∷ logs) (mine ∷ more) [] quiet caused full by none = absurd by
+all_run ran files failed worker (log ∷ logs) (mine ∷ more) (tried ∷ refused) quiet caused full by none =
     let up = log_up files failed worker log logs quiet caused full in
     let none_of = neither (list_any is_limit mine) (list_any (list_any is_limit) more) none in (
-      was_run ran.beside.slots ran.printed.begin.draw ran.printed.end.draw ran.beside.tries log mine tried up.0 by.0
-          tries.0 none_of.0,
-      all_run ran files failed (worker + 1) logs more refused quiet up.1 up.2 by.2 tries.1 none_of.1,
+      was_run ran.printed.begin.draw ran.printed.end.draw ran.beside.tries log mine tried up.0 by.0 none_of.0,
+      all_run ran files failed (worker + 1) logs more refused quiet up.1 up.2 by.2 none_of.1,
     )
 
 where_none : (test : Bool) (x : End) → where_true test x ≡ None → test ≡ false
@@ -655,4 +653,4 @@ goes_on_run ran caused none =
     let d = both_none (bank_end ran) _ c.1 in
     all_run ran ran.beside.files ran.beside.devices 0 ran.beside.logs ran.printed.outcomes ran.beside.refused
     (no_devices ran.beside.devices a.0) caused.logs (bank_none (full_length ran.beside.logs) d.0)
-    caused.outcomes caused.tries (where_none _ (limit_at Draw ran.printed.end.draw) c.0)
+    caused.outcomes (where_none _ (limit_at Draw ran.printed.end.draw) c.0)

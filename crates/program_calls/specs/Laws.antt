@@ -2,11 +2,9 @@
 -- declared each number is a commit's. No run ends at the limit of the draws while each line has few tries, or a tree is
 -- declared. A run with nothing in its way is done; and of one that is done each line is committed, in conflict at each
 -- of its tries, or found no usable slot at the last one, and each round is durable.
-use Rattle.std.specs.Prelude.{◌≡◌, ◌⊎◌, ◌+◌, ◌≤◌, ℕ, List, [], ◌∷◌, ◌++◌, IfSome, IsSome, Option, Some, None}
+use Rattle.std.specs.Prelude.{◌≡◌, ◌+◌, ◌≤◌, ℕ, List, [], ◌∷◌, ◌++◌, IfSome, IsSome, Option, Some, None}
 use Rattle.std.specs.List.{AllByRecursion}
 use Rattle.std.proofs.Common.{inl, inr, ◌∙◌, refl, sym, subst, arith}
-use Rattle.lists.specs.Each.{all_weaker}
-use Rattle.serial_model.specs.State.{State}
 use Rattle.serial_model.specs.declared.decl.Decl.{Decl}
 use Rattle.serial_model.specs.declared.number.Number.{Number}
 use Rattle.script_grammar.specs.Script.{Bytes, Round, Script, IsTextOf}
@@ -19,9 +17,8 @@ use Rattle.recovery_core.specs.Recoverable.{Reading}
 use Rattle.recovery_core.specs.RecoverableLaws.{one_reading}
 use Rattle.joint_crashes.specs.Resting.{AreTold}
 use Rattle.tx_script.specs.Causes.{AllCaused}
-use Rattle.tx_script.specs.Draws.{DrawsAreCounted, DrawsWithin, HasTree, IsBelowDraws, RunsOnce, RunsPlainly}
-use Rattle.tx_script.specs.Draws.{below_draws, counted_once, counted_within, once_within}
-use Rattle.tx_script.specs.Run.{AreOfFirst, IsRun, IsScriptRun, Ran, RunsClocks, clock_after, joined}
+use Rattle.tx_script.specs.Draws.{DrawsAreCounted, DrawsWithin, IsBelowDraws, below_draws, counted_within}
+use Rattle.tx_script.specs.Run.{AreOfFirst, IsRun, Ran, RunsClocks, clock_after, joined}
 use Rattle.round_engine.specs.declared.report.LimitName.{LimitName}
 use Rattle.round_engine.specs.declared.report.LimitName.TheVariants.{Draw}
 use Rattle.command_line.specs.declared.command.Command.TheVariants.{Run}
@@ -59,8 +56,8 @@ storages_of found decls kept here there =
     subst (λ (r : Reading). IfSome r.point (λ _. SameDecls decls (newest_decls r.catalogues))) same here.same in
     subst (λ ds. SameDecls decls ds) (sym there.kept_are) (taken there.reading.point there.saved has)
 
--- Each line of the round is committed, in conflict at each of its tries, or found no usable slot at the last one; each of
--- the maintenance thread is done, and the round's last epoch is durable.
+-- Each line of the round is committed, in conflict at each of its tries, or at the last one found no usable slot or
+-- filled a set; each of the maintenance thread is done, and the round's last epoch is durable.
 pub record IsDone (ran : Ran) : Type 0 where
   pub all_run : AllByRecursion (AllByRecursion WasRun) ran.printed.outcomes
   pub answered : AllByRecursion IsAnswered ran.printed.answers
@@ -91,11 +88,6 @@ all_within tries (ran ∷ rans) caused counted tried = (
   subst (λ n. DrawsWithin n ran) tried.0 (counted_within ran caused.0 counted.0),
   all_within tries rans caused.1 counted.1 tried.1,
 )
-
-all_once : (rans : List Ran) → AllByRecursion DrawsAreCounted rans → AllByRecursion RunsPlainly rans
-    → AllByRecursion RunsOnce rans
-all_once [] counted plain = tt
-all_once (ran ∷ rans) counted plain = (counted_once ran counted.0 plain.0, all_once rans counted.1 plain.1)
 
 -- rounds of no script are none
 none_of_none : (rans : List Ran) → AreOfFirst rans [] → rans ≡ []
@@ -130,11 +122,6 @@ module _ {D : Type 0} (v : Vaults D) (options : RunOptions) (had left : Option B
   draws_within came = all_within options.tries came.course.rans came.caused.in_rounds.caused
       came.caused.in_rounds.counted came.caused.in_rounds.tried
 
-  -- Where a tree is declared each number is a commit's, and nobody is in a line's way.
-  pub runs_once : (came : Came v (Run options) had left Shows) → HasTree (decls_in came.course.script)
-      → AllByRecursion RunsOnce came.course.rans
-  runs_once came tree = all_once came.course.rans came.caused.in_rounds.counted (came.caused.in_rounds.plain tree)
-
   -- Where the source tells its bytes they are these.
   pub bytes_told : (came : Came v (Run options) had left Shows) (told : Bytes) → had ≡ Some told
       → told ≡ came.course.bytes
@@ -151,35 +138,22 @@ module _ {D : Type 0} (v : Vaults D) (options : RunOptions) (had left : Option B
       omega (arith, met, less)
   met_draws snap script opening rans caused below (inr before) = before.1
 
-  -- No run ends at the limit of the draws where a line has up to 16,383 tries, or a tree is declared.
-  pub never_at_draws : (came : Came v (Run options) had left Shows)
-      → (options.tries ≤ 16383) ⊎ HasTree (decls_in came.course.script) → came.course.ending ≡ AtLimit Draw → ⊥
-  never_at_draws came few is = of came.course.script came.read.script (whole_run came) (runs_once came) few
+  -- No run ends at the limit of the draws where a line has up to 16,383 tries.
+  pub never_at_draws : (came : Came v (Run options) had left Shows) → options.tries ≤ 16383
+      → came.course.ending ≡ AtLimit Draw → ⊥
+  never_at_draws came few is = of came.course.script came.read.script (whole_run came)
       (subst (λ (e : Ending). Comes v (Run options) came.course.bytes came.course.script came.course.opening
       came.course.rans e) is came.comes)
     where
-      below : (script : Script) → IsTextOf came.course.bytes script
-          → IsScriptRun script came.course.opening.state came.course.opening.saved came.course.rans came.course.state
-          → (HasTree script.decls → AllByRecursion RunsOnce came.course.rans)
-          → (options.tries ≤ 16383) ⊎ HasTree script.decls → AllByRecursion IsBelowDraws came.course.rans
-      below script text run once (inl few) =
-          below_draws came.course.bytes script came.course.opening.state came.course.opening.saved options.tries
-          came.course.rans came.course.state text run few (draws_within came)
-      below script text run once (inr tree) =
-          below_draws came.course.bytes script came.course.opening.state came.course.opening.saved 1 came.course.rans
-          came.course.state text run (omega arith)
-          (all_weaker RunsOnce (DrawsWithin 1) (λ ran r. once_within ran r.once) came.course.rans (once tree))
-
       of : (script : Option Script) → IfSome script (IsTextOf came.course.bytes)
           → IsRun (decls_in script) 0 (rounds_of script) came.course.opening.state
           (clock_after came.course.opening.saved) came.course.rans came.course.state
-          → (HasTree (decls_in script) → AllByRecursion RunsOnce came.course.rans)
-          → (options.tries ≤ 16383) ⊎ HasTree (decls_in script)
           → Comes v (Run options) came.course.bytes script came.course.opening came.course.rans (AtLimit Draw) → ⊥
-      of None text run once few comes = comes
-      of (Some script) text run once few comes =
+      of None text run comes = comes
+      of (Some script) text run comes =
           met_draws options.snap script came.course.opening came.course.rans came.caused.in_rounds.caused
-          (below script text run once few) comes
+          (below_draws came.course.bytes script came.course.opening.state came.course.opening.saved options.tries
+          came.course.rans came.course.state text run few (draws_within came)) comes
 
   -- With a script, a vault in its formats that has the script's storages, no device or stream that fails, no limit
   -- that is met, and memory, all is done.

@@ -3,7 +3,7 @@
 -- epochs that never fall; each worker's lines stand once, in order; each snapshot is that run through its epoch; after
 -- a stop before or within any write, recovery gives exactly the run through the saved epoch, which covers every line
 -- told durable. What else a call comes to, and for which commands this is said, stands in Answers.antt.
-use Rattle.std.specs.Prelude.{◌≡◌, true, ◌⊎◌, ◌+◌, ◌<◌, ◌≤◌, ℕ, List, [], flat_map, slice_get, Option, Some, None}
+use Rattle.std.specs.Prelude.{◌≡◌, ◌⊎◌, ◌+◌, ◌<◌, ◌≤◌, ℕ, List, [], flat_map, slice_get, Option, Some, None}
 use Rattle.std.specs.Prelude.{IfSome}
 use Rattle.std.specs.List.Sorted.{IsPermutation}
 use Rattle.outside.specs.Disk.{Only}
@@ -16,7 +16,7 @@ use Rattle.joint_crashes.specs.JointCrash.{parts_of, Moments}
 use Rattle.joint_crashes.specs.Resting.{IsResting, StopsNow}
 use Rattle.recovery_core.specs.Recoverable.{IsReading, IsRecoverable, Reading}
 use Rattle.tx_script.specs.Run.{AreOfFirst, Ran, RunsClocks, clock_after, of_worker, printed_commits}
-use Rattle.round_engine.specs.Histories.{ComeFromOne, are_arrays}
+use Rattle.round_engine.specs.Histories.{ComeFromOne}
 use Rattle.command_line.specs.declared.command.Command.{Command}
 use Rattle.program_calls.specs.Beginning.{Opening, SameDecls}
 use Rattle.program_calls.specs.Ending.{AreBytes, Comes, ReadsFirst}
@@ -127,11 +127,11 @@ pub record RestsBehindTheRun {D : Type 0} (v : Vaults D) (c : Course) : Type 0 w
 
 -- ---- one history
 
--- Where all storages are arrays, and each key that the call began with is one of theirs, the commits are those of one
--- history that the workers' threads shared: each is the attempt of its line's transaction, on its worker's seat.
-abbrev pub ComeFromWords : List Decl → State → List Entry → Type 0
-ComeFromWords decls s commits = (storages : List Decl) × SameDecls decls storages
-    × (are_arrays storages s ≡ true → ComeFromOne storages commits)
+-- The commits are those of one history that the workers' threads shared: each is the attempt of its line's transaction,
+-- on its worker's seat, whatever the storages are.
+abbrev pub ComeFromWords : List Decl → List Entry → Type 0
+ComeFromWords decls commits =
+    (storages : List Decl) × SameDecls decls storages × ComeFromOne storages commits
 
 -- ---- the main theorem
 
@@ -158,7 +158,7 @@ pub record Came {D : Type 0} (v : Vaults D) (command : Command) (had left : Opti
   pub kept : StandsForTheRun v course
   pub behind : RestsBehindTheRun v course
   -- The commits are of one history that the threads shared.
-  pub history : ComeFromWords (decls_in course.script) course.opening.state (printed_in course)
+  pub history : ComeFromWords (decls_in course.script) (printed_in course)
   -- Each outcome, each answer and each refusal has its cause.
   pub caused : AreCaused v (room_of command) (slots_asked command) (tries_asked command) (decls_in course.script)
       (rounds_of course.script) course.commits course.opening course.rans

@@ -48,7 +48,6 @@ use Rattle.tx_script.specs.Causes.{last_sequence}
 use Rattle.tx_script.specs.Run.{Ran, IsScriptRun, clock_after, printed_commits}
 use Rattle.tx_script.specs.StateText.{state_text}
 use Rattle.round_engine.specs.Begun.{begun}
-use Rattle.round_engine.specs.LineEngines.{SharesWords}
 use Rattle.round_engine.specs.Logs.{AreClosedFiles, AreLogs}
 use Rattle.round_engine.specs.Standing.{RuntimeState, StandsOn}
 use Rattle.round_engine.specs.declared.report.End.{End}
@@ -255,7 +254,7 @@ pub record BeginsRun {D : Type 0} (tells : D → Option Bytes) (clock : D → �
   pub snapshots : KeptSnapshots recovered settled
   pub begins : r ≡ begun settled.decls settled.state r.stands settled.save settled.store room
       (clock_after settled.saved.epoch)
-  pub slots_are : SharesWords r.stands → r.stands.slots ≡ slots
+  pub slots_are : r.stands.slots ≡ slots
   pub pages_whole : AllByRecursion IsWholePage settled.store.pages
   pub pages_fit : AllByRecursion (AllByRecursion (λ w. w < 2 ^ 64)) (words_of settled.store.pages)
   pub stands : StandsOn tells clock image_at r is
@@ -290,7 +289,7 @@ pub record RunsRounds {D : Type 0} (v : Vaults D) (snap slots tries : ℕ) (scri
   pub comes : RunComes v snap script opening rans ending
   pub caused : AreRoundsCaused slots tries script.decls script.rounds opening rans
   pub full : FilesAreFull v script.decls run.ordered opening rans
-  pub history : ComeFromWords script.decls opening.state (printed_commits 0 rans script.rounds)
+  pub history : ComeFromWords script.decls (printed_commits 0 rans script.rounds)
   pub files : RunsOverFiles v snap script.decls opening.state opening.saved run.ordered rans
   pub kept : KeepsRun v script.decls run.ordered opening state rans ending
   pub shown : Shows rans state ending

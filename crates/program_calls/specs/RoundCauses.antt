@@ -1,7 +1,7 @@
 -- Why a round came as it did: the epochs that it saved, the marks of its workers, the tries of its lines, and its log
 -- files.
 use Rattle.std.specs.Prelude.{◌≡◌, ◌+◌, ◌-◌, ◌<◌, ◌++◌, ℕ, List, [], ◌∷◌, length, option_to_list, slice_get, Bool}
-use Rattle.std.specs.Prelude.{filter, nat_lt, Option, Some, None, true, ⊤}
+use Rattle.std.specs.Prelude.{filter, nat_lt, Option, Some, None, ⊤}
 use Rattle.std.specs.List.{AllByRecursion}
 use Rattle.serial_model.specs.History.{Entry}
 use Rattle.serial_model.specs.State.{State}
@@ -12,11 +12,10 @@ use Rattle.tx_script.specs.Run.{LogFull, Ran}
 use Rattle.tx_script.specs.Causes.{AllCaused}
 use Rattle.tx_script.specs.CausedBeside.{CausedBeside}
 use Rattle.tx_script.specs.Conflicts.{AreMet}
-use Rattle.tx_script.specs.Draws.{DrawsAreCounted, HasTree, RunsPlainly}
+use Rattle.tx_script.specs.Draws.{DrawsAreCounted}
 use Rattle.wire_form.specs.LogFile.{lines_bytes}
 use Rattle.round_engine.specs.Changes.{AreLogged}
 use Rattle.round_engine.specs.Ends.{durable_of, end_of}
-use Rattle.round_engine.specs.Histories.{are_arrays}
 use Rattle.round_engine.specs.RanRound.{AreRoundMarks}
 use Rattle.round_engine.specs.Saves.{saves_told}
 use Rattle.command_line.specs.declared.command.Command.{Command}
@@ -65,27 +64,26 @@ abbrev pub slots_asked : Command → ℕ
 slots_asked (Run options) = options.slots
 slots_asked _ = 0
 
--- Where all storages are arrays, and each key that the call began with is one of theirs, each round has so many slots.
-abbrev pub HaveSlots : ℕ → List Decl → State → List Ran → Type 0
-HaveSlots slots decls s rans = (storages : List Decl) × SameDecls decls storages
-    × (are_arrays storages s ≡ true → AllByRecursion (λ ran. ran.beside.slots ≡ slots) rans)
+-- each round has so many slots
+abbrev pub HaveSlots : ℕ → List Ran → Type 0
+HaveSlots slots rans = AllByRecursion (λ ran. ran.beside.slots ≡ slots) rans
 
--- in the first of these rounds each try in conflict at a record met a line of another worker of its round, or pages were
--- dropped in the round; of one in conflict at a pointer or a slot nobody is told; and a line that found no slot may change
--- some key
-abbrev pub AllMet : List Ran → List Round → Type 0
-AllMet [] rounds = ⊤
-AllMet (ran ∷ rans) (round ∷ rounds) = AreMet ran round × AllMet rans rounds
-AllMet (ran ∷ rans) [] = ⊥
+-- In the first of these rounds each try in conflict at a record of an array met a line of another worker of its round,
+-- or pages were dropped in the round; of one in conflict at a pointer, a slot or a word of a tree nobody is told; a line
+-- that found no slot may change some key; and one that filled a set has an operation on a tree.
+abbrev pub AllMet : List Decl → List Ran → List Round → Type 0
+AllMet decls [] rounds = ⊤
+AllMet decls (ran ∷ rans) (round ∷ rounds) = AreMet decls ran round × AllMet decls rans rounds
+AllMet decls (ran ∷ rans) [] = ⊥
 
 -- Each outcome and each answer of the rounds has its cause, as has each epoch that was made durable; by the sequences
 -- of the savepoints, the marks of the workers, how often a line may be tried, and how many slots there are, which these
 -- causes speak of. Each number of a round was drawn for one of its commits, or for a try that was refused behind its
--- draw. A try in conflict at a record met a line of another worker of its round, at a key that it touches and that one
--- may change, or touches a key there in a round in which pages were dropped; of one in conflict at a pointer or a slot
--- nobody is told. A line that found no slot may change some key. Where a tree is declared nobody is in a line's way.
--- Saves that may run beside the workers name the least of the clock's epoch less 1 and of the marks that they saw; drops
--- of pages answer what the maintenance thread counted of them.
+-- draw. A try in conflict at a record of an array met a line of another worker of its round, at a key that it touches
+-- and that one may change, or touches a key there in a round in which pages were dropped; of one in conflict at a
+-- pointer, a slot or a word of a tree nobody is told. A line that found no slot may change some key, and one that filled
+-- a set has an operation on a tree. Saves that may run beside the workers name the least of the clock's epoch less 1 and
+-- of the marks that they saw; drops of pages answer what the maintenance thread counted of them.
 pub record AreRoundsCaused (slots tries : ℕ) (decls : List Decl) (rounds : List Round) (opening : Opening)
     (rans : List Ran) : Type 0 where
   pub caused : AllByRecursion AllCaused rans
@@ -95,9 +93,8 @@ pub record AreRoundsCaused (slots tries : ℕ) (decls : List Decl) (rounds : Lis
   pub marks : AreMarked rans rounds
   pub tried : AllByRecursion (λ ran. ran.beside.tries ≡ tries) rans
   pub counted : AllByRecursion DrawsAreCounted rans
-  pub met : AllMet rans rounds
-  pub plain : HasTree decls → AllByRecursion RunsPlainly rans
-  pub slotted : HaveSlots slots decls opening.state rans
+  pub met : AllMet decls rans rounds
+  pub slotted : HaveSlots slots rans
 
 -- the commit has an epoch above this one
 abbrev pub is_since : ℕ → Commit → Bool

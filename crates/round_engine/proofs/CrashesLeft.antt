@@ -7,7 +7,7 @@ use Rattle.std.specs.List.{AllByRecursion, Contains}
 use Rattle.std.proofs.lemmas.Bool.{cases_lt}
 use Rattle.std.proofs.lemmas.List.{append-nil, length-append, length-map, nil_from_length}
 use Rattle.std.proofs.lemmas.Option.{same_Some}
-use Rattle.lists.specs.Elements.{any_in, at_below, at_in}
+use Rattle.lists.specs.Elements.{at_below, at_in}
 use Rattle.lists.specs.Fronts.{IsFront, front_take, front_then}
 use Rattle.outside.specs.Disk.{Goes, Same}
 use Rattle.outside.specs.Fronts.{AllBegin, KeepsSince, begins_less, keeps_same}
@@ -41,8 +41,7 @@ use Rattle.joint_crashes.specs.Crashes.Standing.{crash_covers}
 use Rattle.tx_script.specs.Run.{Ran}
 use Rattle.round_engine.specs.Crashes.{BankShut, CarriesCrashes, front_of, KnowsBefore, LeavesCrashes, LeavesSince}
 use Rattle.round_engine.specs.Crashes.{StaysReady}
-use Rattle.round_engine.specs.Ends.{comes_to_save, comes_to_swap, durable_of, has_sequence, other_failed}
-use Rattle.round_engine.specs.Ends.{is_closed, swaps, where_true}
+use Rattle.round_engine.specs.Ends.{comes_to_swap, durable_of, swaps}
 use Rattle.tx_script.specs.Causes.{keeper_at_end}
 use Rattle.round_engine.specs.Logs.{AreClosedFiles, AreLogs, IsFirstAt, LeavesLog}
 use Rattle.round_engine.specs.RanRound.{LeavesVault, LogsRan}
@@ -56,10 +55,9 @@ use Rattle.round_engine.proofs.BanksCut.{closed_in_numbers, numbers_closed}
 use Rattle.round_engine.proofs.BanksShut.{shut_of}
 use Rattle.round_engine.proofs.Keeping.{at_append, bytes_front, goes_front, some_front, told_newest}
 use Rattle.round_engine.proofs.Numbered.{closed_at, closed_many, growing_at, growing_many, grows_not_closed}
-use Rattle.round_engine.proofs.Numbered.{same_growing}
-use Rattle.round_engine.proofs.Numbered.{numbered}
+use Rattle.round_engine.proofs.Numbered.{numbered, other_closed, other_growing, same_growing}
 use Rattle.round_engine.proofs.SinceCuts.{cuts_since}
-use Rattle.round_engine.proofs.Numbered.{other_closed, other_growing}
+use Rattle.round_engine.proofs.StoreFailed.{never_durable}
 use Rattle.round_engine.proofs.StopsNow.{epoch_at, last_at, newest_now, rise_at}
 use Rattle.round_engine.proofs.Stories.{count_begun, counted_behind, goes_after, pages_behind, point_begun}
 use Rattle.round_engine.proofs.Stories.{begun_at, open_same, point_behind, shut_same}
@@ -73,22 +71,6 @@ use Rattle.round_engine.proofs.CrashesUncut.{LeftUncut, left_uncut}
 
 true_false : true ≡ false → ⊥
 true_false is = cc
-
-some_none : (epoch : ℕ) → Some epoch ≡ None → ⊥
-some_none epoch is = cc
-
--- a store that failed makes nothing durable
-none_durable : (ran : Ran) → Contains ran.beside.devices Save → durable_of ran ≡ None
-none_durable ran has = none_by (comes_to_save ran) (has_sequence ran) (other_failed ran) failed
-  where
-    failed : other_failed ran ≡ true
-    failed = any_in (λ device. not (is_closed ran.beside.files device)) ran.beside.devices Save has refl
-
-    none_by : (a b c : Bool) → c ≡ true → where_true (a && (b && not c)) ran.printed.end.epoch ≡ None
-    none_by true true true is = refl
-    none_by true false c is = refl
-    none_by false b c is = refl
-    none_by true true false is = absurd cc
 
 -- ---- a round
 
@@ -216,7 +198,7 @@ module _ {D : Type 0} {tells : D → Option (List ℕ)} {clock : D → ℕ} {ima
         by None is = is
         by (Some saved) is =
             let has : Contains ran.beside.devices Save = leaves.has_stored.fails.0 (ap is_some is) in
-            absurd (some_none epoch (sym (durable_made epoch durable_now) ∙ none_durable ran has))
+            absurd (never_durable ran epoch has (durable_made epoch durable_now))
 
     swapped : (b : Bool) → swaps ran ≡ b → comes_to_swap ran ≡ true → Swapped
     swapped b b_is comes =

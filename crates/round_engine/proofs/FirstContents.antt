@@ -4,8 +4,8 @@ use Rattle.std.proofs.Common.{◌≡◌, ◌≢◌, ◌∙◌, ◌+◌, ◌≤�
 use Rattle.std.proofs.Common.{false, cond, true≢false, eqb, eqb-true, eq-eqb, ne_eqb, List, [], ◌∷◌, None, map, Some}
 use Rattle.std.proofs.Common.{length, slice_get}
 use Rattle.std.specs.Prelude.{nat_le}
-use Rattle.std.specs.List.{AllByRecursion, Contains, list_all}
-use Rattle.std.proofs.lemmas.Bool.{cases_Bool, and_parts, le-leb, leb-true}
+use Rattle.std.specs.List.{AllByRecursion, Contains}
+use Rattle.std.proofs.lemmas.Bool.{cases_Bool, le-leb, leb-true}
 use Rattle.lists.specs.Each.{AreDistinct}
 use Rattle.lists.specs.Elements.{at_in, in_cases, in_head, in_none, in_tail}
 use Rattle.serial_model.specs.declared.decl.Decl.{Decl}
@@ -20,9 +20,8 @@ use Rattle.homes.specs.Laws.{in_span-from, in_span-parts}
 use Rattle.wire_form.specs.Pages.{stored_decl}
 use Rattle.wire_form.specs.declared.records.Stored.{Stored}
 use Rattle.snapshot_store.specs.declared.place.PagePlace.{PagePlace}
-use Rattle.snapshot_store.specs.ArrayPages.{array_format}
 use Rattle.snapshot_store.specs.Content.{deepest, format_of, record_in, root_place, RootStands}
-use Rattle.snapshot_store.specs.Places.{Format, Found, find}
+use Rattle.snapshot_store.specs.Places.{Format, find}
 use Rattle.commit_core.specs.Keys.{content_at, nothing}
 use Rattle.drop_core.specs.declared.table.Table.{Table}
 use Rattle.drop_core.specs.Event.{leads_down}
@@ -34,13 +33,13 @@ use Rattle.engine_rule.specs.Reading.{name_of, named_places, page_at, roots_of, 
 use Rattle.engine_rule.proofs.PairLaws.{home-none, look-made}
 use Rattle.engine_rule.proofs.ReadOpens.{published_right}
 use Rattle.engine_pages.specs.BeginningLaws.{snap_below, snap_named}
-use Rattle.engine_pages.specs.Pages.{is_array as is_array_in, is_array_kind}
-use Rattle.engine_pages.specs.Resident.{ArePages, IsNamed, Published, found_content, place_for}
+use Rattle.engine_pages.specs.Pages.{decl_of, is_array_kind, is_tree_kind}
+use Rattle.engine_pages.specs.Resident.{ArePages, IsNamed, Published, found_content}
 use Rattle.dual_pointer.proofs.Below.{contents_below}
 use Rattle.dual_pointer.proofs.SnapWords.{home_zero}
+use Rattle.dual_pointer.proofs.TreeBelow.{tree_contents}
 use Rattle.page_opening.proofs.Contents.{declared_once}
 use Rattle.page_opening.proofs.Named.{IsNamedIn, Named, each_named, name_some, root_named}
-use Rattle.shared_rounds.specs.SharedState.{is_array}
 
 -- the record that the pages have at a key of the storage with its id
 abbrev pub content_in : List (List ℕ) → List Stored → Key → Content
@@ -58,27 +57,9 @@ span_in s = span_of (id_of s.decl) (root_of s)
 
 -- ---- storages
 
-array_read : (d : Decl) → is_array d ≡ true → format_of d ≡ array_format
-array_read (Array id size) is = refl
-array_read (Tree id) is = absurd (true≢false (sym is))
-
-kind_is : (d : Decl) → is_array d ≡ true → is_array_kind (Some d) ≡ true
-kind_is (Array id size) is = refl
-kind_is (Tree id) is = absurd (true≢false (sym is))
-
 root_low : (d : Decl) (root : ℕ) → (root_place d root).low ≡ 0
 root_low (Array id size) root = refl
 root_low (Tree id) root = refl
-
--- each of the storages is an array
-pub each_array : (ds : List Decl) → list_all is_array ds ≡ true → (d : Decl) → Contains ds d → is_array d ≡ true
-each_array [] all d has = absurd (in_none d has)
-each_array (x ∷ ds) all d has =
-    let parts = and_parts (is_array x) (list_all is_array ds) all in
-    elim (in_cases d x ds has) [
-      | inl is ↦ subst (λ (y : Decl). is_array y ≡ true) is parts.0
-      | inr more ↦ each_array ds parts.1 d more
-    ]
 
 -- a stored one is among those that are declared
 pub declared_in : (ss : List Stored) (s : Stored) → Contains ss s → Contains (map stored_decl ss) s.decl
@@ -102,7 +83,7 @@ none_later pages (x ∷ xs) k all =
 -- ---- the pages as the machine has them
 
 module _ (decls : List Decl) (pages : List (List ℕ)) (ss : List Stored) (slots : ℕ) (declared : AreDecls decls)
-    (arrays : list_all is_array decls ≡ true) (stand : AllByRecursion (RootStands pages) ss)
+    (stand : AllByRecursion (RootStands pages) ss)
     (among : (s : Stored) → Contains ss s → Contains decls s.decl) where
   abbrev places : List Named
   places = named_places pages ss
@@ -141,26 +122,36 @@ module _ (decls : List Decl) (pages : List (List ℕ)) (ss : List Stored) (slots
 
   -- ---- one storage
 
-  is_kind : (s : Stored) → Contains ss s → is_array_in decls (id_of s.decl) ≡ true
-  is_kind s has =
-      ap is_array_kind (declared_once decls declared.distinct s.decl (among s has))
-      ∙ kind_is s.decl (each_array decls arrays s.decl (among s has))
-
   -- a key below a root has what is found from there
   below_root : (s : Stored) → Contains ss s → (k : Key) → in_span (span_in s) k ≡ true
       → page_content (snap_home table (name_of places s.decl (root_of s)) k)
       ≡ found_content (find (format_of s.decl) pages deepest k.key (root_of s))
-  below_root s has k within =
-      let name-is : IsNamed places (span_in s) (root_of s).number (name_of places s.decl (root_of s)) = record {
+  below_root s has k within = by_kind s.decl refl
+    where
+      name-is : IsNamed places (span_in s) (root_of s).number (name_of places s.decl (root_of s))
+      name-is = record {
         decl = s.decl;
         storage = refl;
         is = refl;
         there = λ some. name_some places s.decl (root_of s) some (root_named pages ss stand s has some);
-      } in
-      contents_below decls published table declared are_pages down (span_in s) (root_of s).number
-      (name_of places s.decl (root_of s)) name-is (is_kind s has) k within
-      ∙ ap (λ (F : Format). found_content (find F pages deepest k.key (root_of s)))
-      (sym (array_read s.decl (each_array decls arrays s.decl (among s has))))
+      }
+
+      once : decl_of decls (id_of s.decl) ≡ Some s.decl
+      once = declared_once decls declared.distinct s.decl (among s has)
+
+      by_kind : (d : Decl) → s.decl ≡ d
+          → page_content (snap_home table (name_of places s.decl (root_of s)) k)
+          ≡ found_content (find (format_of s.decl) pages deepest k.key (root_of s))
+      by_kind (Array id size) is =
+          contents_below decls published table declared are_pages down (span_in s) (root_of s).number
+          (name_of places s.decl (root_of s)) name-is
+          (ap is_array_kind once ∙ ap (λ (d : Decl). is_array_kind (Some d)) is) k within
+          ∙ ap (λ (F : Format). found_content (find F pages deepest k.key (root_of s))) (sym (ap format_of is))
+      by_kind (Tree id) is =
+          tree_contents decls published table declared are_pages down (span_in s) (root_of s).number
+          (name_of places s.decl (root_of s)) name-is
+          (ap is_tree_kind once ∙ ap (λ (d : Decl). is_tree_kind (Some d)) is) k within
+          ∙ ap (λ (F : Format). found_content (find F pages deepest k.key (root_of s))) (sym (ap format_of is))
 
   -- a key of a storage's range is below its root
   inside : (s : Stored) (k : Key) → eqb (id_of s.decl) k.storage ≡ true → nat_le k.key (root_of s).high ≡ true

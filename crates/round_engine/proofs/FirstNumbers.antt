@@ -2,8 +2,8 @@
 use Rattle.std.proofs.Common.{◌≡◌, ◌∙◌, ◌+◌, ◌-◌, ◌≤◌, ◌<◌, inl, inr, sym, ap, subst, refl, arith, ℕ, zero, suc, Bool}
 use Rattle.std.proofs.Common.{true, false, cond, eqb, List, [], ◌∷◌, ◌++◌, Option, None, Some, length, slice_index}
 use Rattle.std.specs.Prelude.{nat_le, if◌then◌else◌}
-use Rattle.std.specs.List.{AllByRecursion, Contains, flat_map, list_all}
-use Rattle.std.proofs.lemmas.Bool.{cases_Bool, cases_eq, cond-true, le-leb}
+use Rattle.std.specs.List.{AllByRecursion, Contains, flat_map}
+use Rattle.std.proofs.lemmas.Bool.{cases_eq, cond-true, le-leb}
 use Rattle.std.proofs.lemmas.Bool.Decides.{nat_tests}
 use Rattle.lists.specs.Each.{all_append}
 use Rattle.lists.specs.Elements.{in_cases, in_head, in_none, in_tail}
@@ -18,14 +18,15 @@ use Rattle.wire_form.specs.Words.{number_in}
 use Rattle.wire_form.specs.declared.records.Stored.{Stored}
 use Rattle.snapshot_store.specs.declared.place.PagePlace.{PagePlace}
 use Rattle.snapshot_store.specs.ArrayPages.{array_below, array_found, array_look}
-use Rattle.snapshot_store.specs.Content.{deepest, format_of, record_in, root_place, RootStands}
-use Rattle.snapshot_store.specs.Places.{Cover, Found, Tiles, at_key, find, here_or_below, page, places_below, words_at}
+use Rattle.snapshot_store.specs.Content.{deepest, format_of, record_in, root_place, IsPageOf, RootStands}
+use Rattle.snapshot_store.specs.TreePages.{IsTreePage, node_of, record_for, records_of, tree_format}
+use Rattle.snapshot_store.specs.Places.{Cover, Found, Tiles, at_key, find, here_or_below, places_below, words_at}
 use Rattle.engine_rule.specs.Reading.{AreBelow, RecordsAreBelow, array_entries, entry_of, key_at, led_places}
 use Rattle.engine_rule.specs.Reading.{named_places, page_at, page_from, page_in}
 use Rattle.engine_rule.proofs.ReadLists.{at_each, from_flat, in_either}
-use Rattle.engine_rule.proofs.ReadNames.{Stand, led_is}
+use Rattle.engine_rule.proofs.ReadNames.{Stand, led_is, led_stands}
 use Rattle.page_opening.proofs.Named.{Named}
-use Rattle.shared_rounds.specs.SharedState.{is_array}
+use Rattle.round_engine.proofs.TreeNumbers.{page_records}
 
 -- ---- places in a row
 
@@ -208,17 +209,47 @@ module _ (first : Number) (pages : List (List ℕ)) (places : List Named) where
           ∙ (ap (λ (qs : List PagePlace). here_or_below (array_look (words_at pages p) p.low (p.low + i))
           (at_key (p.low + i) (find (format_of (Array id size)) pages r.depth (p.low + i)) qs) qs) is ∙ at)))
 
-  by_kind : (s : Stored) (d : Decl) → s.decl ≡ d → is_array d ≡ true → IsOlder first pages s → (p : PagePlace)
-      → IsReached d pages deepest (root_place d s.root) (d, p) → AreBelow first (page_at pages places (d, p))
-  by_kind s (Array id size) decl kind older p r = page_below s id size decl older p r
-  by_kind s (Tree id) decl kind older p r = absurd cc
+  -- and each page of a tree
+  page_tree : (s : Stored) (id : ℕ) → s.decl ≡ Tree id → IsOlder first pages s → (p : PagePlace) → 0 < p.number
+      → IsTreePage p (words_at pages p)
+      → IsReached (Tree id) pages deepest (root_place (Tree id) s.root) (Tree id, p)
+      → AreBelow first (page_at pages places (Tree id, p))
+  page_tree s id decl older p some right r = by_below (places_below tree_format pages p) refl
+    where
+      record_is : (key : ℕ) → p.low ≤ key → key ≤ p.high
+          → record_in pages s key ≡ find tree_format pages (suc r.depth) key p
+      record_is key from to =
+          let high : key ≤ (root_place (Tree id) s.root).high = let within = r.to in omega (arith, within, to) in
+          ap (λ (d : Decl). let o : Option Found = cond (nat_le key (root_place d s.root).high)
+          (find (format_of d) pages deepest key (root_place d s.root)) None in o) decl
+          ∙ (ap (λ b. let o : Option Found = cond b
+          (find tree_format pages deepest key (root_place (Tree id) s.root)) None in o)
+          (le-leb key (root_place (Tree id) s.root).high high)
+          ∙ r.finds key from to)
 
-  named_below : (s : Stored) → is_array s.decl ≡ true → IsOlder first pages s → (e : Named)
+      by_below : (qs : List PagePlace) → places_below tree_format pages p ≡ qs
+          → AreBelow first (page_from places (Tree id) (words_at pages p) p qs)
+      by_below (q ∷ qs) is = tt
+      by_below [] is =
+          page_records first id p (words_at pages p) some right (λ key from to f at.
+          older key f (record_is key from to
+          ∙ (ap (λ (qs : List PagePlace). here_or_below
+          (record_for (records_of (node_of (words_at pages p))) key)
+          (at_key key (find tree_format pages r.depth key) qs) qs) is ∙ at)))
+
+  by_kind : (s : Stored) (d : Decl) → s.decl ≡ d → IsOlder first pages s → (p : PagePlace) → 0 < p.number
+      → IsPageOf d p (words_at pages p)
+      → IsReached d pages deepest (root_place d s.root) (d, p) → AreBelow first (page_at pages places (d, p))
+  by_kind s (Array id size) decl older p some right r = page_below s id size decl older p r
+  by_kind s (Tree id) decl older p some right r = page_tree s id decl older p some right r
+
+  named_below : (s : Stored) → IsOlder first pages s → (e : Named) → 0 < (e.1).number
+      → IsPageOf e.0 e.1 (words_at pages e.1)
       → IsReached s.decl pages deepest (root_place s.decl s.root) e → AreBelow first (page_at pages places e)
-  named_below s kind older e r =
+  named_below s older e some right r =
       let is : (s.decl, e.1) ≡ e = ap (λ (d : Decl). let z : Named = (d, e.1) in z) (sym r.same) in
       subst (λ (z : Named). AreBelow first (page_at pages places z)) is
-      (by_kind s s.decl refl kind older e.1
+      (by_kind s s.decl refl older e.1 some (subst (λ (d : Decl). IsPageOf d e.1 (words_at pages e.1)) r.same right)
       (subst (λ (z : Named). IsReached s.decl pages deepest (root_place s.decl s.root) z) (sym is) r))
 
 each_of : {A : Type 0} (P : A → Type 0) (xs : List A) → ((x : A) → Contains xs x → P x) → AllByRecursion P xs
@@ -227,11 +258,12 @@ each_of P (x ∷ xs) each = (each x (in_head x xs), each_of P xs (λ y has. each
 
 -- where each record that is found has a number below this one, so has each in the pages that the roots lead to
 pub all_below : (first : Number) (pages : List (List ℕ)) (ss : List Stored) → AllByRecursion (RootStands pages) ss
-    → ((s : Stored) → Contains ss s → is_array s.decl ≡ true) → ((s : Stored) → Contains ss s → IsOlder first pages s)
-    → RecordsAreBelow first pages (named_places pages ss)
-all_below first pages ss stand arrays older =
+    → ((s : Stored) → Contains ss s → IsOlder first pages s) → RecordsAreBelow first pages (named_places pages ss)
+all_below first pages ss stand older =
     each_of (λ (e : Named). AreBelow first (page_at pages (named_places pages ss) e)) (named_places pages ss) (λ e has.
     let s = from_flat (λ (s : Stored). led_places s.decl pages deepest (root_place s.decl s.root)) ss e has in
-    named_below first pages (named_places pages ss) s.0 (arrays s.0 s.1) (older s.0 s.1) e
-    (reached (s.0).decl pages deepest (root_place (s.0).decl (s.0).root) (at_each (RootStands pages) ss s.0 stand s.1)
-    e s.2))
+    let root : PagePlace = root_place (s.0).decl (s.0).root in
+    let at = at_each (RootStands pages) ss s.0 stand s.1 in
+    let led = led_stands pages (s.0).decl deepest root at e s.2 in
+    named_below first pages (named_places pages ss) s.0 (older s.0 s.1) e led.some led.stands.right
+    (reached (s.0).decl pages deepest root at e s.2))

@@ -8,8 +8,8 @@ use Rattle.std.proofs.lemmas.List.{append-nil}
 use Rattle.std.proofs.lemmas.List.Elements.{Contains-append_cases, Contains-append_left}
 use Rattle.std.proofs.lemmas.List.Sums.{fold-append}
 use Rattle.std.proofs.lemmas.Option.{same_Some}
-use Rattle.lists.specs.Each.{all_append, all_replicate, all_weaker}
-use Rattle.lists.specs.Elements.{in_cases, in_none}
+use Rattle.lists.specs.Each.{all_replicate}
+use Rattle.lists.specs.Elements.{in_none}
 use Rattle.lists.specs.Fronts.{IsFront}
 use Rattle.outside.specs.Moments.{runs_none}
 use Rattle.outside.specs.Reads.{OnlyReads}
@@ -25,17 +25,14 @@ use Rattle.log_writer.specs.declared.saved.Saved.{Saved}
 use Rattle.tx_script.specs.CausedBeside.{SavesSee}
 use Rattle.tx_script.specs.Causes.{AnswersCaused, KeeperAt, keeper_after}
 use Rattle.tx_script.specs.Run.{Ran}
-use Rattle.tx_script.specs.Seen.{AreNoLess}
-use Rattle.tx_script.specs.SeenLaws.{none_less}
 use Rattle.tx_script.specs.declared.answer.Answer.{Answer}
 use Rattle.tx_script.specs.declared.answer.Answer.TheVariants as answers
-use Rattle.worker_logs.specs.Saves.{logs_marks}
 use Rattle.worker_logs.specs.declared.savepoints.Beside.{Beside}
 use Rattle.worker_logs.specs.declared.savepoints.Side.{Side}
 use Rattle.worker_logs.specs.declared.savepoints.Side.TheVariants.{Even, Odd}
 use Rattle.round_engine.specs.Ends.{first_device, wants_memory, save_limited}
-use Rattle.round_engine.specs.Keeping.{answers_end, CanKeep, epochs_in, GoOn, IsSavedBySeen, is_limited, is_refusal, keeper_on, refusal_told}
-use Rattle.round_engine.specs.Keeping.{RunsBehind, RunsKeeper, seen_by, seen_unless, SeenAmong, StepsEpoch, StepsKeeper}
+use Rattle.round_engine.specs.Keeping.{answers_end, CanKeep, IsSavedBySeen, is_limited, is_refusal, keeper_on, refusal_told}
+use Rattle.round_engine.specs.Keeping.{RunsKeeper, seen_by, seen_unless, SeenAmong, StepsEpoch, StepsKeeper}
 use Rattle.round_engine.specs.Drops.{counts_of, drops_if}
 use Rattle.round_engine.specs.Keeping.{StepsDrop, StepsLine}
 use Rattle.round_engine.specs.Saves.{AreSavedIn, beside_after, beside_at_end, beside_at_save, GoesBy}
@@ -408,71 +405,6 @@ keeper_begin {tells = tells} {clock} {image_at} {faults} r vault ready = record 
   tie_room = omega arith;
   cut_room = refl;
 }
-
--- ---- behind the workers' lines
-
--- no line so far
-pub behind_begin : {D : Type 0} {tells : D → Option (List ℕ)} {clock : D → ℕ} {image_at : D → ℕ → List ℕ → Type 0}
-    {faults : D → ℕ} (r : RuntimeState) (vault : Vault D) → CanKeep tells clock image_at r vault
-    → RunsBehind tells clock image_at faults [] [] None r r vault vault
-behind_begin r vault ready = record { seen = []; sees = tt; runs = keeper_begin r vault ready }
-
--- lines that were not refused leave what the next one needs
-pub behind_can : {D : Type 0} {tells : D → Option (List ℕ)} {clock : D → ℕ} {image_at : D → ℕ → List ℕ → Type 0}
-    {faults : D → ℕ} {lines : List KeeperLine} {said : List Answer} {old mid : RuntimeState} {before between : Vault D}
-    → CanKeep tells clock image_at old before
-    → RunsBehind tells clock image_at faults lines said None old mid before between
-    → CanKeep tells clock image_at mid between
-behind_can ready b = can_keep ready b.runs
-
--- each of those that were seen
-pub each_seen : {marks : List Mark} (seen : List (List Mark)) (one : List Mark)
-    → AllByRecursion (λ (other : List Mark). other ≡ marks) seen → Contains seen one → one ≡ marks
-each_seen [] one all has = absurd (in_none one has)
-each_seen {marks = marks} (first ∷ seen) one all has = elim (in_cases one first seen has) [
-  | inl is ↦ sym is ∙ all.0
-  | inr later ↦ each_seen seen one all.1 later
-]
-
--- marks that stay go on
-pub same_go_on : (marks : List Mark) (seen : List (List Mark)) → AllByRecursion (λ (other : List Mark). other ≡ marks) seen
-    → GoOn marks seen
-same_go_on marks [] all = tt
-same_go_on marks (first ∷ seen) all = (
-  subst (λ l. AreNoLess (epochs_in marks) (epochs_in l)) (sym all.0) (none_less (epochs_in marks)),
-  same_go_on first seen (all_weaker (λ (other : List Mark). other ≡ marks) (λ (other : List Mark). other ≡ first)
-      (λ other is. is ∙ sym all.0) seen all.1),
-)
-
--- what a line sees is what it could see
-seen_one : (P : List Mark → Type 0) (line : KeeperLine) (marks : List Mark) → P marks
-    → AllByRecursion P (seen_by line marks)
-seen_one P asks.Save marks is = (is, tt)
-seen_one P asks.Epoch marks is = tt
-seen_one P asks.Glean marks is = tt
-seen_one P asks.Drop marks is = tt
-
--- A line is answered.
-pub behind_step : {D : Type 0} {tells : D → Option (List ℕ)} {clock : D → ℕ} {image_at : D → ℕ → List ℕ → Type 0}
-    {faults : D → ℕ} {lines : List KeeperLine} {said : List Answer} {old mid : RuntimeState} {before between : Vault D}
-    → CanKeep tells clock image_at old before → (refusal : Option End) (line : KeeperLine) (answer : Answer)
-    (next : Option End) {new : RuntimeState} {now : Vault D}
-    → RunsBehind tells clock image_at faults lines said refusal old mid before between
-    → StepsKeeper tells clock image_at faults (logs_marks mid.logs) refusal line answer next mid new between now
-    → RunsBehind tells clock image_at faults (lines ++ line ∷ []) (said ++ answer ∷ []) next old new before now
-behind_step {tells = tells} {clock} {image_at} {faults} {old = old} {mid = mid} ready refusal line answer next b step =
-    record {
-      seen = b.seen ++ seen_unless refusal line (logs_marks mid.logs);
-      sees = all_append (λ (marks : List Mark). marks ≡ logs_marks old.logs) b.seen
-          (seen_unless refusal line (logs_marks mid.logs)) b.sees (sees refusal);
-      runs = keeper_step ready (logs_marks mid.logs) refusal line answer next b.runs step;
-    }
-  where
-    sees : (refusal : Option End) → AllByRecursion (λ (marks : List Mark). marks ≡ logs_marks old.logs)
-        (seen_unless refusal line (logs_marks mid.logs))
-    sees (Some end) = tt
-    sees None = seen_one (λ (marks : List Mark). marks ≡ logs_marks old.logs) line (logs_marks mid.logs)
-        (ap logs_marks b.runs.logs)
 
 -- ---- the last sequence
 

@@ -1,4 +1,3 @@
-pub mod Alone
 pub mod Beginning
 pub mod Beside
 pub mod Devices
@@ -13,7 +12,6 @@ pub mod SharesRun
 pub mod Published
 mod RoundCases
 pub mod RoundDone
-pub mod RoundStops
 pub mod Saved
 pub mod Whole
 pub mod JoinAlone
@@ -48,17 +46,19 @@ pub mod BanksShut
 pub mod FileBytes
 pub mod UncutVault
 pub mod CrashesUncut
+pub mod StoreFailed
 pub mod CrashesLeft
 pub mod StopsNow
 pub mod Stories
 pub mod Swapping
-mod LineEngines
 mod NothingRun
 mod WhoseLines
 mod Called
+mod Declared
 pub mod Taking
 pub mod FirstContents
 pub mod FirstNumbers
+pub mod TreeNumbers
 pub mod Opened
 pub mod SideSteps
 pub mod SideCalls
@@ -68,6 +68,5 @@ pub mod RoundMarks
 pub mod Together
 pub mod Placed
 pub mod SinceCuts
-pub mod InTurn
 pub mod MayBegin
 pub mod LentParts

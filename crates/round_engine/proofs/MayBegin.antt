@@ -86,6 +86,10 @@ module _ {D : Type 0} {tells : D → Option (List ℕ)} {clock : D → ℕ} {ima
           can = subst (λ x. CanKeep tells clock image_at x apart) (sym (lent_is v.layout.decls v))
               (bare_can r before apart can out none_grows v may);
           decls = refl;
+          past = λ some.
+              let shut : lent.closed_at ≡ r.closed_at =
+              ap (λ (x : RuntimeState). x.closed_at) (lent_is v.layout.decls v) in
+              omega (arith, shut, can.closed.before, begun.1, may.begins.past, may.begins.epoch);
           slots = omega (arith, may.slots, may.begins.slots);
           few = may.begins.few;
           claimed = may.begins.claimed;

@@ -7,11 +7,11 @@ use Rattle.log_writer.specs.declared.vault.Vault.{Vault}
 use Rattle.script_grammar.specs.Script.{Round}
 use Rattle.log_writer.specs.Save.{IsStored}
 use Rattle.worker_logs.specs.Saves.{closed_number, growing_number}
-use Rattle.round_engine.specs.Phases.{RunsAll, RunsSome}
+use Rattle.round_engine.specs.Phases.{RunsAll}
 use Rattle.round_engine.specs.Sides.{growing_in}
 use Rattle.round_engine.specs.Standing.{HasSnapshot, RuntimeState, StandsOn}
 use Rattle.round_engine.specs.Unbegun.{RoomAlone}
-use Rattle.round_engine.specs.Workers.{RunsWorkers, StopsWorkers}
+use Rattle.round_engine.specs.Workers.{RunsWorkers}
 use Rattle.round_engine.specs.declared.report.Report.{Report}
 use Rattle.round_engine.proofs.RunRound.{same_growing_in}
 
@@ -70,7 +70,7 @@ module _ {D : Type 0} {before lent : Vault D} (room : RoomAlone before lent) whe
     }
 
   module _ {tells : D → Option (List ℕ)} {clock : D → ℕ} {image_at : D → ℕ → List ℕ → Type 0} {faults : D → ℕ} where
-    -- a round that was run over it is one over the vault before, and so is one that stopped
+    -- a round that was run over it is one over the vault before
     pub all_in_room : {tries : ℕ} {round : Round} {old new : RuntimeState} {now : Vault D} {report : Report}
         → RunsAll tells clock image_at faults tries round old new lent now report
         → RunsAll tells clock image_at faults tries round old new before now report
@@ -88,7 +88,6 @@ module _ {D : Type 0} {before lent : Vault D} (room : RoomAlone before lent) whe
       lines = subst (λ b. RunsWorkers tells clock image_at faults tries round old.stands all.worked report.outcomes
           all.ends all.marks all.readied old.logs all.mid.logs b (growing_in old.side all.between))
           (same_growing_in old.side before lent room) all.lines;
-      once = all.once;
       history = all.history;
       alone = all.alone;
       later = all.later;
@@ -105,21 +104,4 @@ module _ {D : Type 0} {before lent : Vault D} (room : RoomAlone before lent) whe
       draw_is = all.draw_is;
       full_is = all.full_is;
       join = all.join;
-    }
-
-    pub some_in_room : {tries : ℕ} {round : Round} {old new : RuntimeState} {now : Vault D}
-        → RunsSome tells clock image_at faults tries round old new lent now
-        → RunsSome tells clock image_at faults tries round old new before now
-    some_in_room {tries = tries} {round = round} {old = old} {new = new} {now = now} some = record {
-      marks = some.marks;
-      readied = some.readied;
-      stops = subst (λ b. StopsWorkers tells clock image_at faults tries round old.stands new.stands some.marks
-          some.readied old.logs new.logs b (growing_in old.side now)) (same_growing_in old.side before lent room)
-          some.stops;
-      alone = some.alone;
-      epoch = some.epoch;
-      pages = some.pages;
-      lent = some.lent;
-      room = room_then room some.room;
-      beside = some.beside;
     }

@@ -3,15 +3,14 @@ use Rattle.std.proofs.Common.{◌≡◌, ◌≢◌, ◌∙◌, ◌≤◌, ◌-�
 use Rattle.std.proofs.Common.{true≢false, eqb, eqb-true, eq-eqb, ne_eqb, ltb, List, [], ◌∷◌, Option, Some, None, map}
 use Rattle.std.proofs.Common.{length}
 use Rattle.std.specs.Prelude.{◌||◌}
-use Rattle.std.specs.List.{AllByRecursion, Contains, list_all}
-use Rattle.std.specs.FinMap.{entries, find, get, get-entries, same_map}
-use Rattle.std.specs.Ordering.{eq_by_cmp}
+use Rattle.std.specs.List.{AllByRecursion, Contains}
+use Rattle.std.specs.FinMap.{same_map}
 use Rattle.std.proofs.lemmas.Bool.{cases_Bool, and_left, and_parts}
 use Rattle.std.proofs.lemmas.List.{length-map}
 use Rattle.lists.specs.Each.{AreDistinct}
 use Rattle.serial_model.specs.Decls.{AreDecls}
-use Rattle.serial_model.specs.KeyOrder.{keys_total, exact_keys, same_by_test}
-use Rattle.serial_model.specs.Keys.{has_key, has_key_of, id_of, key_cmp}
+use Rattle.serial_model.specs.KeyOrder.{keys_total, exact_keys}
+use Rattle.serial_model.specs.Keys.{has_key, has_key_of, id_of}
 use Rattle.serial_model.specs.Numbers.{IsNumber}
 use Rattle.serial_model.specs.State.{State}
 use Rattle.serial_model.specs.declared.decl.Decl.{Decl}
@@ -22,7 +21,7 @@ use Rattle.homes.specs.declared.places.Content.{Content}
 use Rattle.wire_form.specs.Pages.{Contents, decls_of, stored_decl}
 use Rattle.wire_form.specs.declared.page.Page.{Page}
 use Rattle.wire_form.specs.declared.records.Stored.{Stored}
-use Rattle.snapshot_store.specs.Content.{IsContent, RootStands, record_in, value_at, value_of, words_of}
+use Rattle.snapshot_store.specs.Content.{RootStands, record_in, value_at, value_of, words_of}
 use Rattle.snapshot_store.specs.Places.{Found}
 use Rattle.commit_core.specs.Keys.{content_at, nothing}
 use Rattle.engine_rule.specs.Opening.{opening_pairs}
@@ -32,9 +31,10 @@ use Rattle.engine_pages.specs.Resident.{found_content}
 use Rattle.page_opening.specs.Making.{CanMake}
 use Rattle.recovery_core.specs.NewestSnapshot.{AreUpTo, IsNewestSnapshot}
 use Rattle.shared_rounds.specs.OpenedLaws.{opened_is}
-use Rattle.shared_rounds.specs.SharedState.{are_arrays, is_array, opened}
+use Rattle.shared_rounds.specs.SharedState.{opened}
+use Rattle.round_engine.proofs.Declared.{opens_declared}
 use Rattle.round_engine.specs.FirstRecords.{first_layout, root_in, stands_in}
-use Rattle.round_engine.proofs.FirstContents.{content_in, declared_in, each_array, opens_with}
+use Rattle.round_engine.proofs.FirstContents.{content_in, declared_in, opens_with}
 use Rattle.round_engine.proofs.FirstNumbers.{IsOlder, all_below}
 
 -- ---- the records of the pages
@@ -131,32 +131,6 @@ stands_there pages (s ∷ more) k distinct has =
           ]
     ]
 
--- ---- the state
-
--- a key that no storage has is none of those that have a value
-none_found : (decls : List Decl) (k : Key) → has_key decls k ≡ false → (es : List (Key × ℕ))
-    → list_all (λ e. has_key decls e.0) es ≡ true → find key_cmp k es ≡ None
-none_found decls k none [] have = refl
-none_found decls k none (e ∷ es) have =
-    let parts = and_parts (has_key decls e.0) (list_all (λ e. has_key decls e.0) es) have in
-    by_test (eq_by_cmp key_cmp k e.0) refl (none_found decls k none es parts.1) parts.0
-  where
-    by_test : (b : Bool) → eq_by_cmp key_cmp k e.0 ≡ b → find key_cmp k es ≡ None → has_key decls e.0 ≡ true
-        → cond b (Some e.1) (find key_cmp k es) ≡ None
-    by_test false is rest has = rest
-    by_test true is rest has =
-        absurd (true≢false (sym has ∙ ap (has_key decls) (sym (same_by_test k e.0 is)) ∙ none))
-
-pub all_arrays : (decls : List Decl) (state : State) → are_arrays decls state ≡ true → list_all is_array decls ≡ true
-all_arrays decls state arrays =
-    (and_parts (list_all is_array decls) (list_all (λ e. has_key decls e.0) (entries state)) arrays).0
-
-none_valued : (decls : List Decl) (state : State) (k : Key) → are_arrays decls state ≡ true → has_key decls k ≡ false
-    → get state k ≡ None
-none_valued decls state k arrays none =
-    get-entries state k ∙ none_found decls k none (entries state)
-    (and_parts (list_all is_array decls) (list_all (λ e. has_key decls e.0) (entries state)) arrays).1
-
 -- ---- numbers
 
 -- records up to the epoch before the first number are older than that
@@ -182,7 +156,7 @@ pub record Starts (pages : List Page) (ss : List Stored) (state : State) (l : La
 
 module _ (pages : List Page) (contents : Contents) (state : State) (first : Number) (slots room : ℕ)
     (many : length pages ≤ room) (few : room ≤ 65536) (some : 1 ≤ slots) (most : slots ≤ 4096) (declared : AreDecls (decls_of contents))
-    (arrays : are_arrays (decls_of contents) state ≡ true) (number : IsNumber first)
+    (number : IsNumber first)
     (is : IsNewestSnapshot (words_of pages) (length pages) (decls_of contents) state (first.epoch - 1) contents) where
   abbrev ps : List (List ℕ)
   ps = words_of pages
@@ -196,10 +170,6 @@ module _ (pages : List Page) (contents : Contents) (state : State) (first : Numb
   abbrev again : List Stored
   again = storages (decls_of contents) (map root_in ss)
 
-  kinds : (s : Stored) → Contains ss s → is_array s.decl ≡ true
-  kinds s has =
-      each_array (decls_of contents) (all_arrays (decls_of contents) state arrays) s.decl (declared_in ss s has)
-
   can_make : CanMake start
   can_make = record {
     pages = pages;
@@ -211,7 +181,7 @@ module _ (pages : List Page) (contents : Contents) (state : State) (first : Numb
       stand = subst (AllByRecursion (RootStands ps)) (sym (stored_again ss)) is.stands.roots;
       number = number;
       below = subst (λ (xs : List Stored). RecordsAreBelow first ps (named_places ps xs)) (sym (stored_again ss))
-          (all_below first ps ss is.stands.roots kinds (older_than ps ss contents.epoch first number is.up_to is.older));
+          (all_below first ps ss is.stands.roots (older_than ps ss contents.epoch first number is.up_to is.older));
     };
     some = omega (arith, some);
     slots = most;
@@ -224,7 +194,7 @@ module _ (pages : List Page) (contents : Contents) (state : State) (first : Numb
   content_is k =
       ap (λ (xs : List Stored). content_at (opening_pairs (snaps_of ps (named_places ps xs)) (length (named_places ps xs))
       (roots_of (named_places ps xs) xs) slots) k) (stored_again ss)
-      ∙ opens_with (decls_of contents) ps ss slots declared (all_arrays (decls_of contents) state arrays) is.stands.roots
+      ∙ opens_with (decls_of contents) ps ss slots declared is.stands.roots
       (declared_in ss) declared.distinct k
 
   opens_is : (k : Key) → content_in ps ss k ≡ stands_in ps ss k
@@ -232,7 +202,8 @@ module _ (pages : List Page) (contents : Contents) (state : State) (first : Numb
       elim (cases_Bool (has_key (decls_of contents) k)) [
         | inl has ↦ stands_there ps ss k declared.distinct has
         | inr none ↦
-            blank_in ps ss k (sym (is.content k) ∙ none_valued (decls_of contents) state k arrays none)
+            blank_in ps ss k (sym (value_in ps ss k) ∙ (ap (λ (c : Content). c.value) (sym (content_is k))
+            ∙ opens_declared start can_make refl k none))
             ∙ sym (stands_none ps ss k none)
       ]
 
@@ -247,12 +218,11 @@ module _ (pages : List Page) (contents : Contents) (state : State) (first : Numb
 
 -- so it is for the storages that a state was recovered with
 pub starts : (pages : List Page) (contents : Contents) (decls : List Decl) (state : State) (first : Number)
-    (slots room : ℕ) → length pages ≤ room → room ≤ 65536 → 1 ≤ slots → slots ≤ 4096 → AreDecls decls → are_arrays decls state ≡ true → IsNumber first
+    (slots room : ℕ) → length pages ≤ room → room ≤ 65536 → 1 ≤ slots → slots ≤ 4096 → AreDecls decls → IsNumber first
     → IsNewestSnapshot (words_of pages) (length pages) decls state (first.epoch - 1) contents
     → Starts pages contents.storages state (first_layout first decls contents.storages slots room pages)
-starts pages contents decls state first slots room many few some most declared arrays number is =
+starts pages contents decls state first slots room many few some most declared number is =
     let same : decls ≡ decls_of contents = is.decls_are in
     subst (λ ds. Starts pages contents.storages state (first_layout first ds contents.storages slots room pages)) (sym same)
-    (starts_here pages contents state first slots room many few some most (subst AreDecls same declared)
-    (subst (λ ds. are_arrays ds state ≡ true) same arrays) number
+    (starts_here pages contents state first slots room many few some most (subst AreDecls same declared) number
     (subst (λ ds. IsNewestSnapshot (words_of pages) (length pages) ds state (first.epoch - 1) contents) same is))

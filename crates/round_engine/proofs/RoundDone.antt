@@ -35,7 +35,6 @@ use Rattle.worker_logs.specs.Saves.{closed_number, growing_number}
 use Rattle.worker_logs.specs.declared.savepoints.Side.{Side}
 use Rattle.worker_logs.specs.declared.savepoints.Side.TheVariants.{Even, Odd}
 use Rattle.worker_logs.specs.Rows.{AreLogsUp, IsBeforeOne, IsLogUp, KeepsMarkIn, NeverFall}
-use Rattle.shared_rounds.specs.SharedState.{are_arrays}
 use Rattle.shared_rounds.specs.Shares.{BeginsAt, shown_epochs}
 use Rattle.round_engine.specs.Changes.{AreLogged}
 use Rattle.round_engine.specs.Crashes.{CarriesCrashes}
@@ -56,7 +55,6 @@ use Rattle.round_engine.specs.Logs.{IsRefusedBy}
 use Rattle.round_engine.specs.Workers.{LeavesOut, idled}
 use Rattle.round_engine.specs.declared.report.End.{End}
 use Rattle.round_engine.specs.declared.report.Report.{Report}
-use Rattle.round_engine.proofs.Alone.{all_alone}
 use Rattle.round_engine.proofs.Beside.{SameSaves}
 use Rattle.round_engine.proofs.CrashesLeft.{with_crashes}
 use Rattle.round_engine.proofs.Devices.{are_down, at_first, bank_in, banks_in, down_at, IsBeside, others_in, save_in}
@@ -626,29 +624,16 @@ module _ {D : Type 0} {tells : D → Option (List ℕ)} {clock : D → ℕ} {ima
                 let told = ap commit_count all.lines.told in
                 omega (arith, after, told, all.lines.over.runs.draw);
             met = record {
-              workers = met_for (worker_lines round) (all.worked.drops ≡ old.stands.drops → ⊥) (ran.beside.drops ≡ [] → ⊥) 0
+              workers = met_for old.stands.decls (worker_lines round) (all.worked.drops ≡ old.stands.drops → ⊥) (ran.beside.drops ≡ [] → ⊥) 0
                   (worker_lines round) (map (λ (share : Share). share.tries_refused) shares) some_dropped
-                  (subst (λ l. WorkersMet l (all.worked.drops ≡ old.stands.drops → ⊥) 0 l
+                  (subst (λ l. WorkersMet old.stands.decls l (all.worked.drops ≡ old.stands.drops → ⊥) 0 l
                   (map (λ (share : Share). share.tries_refused) shares)) all.lines.lines all.lines.over.runs.met);
             };
             dropped = ends.drops ∙ kept_drops;
-            plain = λ tree.
-                let is = all.once tree in
-                record {
-                  plain = is.plain;
-                  alone = all_alone (map (λ (share : Share). share.tries_refused) shares)
-                      (let counted = all.lines.over.runs.conflicts in omega (arith, counted, is.alone));
-                };
-            history = λ shared.
-                let kept = all.history shared in
-                record {
-                  gathered = subst (λ m. HasGathered old.stands.decls round report.outcomes old.stands.mine m)
-                      (sym (ends.mine ∙ ap (λ (x : Standing). x.mine) kept_stands)) kept.gathered;
-                  shares = ap (λ ds. are_arrays ds new.stands.state)
-                      (ends.decls ∙ ap (λ (x : Standing). x.decls) kept_stands)
-                      ∙ ap (are_arrays all.worked.decls)
-                      (ends.state ∙ ap (λ (x : Standing). x.state) kept_stands) ∙ kept.shares;
-                };
+            history = record {
+              gathered = subst (λ m. HasGathered old.stands.decls round report.outcomes old.stands.mine m)
+                  (sym (ends.mine ∙ ap (λ (x : Standing). x.mine) kept_stands)) all.history.gathered;
+            };
             durable = ends.durable;
             lasts = ends.lasts;
             clock = ends.clock_is;

@@ -19,14 +19,14 @@ use Rattle.worker_logs.specs.declared.savepoints.Side.TheVariants.{Even, Odd}
 use Rattle.worker_logs.specs.Rows.{AreLogsUp}
 use Rattle.worker_logs.specs.Shown.{Stood}
 use Rattle.round_engine.specs.Keeping.{CanKeep, RunsKeeper}
-use Rattle.round_engine.specs.Phases.{IsReadyToJoin, RunsFront, RunsSome, as_begun}
+use Rattle.round_engine.specs.Phases.{IsReadyToJoin, as_begun}
 use Rattle.round_engine.specs.Unbegun.{RoomAlone}
 use Rattle.round_engine.specs.Refusals.{device_in, device_refused, first_failed, leaves_out}
 use Rattle.round_engine.specs.Saves.{beside_at_end}
 use Rattle.round_engine.specs.Shares.{Share}
 use Rattle.round_engine.specs.Sides.{SameButGrowing, closed_in, growing_in}
 use Rattle.round_engine.specs.Standing.{AreClosed, ArePassed, beside_of, HasSnapshot, RuntimeState, Standing}
-use Rattle.round_engine.specs.Workers.{RunsWorkers, StopsWorkers, refusal_of}
+use Rattle.round_engine.specs.Workers.{RunsWorkers, refusal_of}
 use Rattle.round_engine.specs.declared.report.End.{End}
 use Rattle.round_engine.specs.declared.rounds.LineRefusals.{LineRefusals}
 use Rattle.shared_rounds.specs.Below.{LogEnd}
@@ -50,27 +50,6 @@ use Rattle.round_engine.proofs.Published.{published_then}
 pub same_growing_in : {D : Type 0} (side : Side) (old new : Vault D) → RoomAlone old new → growing_in side new ≡ growing_in side old
 same_growing_in Even old new room = ap (λ v. v.items) room.even
 same_growing_in Odd old new room = ap (λ v. v.items) room.odd
-
-module _ {D : Type 0} (tells : D → Option (List ℕ)) (clock : D → ℕ) (image_at : D → ℕ → List ℕ → Type 0)
-    (faults : D → ℕ) (tries : ℕ) (round : Round) where
-  -- some lines were run
-  pub some_lines : (old new : RuntimeState) (before lent now : Vault D)
-      → RunsFront tells clock image_at faults tries round old new lent now → RoomAlone before lent
-      → RunsSome tells clock image_at faults tries round old new before now
-  some_lines old new before lent now front room = record {
-    marks = front.marks;
-    readied = front.readied;
-    stops = subst (λ (b : List D). StopsWorkers tells clock image_at faults tries round old.stands new.stands
-        front.marks
-        front.readied old.logs new.logs b (growing_in old.side now))
-        (same_growing_in old.side before lent room) front.stops;
-    alone = front.alone;
-    epoch = front.epoch;
-    pages = front.pages;
-    lent = lent;
-    room = room;
-    beside = front.beside;
-  }
 
 module _ {D : Type 0} {tells : D → Option (List ℕ)} {clock : D → ℕ} {image_at : D → ℕ → List ℕ → Type 0}
     {faults : D → ℕ} {tries : ℕ} {round : Round} {r mid : RuntimeState} {worked : Standing} {before lent between :

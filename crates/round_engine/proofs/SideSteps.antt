@@ -424,6 +424,11 @@ module _ {D : Type 0} {tells : D → Option (List ℕ)} {clock : D → ℕ} {ima
       apart = ap (λ s. growing_in s between) b.runs.leaves.side ∙ b.runs.leaves.over.growing ∙ ready.apart;
       can = can_keep ready.can b.runs;
       decls = ap (λ (x : Layout). x.decls) b.went.layout ∙ ready.decls;
+      past = λ some.
+          let before : v.made ≡ [] → ⊥ = λ none. some (b.went.made ∙ none) in
+          let over = ready.past before in
+          let same = b.went.past before in
+          let shut = b.runs.leaves.closed_at in omega (arith, over, same, shut);
       slots = omega (arith, ready.slots, ap (λ (x : Layout). x.slots) b.went.layout);
       few = omega (arith, ready.few, ap (λ (x : Layout). x.resident) b.went.layout);
       claimed = b.went.claimed ready.claimed;

@@ -9,7 +9,6 @@ use Rattle.script_grammar.specs.Script.{Round, keeper_lines}
 use Rattle.engine_pages.specs.declared.view.Dropped.{Dropped as Counts}
 use Rattle.engine_pages.specs.declared.view.View.{View}
 use Rattle.wire_form.specs.declared.clock.Mark.{Mark}
-use Rattle.tx_script.specs.Draws.{HasTree}
 use Rattle.tx_script.specs.declared.answer.Answer.{Answer}
 use Rattle.worker_logs.specs.Logs.{LogState, fresh_log}
 use Rattle.worker_logs.specs.declared.savepoints.Side.{Side}
@@ -19,7 +18,7 @@ use Rattle.shared_rounds.specs.SharedState.{SharedState}
 use Rattle.shared_rounds.specs.declared.ends.WorkersRan.{WorkersRan}
 use Rattle.round_engine.specs.Histories.{KeepsHistory}
 use Rattle.round_engine.specs.Keeping.{RunsKeeper}
-use Rattle.round_engine.specs.LineEngines.{standing}
+use Rattle.round_engine.specs.Lines.{standing}
 use Rattle.round_engine.specs.Phases.{RunsLines, as_begun}
 use Rattle.round_engine.specs.Shares.{Share}
 use Rattle.round_engine.specs.SideLines.{AllMetAt, HasRunBeside, lent_at, stands_in_view}
@@ -130,7 +129,7 @@ module _ {D : Type 0} {tells : D → Option (List ℕ)} {clock : D → ℕ} {ima
     (lent_is : (decls : List Decl) (v : View) → lent_at decls lent v ≡ bare r decls v)
     (left_is : (decls : List Decl) (v : View) → lent_at decls left v ≡ bare new decls v) (down_is : new.down ≡ r.down)
     (lent_out : SameButGrowing r.side before apart) (back : SameButGrowing r.side behind now)
-    (no_tree : HasTree r.stands.decls → ⊥) (history : KeepsHistory round ran.outcomes r.stands new.stands)
+    (history : KeepsHistory round ran.outcomes r.stands new.stands)
     (together : RunsTogether tells clock image_at faults
     (λ v w. HasRunBeside tells clock image_at faults round lent left apart behind said end v w) tries round r.stands
     new.stands r.logs new.logs (growing_in r.side before) (growing_in r.side now) ran) where
@@ -267,8 +266,7 @@ module _ {D : Type 0} {tells : D → Option (List ℕ)} {clock : D → ℕ} {ima
     lines = subst (RunsWorkers tells clock image_at faults tries round r.stands t ran.outcomes ran.ends.items
         together.marks
         together.readied r.logs new.logs (growing_in r.side before)) (sym (growing_with r.side apart now)) lines_ran;
-    once = λ tree. absurd (no_tree tree);
-    history = λ shared. history;
+    history = history;
     alone = refl;
     later = omega arith;
     drops = refl;

@@ -13,7 +13,6 @@ use Rattle.worker_logs.specs.Logs.{fresh_log}
 use Rattle.worker_logs.specs.declared.savepoints.Side.TheVariants.{Even}
 use Rattle.shared_rounds.specs.Standing.{Standing}
 use Rattle.round_engine.specs.FirstRecords.{stands_in}
-use Rattle.round_engine.specs.LineEngines.{SharesWords}
 use Rattle.round_engine.specs.Standing.{RuntimeState}
 
 -- the engine in a state, at this number, where nothing was run, over words such as these
@@ -28,19 +27,19 @@ begins_at decls state words first = record words {
   ended = false;
 }
 
--- Words that threads share open with the records of the snapshot whose catalogue has this number: at each key of an
--- array with its value and with its number, and as never written where no page has a record.
+-- The words that threads share open with the records of the snapshot whose catalogue has this number: at each key of a
+-- storage with its value and with its number, and as never written where no page has a record.
 abbrev pub OpensOn : List (List ℕ) → ℕ → Standing → Type 0
-OpensOn pages number s = SharesWords s → (contents : Contents) → SnapshotStands pages number contents → (key : Key)
+OpensOn pages number s = (contents : Contents) → SnapshotStands pages number contents → (key : Key)
     → content_at s.opening key ≡ stands_in pages contents.storages key
 
--- An engine begins in this state, at this number, and opens with the records of that snapshot. Words that threads share
--- have so many slots, these pages, and room for as many as are let in.
+-- An engine begins in this state, at this number, and opens with the records of that snapshot. Its words have so many
+-- slots, these pages, and room for as many as are let in.
 pub record Begins (pages : List (List ℕ)) (number : ℕ) (decls : List Decl) (state : State) (first : Number)
     (slots room : ℕ) (s : Standing) : Type 0 where
   pub stands : s ≡ begins_at decls state s first
   pub opens : OpensOn pages number s
-  pub slots_are : SharesWords s → s.slots ≡ slots
+  pub slots_are : s.slots ≡ slots
   pub pages_are : 0 < s.slots → (s.pages ≡ pages) × (s.resident ≡ room)
 
 -- In a settled state with its stores, at this number, over words such as these, and so many pages let in. All log files

@@ -370,13 +370,6 @@ module _ {D : Type 0} (tells : D → Option (List ℕ)) (clock : D → ℕ) (ima
   StepsKeeper marks None line answer refusal old new before now =
       StepsLine marks line answer refusal old new before now
 
-  -- The lines of the maintenance thread were run behind the workers': each save saw the marks of their logs.
-  pub record RunsBehind (lines : List KeeperLine) (said : List Answer) (refusal : Option End) (old new : RuntimeState)
-      (before now : Vault D) : Type 0 where
-    pub seen : List (List Mark)
-    pub sees : AllByRecursion (λ (marks : List Mark). marks ≡ logs_marks old.logs) seen
-    pub runs : RunsKeeper tells clock image_at faults seen lines said refusal old new before now
-
 -- ---- the join
 
 -- what a join leaves of a log: it was flushed and marked, or it refused that, or it was left alone

@@ -19,7 +19,6 @@ pub mod Lines
 pub mod Keeping
 pub mod Refusals
 pub mod Phases
-pub mod LineEngines
 pub mod Histories
 pub mod Unbegun
 pub mod Owners

@@ -1,16 +1,12 @@
--- The phases of a round: the workers' lines, those of the maintenance thread, and the join. On words that threads share
--- the maintenance thread's lines run beside the workers'. Of storages among which is a tree the lines are run on the
--- plain map, and the maintenance thread's behind them.
+-- The phases of a round: the workers' lines, those of the maintenance thread beside them, and the join.
 use Rattle.std.specs.Prelude.{◌≡◌, ◌<◌, ◌≤◌, ◌^◌, ◌⊎◌, ℕ, Bool, true, false, List, length, Option, Some, None}
 use Rattle.std.specs.Prelude.{is_some, Result, Ok, Err}
-use Rattle.lists.specs.declared.memory.Memory.{Memory}
 use Rattle.log_writer.specs.Counted.{AlwaysTells}
 use Rattle.log_writer.specs.Vault.{IsWhole}
 use Rattle.log_writer.specs.declared.vault.Vault.{Vault}
 use Rattle.script_grammar.specs.Script.{Round, keeper_lines}
 use Rattle.log_writer.specs.Save.{IsStored}
 use Rattle.std.specs.List.{AllByRecursion, list_any}
-use Rattle.tx_script.specs.Draws.{HasTree}
 use Rattle.tx_script.specs.Run.{Readied, is_limit}
 use Rattle.tx_script.specs.Seen.{NeverBack, first_places}
 use Rattle.log_writer.specs.Points.{sequence_of}
@@ -20,16 +16,13 @@ use Rattle.wire_form.specs.declared.clock.Mark.{Mark}
 use Rattle.round_engine.specs.Ends.{first_of, save_limited, where_true}
 use Rattle.round_engine.specs.Keeping.{RunsJoin, RunsKeeper}
 use Rattle.round_engine.specs.Histories.{KeepsHistory}
-use Rattle.plain_rounds.specs.Plainly.{DrewOnce}
-use Rattle.round_engine.specs.LineEngines.{SharesWords}
 use Rattle.round_engine.specs.Refusals.{device_refused, end_told, first_full, leaves_out, lines_refused, names_device}
 use Rattle.round_engine.specs.Sides.{growing_in, SameButGrowing}
 use Rattle.round_engine.specs.SideLines.{AllStoodAt}
 use Rattle.round_engine.specs.Standing.{AreClosed, HasSnapshot, LogsStand, RuntimeState, Standing}
 use Rattle.round_engine.specs.Swaps.{SwapsAt}
 use Rattle.round_engine.specs.Unbegun.{RoomAlone}
-use Rattle.round_engine.specs.Workers.{RunsWorkers, StopsWorkers}
-use Rattle.round_engine.specs.declared.keeper.KeeperEnd.{KeeperEnd}
+use Rattle.round_engine.specs.Workers.{RunsWorkers}
 use Rattle.round_engine.specs.declared.report.End.{End}
 use Rattle.round_engine.specs.declared.report.Report.{Report}
 use Rattle.round_engine.specs.declared.rounds.LineRefusals.{LineRefusals}
@@ -110,18 +103,7 @@ module _ {D : Type 0} (tells : D → Option (List ℕ)) (clock : D → ℕ) (ima
       × JoinsAndSwaps old joined before now durable refusal × (end ≡ end_told refused refusal)
       × (new ≡ ended_as joined (is_some end) (fails_device refusal)))
 
-  -- Some first lines of each worker were run, where memory was wanted.
-  pub record RunsFront (tries : ℕ) (round : Round) (old new : RuntimeState) (before now : Vault D) : Type 0 where
-    pub marks : List (List Stood)
-    pub readied : List (List Readied)
-    pub stops : StopsWorkers tells clock image_at faults tries round old.stands new.stands marks readied
-        old.logs new.logs (growing_in old.side before) (growing_in old.side now)
-    pub alone : new ≡ record old { stands = new.stands; logs = new.logs }
-    pub epoch : new.stands.clock.epoch ≡ old.stands.clock.epoch
-    pub pages : new.stands.pages ≡ old.stands.pages
-    pub beside : SameButGrowing old.side before now
-
-  -- The workers' lines of a round were run, and those of the maintenance thread, beside them or behind: what the ones
+  -- The workers' lines of a round were run, and those of the maintenance thread beside them: what the ones
   -- leave of the engine, the logs and the growing log files, and the others of all else. Each save saw of each worker
   -- the mark at its place, and none before one that an earlier save saw.
   pub record RunsLines (tries : ℕ) (round : Round) (old kept : RuntimeState) (before after : Vault D) (ran : WorkersRan)
@@ -133,8 +115,7 @@ module _ {D : Type 0} (tells : D → Option (List ℕ)) (clock : D → ℕ) (ima
     pub readied : List (List Readied)
     pub lines : RunsWorkers tells clock image_at faults tries round old.stands worked ran.outcomes ran.ends.items marks
         readied old.logs mid.logs (growing_in old.side before) (growing_in old.side between)
-    pub once : HasTree old.stands.decls → DrewOnce old.stands worked ran.outcomes
-    pub history : SharesWords old.stands → KeepsHistory round ran.outcomes old.stands worked
+    pub history : KeepsHistory round ran.outcomes old.stands worked
     pub alone : mid ≡ record old { stands = as_begun old.stands worked; logs = mid.logs }
     pub later : worked.clock.epoch ≤ kept.stands.clock.epoch
     pub drops : worked.drops ≡ kept.stands.drops
@@ -144,14 +125,6 @@ module _ {D : Type 0} (tells : D → Option (List ℕ)) (clock : D → ℕ) (ima
     pub sees : AllStoodAt marks places seen
     pub back : NeverBack first_places places
     pub keeper : RunsKeeper tells clock image_at faults seen (keeper_lines round) said refusal mid kept between after
-
-  -- So it is of all lines; or, on the plain map, some first lines of each worker were run, where memory was wanted, and
-  -- nothing else was done.
-  abbrev pub RunsOrStops : ℕ → Round → RuntimeState → RuntimeState → Vault D → Vault D → List Answer
-      → Result (WorkersRan × KeeperEnd) Memory → Type 0
-  RunsOrStops tries round old new before now said (Ok ran) =
-      RunsLines tries round old new before now ran.0 said ran.1.refusal
-  RunsOrStops tries round old new before now said (Err memory) = RunsFront tries round old new before now
 
   -- The phases of a round that was run to its end.
   pub record RunsAll (tries : ℕ) (round : Round) (old new : RuntimeState) (before now : Vault D) (report : Report)
@@ -168,8 +141,7 @@ module _ {D : Type 0} (tells : D → Option (List ℕ)) (clock : D → ℕ) (ima
     pub readied : List (List Readied)
     pub lines : RunsWorkers tells clock image_at faults tries round old.stands worked report.outcomes ends marks readied
         old.logs mid.logs (growing_in old.side before) (growing_in old.side between)
-    pub once : HasTree old.stands.decls → DrewOnce old.stands worked report.outcomes
-    pub history : SharesWords old.stands → KeepsHistory round report.outcomes old.stands worked
+    pub history : KeepsHistory round report.outcomes old.stands worked
     pub alone : mid ≡ record old { stands = as_begun old.stands worked; logs = mid.logs }
     pub later : worked.clock.epoch ≤ kept.stands.clock.epoch
     pub drops : worked.drops ≡ kept.stands.drops
@@ -187,20 +159,3 @@ module _ {D : Type 0} (tells : D → Option (List ℕ)) (clock : D → ℕ) (ima
     pub draw_is : refused.draw ≡ where_true (list_any (list_any is_limit) report.outcomes) kept.stands.clock.draw
     pub full_is : refused.full ≡ first_full ends
     pub join : JoinsAs refused kept new after now report.durable report.end
-
-  -- The first lines of a round, where memory was wanted.
-  pub record RunsSome (tries : ℕ) (round : Round) (old new : RuntimeState) (before now : Vault D) : Type 0 where
-    pub marks : List (List Stood)
-    pub readied : List (List Readied)
-    pub stops : StopsWorkers tells clock image_at faults tries round old.stands new.stands marks readied
-        old.logs new.logs (growing_in old.side before) (growing_in old.side now)
-    pub alone : new ≡ record old { stands = new.stands; logs = new.logs }
-    pub epoch : new.stands.clock.epoch ≡ old.stands.clock.epoch
-    pub pages : new.stands.pages ≡ old.stands.pages
-    pub lent : Vault D
-    pub room : RoomAlone before lent
-    pub beside : SameButGrowing old.side lent now
-
-  abbrev pub RunsPhases : ℕ → Round → RuntimeState → RuntimeState → Vault D → Vault D → Result Report Memory → Type 0
-  RunsPhases tries round old new before now (Ok report) = RunsAll tries round old new before now report
-  RunsPhases tries round old new before now (Err memory) = RunsSome tries round old new before now

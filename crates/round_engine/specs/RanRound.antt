@@ -1,4 +1,4 @@
--- What a round comes to on a runtime, whichever its engine is.
+-- What a round comes to on a runtime.
 use Rattle.std.specs.Prelude.{◌≡◌, ◌↔◌, ◌⊎◌, ◌≤◌, ◌<◌, ◌+◌, ◌++◌, ℕ, List, [], ◌∷◌, length, map, not}
 use Rattle.std.specs.Prelude.{false, true, if◌then◌else◌, Option, Some}
 use Rattle.std.specs.Prelude.{None, is_some, option_to_list, slice_get, Result, Ok, Err}
@@ -14,7 +14,7 @@ use Rattle.log_writer.specs.declared.records.Tie.{Tie}
 use Rattle.log_writer.specs.declared.vault.Vault.{Vault}
 use Rattle.serial_model.specs.declared.number.Commit.{Commit}
 use Rattle.serial_model.specs.declared.op.Op.{Op}
-use Rattle.script_grammar.specs.Script.{Round, keeper_lines, lines_of_worker}
+use Rattle.script_grammar.specs.Script.{Round, lines_of_worker}
 use Rattle.wire_form.specs.LogFile.{IsLineOf, lines_bytes}
 use Rattle.wire_form.specs.declared.clock.Mark.{Mark}
 use Rattle.wire_form.specs.declared.page.Page.{Page}
@@ -36,7 +36,7 @@ use Rattle.tx_script.specs.Run.{LogFailed, LogRefusal, Ran, IsRun}
 use Rattle.tx_script.specs.Causes.{AllCaused, keeper_at_end, last_sequence, log_of, some_counted}
 use Rattle.tx_script.specs.CausedBeside.{CausedBeside}
 use Rattle.tx_script.specs.Conflicts.{AreMet}
-use Rattle.tx_script.specs.Draws.{DrawsAreCounted, HasTree, RunsPlainly}
+use Rattle.tx_script.specs.Draws.{DrawsAreCounted}
 use Rattle.tx_script.specs.declared.outcome.Outcome.{Outcome}
 use Rattle.tx_script.specs.declared.outcome.Outcome.TheVariants.{Unrun}
 use Rattle.round_engine.specs.Changes.{AreLogged}
@@ -47,7 +47,6 @@ use Rattle.round_engine.specs.Ends.{swaps}
 use Rattle.round_engine.specs.Gleans.{RoundGleans}
 use Rattle.round_engine.specs.Histories.{KeepsHistory}
 use Rattle.round_engine.specs.Logs.{AreClosedFiles, AreLogs, IsRefusedBy, LeavesLog}
-use Rattle.round_engine.specs.LineEngines.{SharesWords}
 use Rattle.round_engine.specs.Saves.{ArePages, AreSaved, beside_at_end, GoesOnWith, IsSavedBy, newest_after}
 use Rattle.round_engine.specs.Saves.{AreShownAt, AreTied, beside_at_save, GoesBy, HaveEnded, saves_told}
 use Rattle.round_engine.specs.Sides.{closed_numbers, other_side}
@@ -241,11 +240,11 @@ module _ {D : Type 0} (tells : D → Option (List ℕ)) (clock : D → ℕ) (ima
 -- ---- a round
 
 -- A round was run, each line being tried so often at most, and joined. Each number was drawn for a commit, or for a try
--- that was refused behind its draw. A try in conflict at a record met a line of another worker of the round, at a key
--- that it touches and that one may change, or pages were dropped in the round; a line that found no slot may change some
--- key. The engine's counts of drops get those of the round, and nothing else. Where nothing ends the run, its last epoch
--- is durable. Where a tree is declared no line is in another's way; on words that threads share the commits are those
--- which came to their history. The runtime is down just where a device failed.
+-- that was refused behind its draw. A try in conflict at a record of an array met a line of another worker of the round,
+-- at a key that it touches and that one may change, or pages were dropped in the round; a line that found no slot may
+-- change some key, and one that filled a set has an operation on a tree. The engine's counts of drops get those of the
+-- round, and nothing else. Where nothing ends the run, its last epoch is durable. The commits are those which came to
+-- the history that threads share. The runtime is down just where a device failed.
 pub record RanRound (tries : ℕ) (round : Round) (old new : RuntimeState) (report : Report) : Type 0 where
   pub ran : Ran
   pub logged : ℕ → List Commit
@@ -253,41 +252,14 @@ pub record RanRound (tries : ℕ) (round : Round) (old new : RuntimeState) (repo
   pub begins : Begins tries round old ran
   pub lines : RunsRoundLines round old new ran logged
   pub counted : DrawsAreCounted ran
-  pub met : AreMet ran round
+  pub met : AreMet old.stands.decls ran round
   pub dropped : new.stands.drops ≡ old.stands.drops ++ map counts_of ran.beside.drops
-  pub plain : HasTree old.stands.decls → RunsPlainly ran
-  pub history : SharesWords old.stands → KeepsHistory round ran.printed.outcomes old.stands new.stands
+  pub history : KeepsHistory round ran.printed.outcomes old.stands new.stands
   pub durable : ran.printed.durable ≡ durable_of ran
   pub lasts : report.end ≡ None → ran.printed.durable ≡ Some ran.printed.end.epoch
   pub clock : new.stands.clock ≡ record { epoch = epoch_joined ran; draw = ran.printed.end.draw }
   pub ended : new.stands.ended ≡ is_some report.end
   pub down : (new.down ≡ false) ↔ (ran.beside.devices ≡ [])
-
--- the first lines of each worker and of the keeper
-pub record IsFrontOf (front round : Round) : Type 0 where
-  pub workers : (worker : ℕ) → IsFront (lines_of_worker front worker) (lines_of_worker round worker)
-  pub keeper : IsFront (keeper_lines front) (keeper_lines round)
-
--- A round stopped for want of memory, in the workers' lines: a front of them was run, and there the contents and the
--- clock stand. No line of the maintenance thread was run and the join was left out, so nothing was stored. What the
--- lines came to is lost, and with it the run: the runtime is down, and nothing is joined any more.
-pub record StopsIn (tries : ℕ) (round : Round) (old new : RuntimeState) : Type 0 where
-  pub front : Round
-  pub first : IsFrontOf front round
-  pub ran : Ran
-  pub logged : ℕ → List Commit
-  pub begins : Begins tries round old ran
-  pub lines : RunsRoundLines front old new ran logged
-  pub unanswered : ran.printed.answers ≡ []
-  pub unstored : Contains ran.beside.devices Save → ⊥
-  pub only_logs : (device : Device) → Contains ran.beside.devices device
-      → (worker : ℕ) × (worker < 8) × (device ≡ log_of ran.beside.files worker)
-  pub log_failed : (worker : ℕ) → worker < 8 → Contains ran.beside.devices (log_of ran.beside.files worker)
-      → slice_get ran.beside.logs worker ≡ Some (Some LogFailed)
-  pub durable : ran.printed.durable ≡ None
-  pub clock : new.stands.clock ≡ ran.printed.end
-  pub ended : new.stands.ended ≡ true
-  pub down : new.down ≡ true
 
 module _ {D : Type 0} (tells : D → Option (List ℕ)) (clock : D → ℕ) (image_at : D → ℕ → List ℕ → Type 0)
     (faults : D → ℕ) where
@@ -301,14 +273,11 @@ module _ {D : Type 0} (tells : D → Option (List ℕ)) (clock : D → ℕ) (ima
         → LeavesOut tells clock image_at faults ran.printed.begin.epoch (Contains outcomes Unrun) (logged worker)
         refusal log bank
 
-  -- A round was run, or stopped for want of memory, over the vault; and what was known of crashes is known still. Or
-  -- memory was wanted before anything was done.
+  -- A round was run over the vault, and what was known of crashes is known still; or memory was wanted before anything
+  -- was done.
   abbrev pub Rounds : ℕ → Round → RuntimeState → RuntimeState → Vault D → Vault D → Result Report Memory → Type 0
   Rounds tries round old new before now (Ok report) = (r : RanRound tries round old new report)
       × (v : LeavesVault tells clock image_at faults r.ran r.logged old new before now)
       × CarriesCrashes tells clock image_at r.logged (v.stored ++ option_to_list v.failed) r.ran old new before now
       × LeavesLinesOut r.ran r.logged old before
   Rounds tries round old new before now (Err memory) = IsUnbegun old new before now
-      ⊎ ((r : StopsIn tries round old new)
-      × (v : LeavesVault tells clock image_at faults r.ran r.logged old new before now)
-      × CarriesCrashes tells clock image_at r.logged (v.stored ++ option_to_list v.failed) r.ran old new before now)

@@ -1,4 +1,4 @@
--- What the workers' lines of a round come to, whichever engine ran them.
+-- What the workers' lines of a round come to.
 pub use Rattle.tx_script.specs.Run.{TryRefusal, InConflict, NoNumber, NoRoom, NoSlot}
 pub use Rattle.tx_script.specs.Tries.{AllCome, AreConflicts, ComesTo, EndsWith, is_conflict}
 pub use Rattle.shared_rounds.specs.Shares.{AreOrdered, IsShare, RunsShares, Share, all_conflicts, conflicts_among}

@@ -176,11 +176,13 @@ AllStoodAt marks (these ∷ places) (seen ∷ more) = AreStoodAt marks these see
 AllStoodAt marks _ _ = ⊥
 
 module _ {D : Type 0} (tells : D → Option (List ℕ)) (clock : D → ℕ) (image_at : D → ℕ → List ℕ → Type 0) where
-  -- What a line finds: the growing log files are lent to the workers, and the rest is as it may be kept on.
+  -- What a line finds: the growing log files are lent to the workers, and the rest is as it may be kept on. The epoch at
+  -- which the others were closed is over, as its pass knows while workers are seated.
   pub record CanKeepBeside (storages : List Decl) (lent : Lent) (v : View) (vault : Vault D) : Type 0 where
     pub apart : growing_in lent.side vault ≡ []
     pub can : CanKeep tells clock image_at (lent_at storages lent v) vault
     pub decls : v.layout.decls ≡ storages
+    pub past : (v.made ≡ [] → ⊥) → lent.closed_at ≤ v.past
     pub slots : 0 < v.layout.slots
     pub few : v.layout.resident ≤ 65536
     pub claimed : AreClaimed v

@@ -1,5 +1,5 @@
 -- The workers' lines on words that threads share, with what is done beside them.
-use Rattle.std.specs.Prelude.{◌≡◌, ◌<◌, ℕ, List, Ok, Option}
+use Rattle.std.specs.Prelude.{◌≡◌, ◌<◌, ℕ, List, Option}
 use Rattle.engine_pages.specs.declared.view.View.{View}
 use Rattle.script_grammar.specs.Script.{Round}
 use Rattle.tx_script.specs.Readied.{Readied}
@@ -8,8 +8,7 @@ use Rattle.worker_logs.specs.Shown.{Stood}
 use Rattle.shared_rounds.specs.Beside.{BeginsBeside, BesideRan}
 use Rattle.shared_rounds.specs.SharedState.{SharedState}
 use Rattle.shared_rounds.specs.declared.ends.WorkersRan.{WorkersRan}
-use Rattle.round_engine.specs.LineEngines.{standing}
-use Rattle.round_engine.specs.Lines.{LinesCome}
+use Rattle.round_engine.specs.Lines.{LinesCome, standing}
 use Rattle.round_engine.specs.Standing.{Standing}
 
 -- The view that the pass of the maintenance thread has as the lines begin, on words that stand so, of a run that goes
@@ -26,7 +25,7 @@ pub record RunsTogether {D : Type 0} (tells : D → Option (List ℕ)) (clock : 
     (logs_was logs : List LogState) (banks_was banks : List D) (ran : WorkersRan) : Type 0 where
   pub marks : List (List Stood)
   pub readied : List (List Readied)
-  pub lines : LinesCome tells clock image_at faults tries round s t marks readied logs_was logs banks_was banks (Ok ran)
+  pub lines : LinesCome tells clock image_at faults tries round s t marks readied logs_was logs banks_was banks ran
   pub was : SharedState
   pub now : SharedState
   pub was_is : s ≡ standing s.ended was

@@ -1,19 +1,17 @@
 // One round over a vault.
-ghost use Rattle.std.specs.Prelude.{◌≡◌, ◌≤◌, ◌+◌, ℕ, List, [], false, IfErr, IfOk, IfSome, OnOk, is_some};
-ghost use Rattle.std.specs.Prelude.{Bool, IsSome, None, Some, length, option_map, slice_get, vec_capacity, ◌++◌, ◌∷◌, map};
+ghost use Rattle.std.specs.Prelude.{◌≡◌, ◌≤◌, ◌+◌, ℕ, List, [], false, IfOk, OnOk, is_some};
+ghost use Rattle.std.specs.Prelude.{Bool, None, Some, length, option_map, slice_get, vec_capacity, ◌++◌, ◌∷◌, map};
 ghost use Rattle.std.specs.List.{AllByRecursion, list_any};
 ghost use Rattle.std.specs.Thread.{IsSend, IsSync};
 ghost use Rattle.log_writer.specs.Vault.{IsWhole};
 ghost use Rattle.script_grammar.specs.Script.{keeper_lines};
 ghost use Rattle.log_writer.specs.Points.{sequence_of};
-ghost use Rattle.tx_script.specs.Readied.{Readied};
 ghost use Rattle.tx_script.specs.Run.{CanRun, is_limit};
 ghost use Rattle.worker_logs.specs.Logs.{LogState};
 ghost use Rattle.worker_logs.specs.Rows.{AreLogsUp};
-ghost use Rattle.worker_logs.specs.Shown.{Stood};
 ghost use Rattle.round_engine.specs.RanRound.{Rounds};
 ghost use Rattle.round_engine.specs.Ends.{device_place, limit_at, save_limited, where_true};
-ghost use Rattle.round_engine.specs.Phases.{IsReadyToJoin, JoinsAs, RunsOrStops, RunsLines, RunsPhases, ended_as};
+ghost use Rattle.round_engine.specs.Phases.{IsReadyToJoin, JoinsAs, RunsAll, RunsLines, ended_as};
 ghost use Rattle.round_engine.specs.Phases.{fails_device};
 ghost use Rattle.round_engine.specs.Refusals.{damage_in as damage_of_end, device_in as device_of_end};
 ghost use Rattle.round_engine.specs.Refusals.{device_refused as device_of, end_told, first_failed as failed_from};
@@ -27,14 +25,10 @@ ghost use Rattle.round_engine.specs.Histories.{KeepsHistory};
 ghost use Rattle.round_engine.specs.declared.keeper.KeeperEnd.{KeeperEnd as TheEnd};
 ghost use Rattle.round_engine.specs.declared.keeper_side.Lent.{Lent as TheLent};
 ghost use Rattle.engine_pages.specs.declared.view.View.{View};
-ghost use Rattle.tx_script.specs.Draws.{HasTree};
 ghost use Rattle.round_engine.specs.Keeping.{CanKeep};
 ghost use Rattle.round_engine.specs.Standing.{ArePassed, StandsOn};
-ghost use Rattle.round_engine.specs.Lines.{AreLastOf, LinesCome};
-ghost use Rattle.plain_rounds.specs.Plainly.{DrewOnce};
-ghost use Rattle.round_engine.specs.LineEngines.{SharesWords};
 ghost use Rattle.round_engine.specs.RoundCalls.{calls_at, is_answered, round_calls};
-ghost use Rattle.round_engine.specs.Unbegun.{IsUnbegun, RoomAlone};
+ghost use Rattle.round_engine.specs.Unbegun.{RoomAlone};
 ghost use Rattle.shared_rounds.specs.Below.{AreAllTold, calls_for, calls_in};
 ghost use Rattle.shared_rounds.specs.First.{AreIdle};
 ghost use Rattle.shared_rounds.specs.Rooms.{IsRoomOf};
@@ -45,7 +39,7 @@ use crate::engine::Engine;
 use crate::gleans::glean_over;
 use crate::idling::idle_without_lines;
 use crate::joins::{join_logs, limit};
-use crate::keeper::{KeeperEnd, run_keeper};
+use crate::keeper::KeeperEnd;
 use crate::keeper_side::{KeeperSide, Lent};
 use crate::owners::owners_of;
 use crate::sides::growing_number;
@@ -55,7 +49,7 @@ use gleaner::{Closed, Newest};
 use log_writer::{Save, Vault};
 use outside::{Device, Disk, Gate};
 use serial_model::{Decl, Memory, WORKERS};
-use shared_rounds::{GateCalls, LineGate, LogEnd, Rooms, WorkersRan};
+use shared_rounds::{GateCalls, LineGate, LogEnd, Rooms, WorkersRan, make_rooms};
 use snapshot_store::SnapStore;
 use std::alloc::Global;
 use std::sync::Wait;
@@ -63,18 +57,17 @@ use std::thread::Threads;
 use tx_script::{Answer, Answers, Outcomes, Round, RoundOutcomes};
 use worker_logs::{Side, WorkerLog};
 
-/// Runs the workers' lines, each between the gate's two calls and tried so often at most, and those of the maintenance
-/// thread: beside them on words that threads share, and behind them on the map, as where a tree is declared. Then the
-/// round is joined: the epoch is advanced, the logs are made durable, a savepoint counts them, and where nothing of the
-/// closed log files counts, these grow from then on. The growing log files are lent to their workers meanwhile.
+/// Runs the workers' lines, each between the gate's two calls and tried so often at most, and beside them those of the
+/// maintenance thread. Then the round is joined: the epoch is advanced, the logs are made durable, a savepoint counts
+/// them, and where nothing of the closed log files counts, these grow from then on. The growing log files are lent to
+/// their workers meanwhile.
 ///
 /// From the line on at which its log is refused a worker runs none. Then, and where the maintenance thread was
 /// refused by a device, by damage or by want of memory, the join is left out, and the run ends.
 ///
 /// All room that may be wanting is made before anything is done; after want of memory then the runtime and the devices
-/// are as they were, and the round may be run again. On arrays alone no line wants any behind that, but those of the
-/// maintenance thread, which answer it. Where a tree is declared a worker's line may want memory, too: then a front of
-/// the round has been run, and no further round is.
+/// are as they were, and the round may be run again. No line wants any behind that, but those of the maintenance
+/// thread, which answer it.
 pub fn round<R: Threads + Wait + Sync, D: Disk + Send + Drop, G: Gate + Sync>(
     rt: &R,
     alloc: Global,
@@ -93,26 +86,18 @@ pub fn round<R: Threads + Wait + Sync, D: Disk + Send + Drop, G: Gate + Sync>(
     // vault is as the saves left it, and a line that was left out was refused by its log earlier in the round.
     ensures rounds { Rounds D.tells D.clock D.image_at D.faults tries round.now runtime.old runtime.new
         vault.old vault.new result }
-    ensures unbegun { IfErr result (λ memory. SharesWords runtime.old.stands
-        → IsUnbegun runtime.old runtime.new vault.old vault.new) }
     // The gate was told of each line that was run, and of no other.
     ensures calls { IfOk result (λ report. map calls_in report.calls.items
         ≡ round_calls 0 report.outcomes report.keeper) }
 {
     reads_are_images(vault);
     let owners = owners_of(round);
-    let rooms = runtime.engine.make_rooms(alloc, round)?;
+    let rooms = make_rooms(alloc, round)?;
     let answers = make_room(alloc, vault, owners.keeper)?;
     idle_logs(runtime, &owners.busy);
-    match run_round(
+    Ok(run_round(
         rt, alloc, runtime, vault, round, rooms, answers, tries, gate,
-    ) {
-        Ok(report) => Ok(report),
-        Err(Memory) => {
-            runtime.end_with(Some(End::Memory), true);
-            Err(Memory)
-        }
-    }
+    ))
 }
 
 /// What reads of a device give is among the images of now: its trait says so, and where it may be sent to a thread a
@@ -133,20 +118,19 @@ fn idle_logs(runtime: &mut Runtime, busy: &[bool])
     idle_without_lines(&mut runtime.logs, busy);
 }
 
-// Runs and joins a round, in this room for its lines and its answers, if there is some for the lines. All that is
-// recorded of stores and cuts has its room: beside lines on words, or behind those on the map, nothing but a glean
-// wants memory.
+// Runs and joins a round, in this room for its lines and its answers. All that is recorded of stores and cuts has its
+// room: beside the lines nothing but a glean wants memory.
 fn run_round<R: Threads + Wait + Sync, D: Disk + Send + Drop, G: LineGate + Sync>(
     rt: &R,
     alloc: Global,
     runtime: &mut Runtime,
     vault: &mut Vault<D>,
     round: &Round<'_>,
-    rooms: Option<Rooms<D>>,
+    rooms: Rooms<D>,
     answers: Vec<Answer>,
     tries: u32,
     gate: &G,
-) -> Result<Report, Memory>
+) -> Report
     requires lines { CanRun runtime.old.stands.decls round.now }
     requires some_try { 1 ≤ tries }
     requires goes_on { runtime.old.stands.ended ≡ false }
@@ -156,21 +140,17 @@ fn run_round<R: Threads + Wait + Sync, D: Disk + Send + Drop, G: LineGate + Sync
     requires flushed { AllByRecursion (λ log. log.journal.lines ≡ []) runtime.old.logs }
     requires idle { AreIdle round.now runtime.old.logs }
     requires passed { ArePassed round.now runtime.old }
-    requires room { IfSome rooms (IsRoomOf round.now) }
-    requires shares { SharesWords runtime.old.stands → IsSome rooms }
-    requires apart { IsSome rooms → SharesWords runtime.old.stands }
+    requires room { IsRoomOf round.now rooms }
     requires none { answers.items ≡ [] }
     requires answer_room { length (keeper_lines round.now) ≤ vec_capacity answers }
     requires tie_room { length (keeper_lines round.now) + 1 ≤ vault.old.ties.room }
     requires cut_room { 8 ≤ vault.old.cuts.room }
-    ensures phases { RunsPhases D.tells D.clock D.image_at D.faults tries round.now runtime.old runtime.new
+    ensures all { RunsAll D.tells D.clock D.image_at D.faults tries round.now runtime.old runtime.new
         vault.old vault.new result }
-    ensures enough { IfErr result (λ memory. SharesWords runtime.old.stands → ⊥) }
-    ensures calls { IfOk result (λ report. map calls_in report.calls.items
-        ≡ round_calls 0 report.outcomes report.keeper) }
+    ensures calls { map calls_in result.calls.items ≡ round_calls 0 result.outcomes result.keeper }
 {
     let mut answers = answers;
-    let (ran, keeper) = run_lines(
+    let (ran, keeper) = run_together(
         rt,
         alloc,
         runtime,
@@ -180,64 +160,21 @@ fn run_round<R: Threads + Wait + Sync, D: Disk + Send + Drop, G: LineGate + Sync
         &mut answers,
         tries,
         gate,
-    )?;
+    );
     let refused = LineRefusals::in_lines(runtime, &ran, keeper);
     let (durable, end) = join(runtime, vault, refused);
     let calls = calls_in_round(ran.ends.as_slice(), keeper.calls);
-    Ok(Report {
+    Report {
         outcomes: ran.outcomes,
         keeper: Answers::from_vec(answers),
         durable,
         end,
         calls,
-    })
-}
-
-// Runs the workers' lines and those of the maintenance thread: beside each other where room was made, on words that
-// threads share, and else in turn, on the map.
-fn run_lines<R: Threads + Wait + Sync, D: Disk + Send + Drop, G: LineGate + Sync>(
-    rt: &R,
-    alloc: Global,
-    runtime: &mut Runtime,
-    vault: &mut Vault<D>,
-    round: &Round<'_>,
-    rooms: Option<Rooms<D>>,
-    answers: &mut Vec<Answer>,
-    tries: u32,
-    gate: &G,
-) -> Result<(WorkersRan, KeeperEnd), Memory>
-    requires lines { CanRun runtime.old.stands.decls round.now }
-    requires some_try { 1 ≤ tries }
-    requires goes_on { runtime.old.stands.ended ≡ false }
-    requires whole { IsWhole vault.old }
-    requires ready { CanKeep D.tells D.clock D.image_at runtime.old vault.old }
-    requires up { AreLogsUp D.tells runtime.old.logs (growing_in runtime.old.side vault.old) }
-    requires flushed { AllByRecursion (λ log. log.journal.lines ≡ []) runtime.old.logs }
-    requires idle { AreIdle round.now runtime.old.logs }
-    requires passed { ArePassed round.now runtime.old }
-    requires room { IfSome rooms (IsRoomOf round.now) }
-    requires shares { SharesWords runtime.old.stands → IsSome rooms }
-    requires apart { IsSome rooms → SharesWords runtime.old.stands }
-    requires none { answers.old.items ≡ [] }
-    requires answer_room { length (keeper_lines round.now) ≤ vec_capacity answers.old }
-    requires tie_room { length (keeper_lines round.now) ≤ vault.old.ties.room }
-    ensures runs { RunsOrStops D.tells D.clock D.image_at D.faults tries round.now runtime.old runtime.new
-        vault.old vault.new answers.new.items result }
-    ensures enough { IfErr result (λ memory. SharesWords runtime.old.stands → ⊥) }
-    ensures limited { IfOk result (λ ran. ran.1.limited ≡ save_limited (keeper_lines round.now) answers.new.items) }
-    ensures calls { IfOk result (λ ran. AreAllTold 0 ran.0.outcomes ran.0.ends.items
-        × (calls_in ran.1.calls ≡ calls_for is_answered 255 0 answers.new.items)) }
-{
-    match rooms {
-        Some(rooms) => Ok(run_together(
-            rt, alloc, runtime, vault, round, rooms, answers, tries, gate,
-        )),
-        None => run_in_turn(rt, alloc, runtime, vault, round, answers, gate),
     }
 }
 
-// Runs the workers' lines on words that threads share, over the growing log files, which are lent out of the vault
-// meanwhile; and beside them those of the maintenance thread, which is lent the rest.
+// Runs the workers' lines over the growing log files, which are lent out of the vault meanwhile; and beside them those of
+// the maintenance thread, which is lent the rest.
 fn run_together<R: Threads + Wait + Sync, D: Disk + Send + Drop, G: LineGate + Sync>(
     rt: &R,
     alloc: Global,
@@ -249,7 +186,6 @@ fn run_together<R: Threads + Wait + Sync, D: Disk + Send + Drop, G: LineGate + S
     tries: u32,
     gate: &G,
 ) -> (WorkersRan, KeeperEnd)
-    requires shares { SharesWords runtime.old.stands }
     requires lines { CanRun runtime.old.stands.decls round.now }
     requires some_try { 1 ≤ tries }
     requires goes_on { runtime.old.stands.ended ≡ false }
@@ -312,7 +248,6 @@ fn run_apart<R: Threads + Wait + Sync, D: Disk + Send + Drop, G: LineGate + Sync
     tries: u32,
     gate: &G,
 ) -> (WorkersRan, KeeperEnd)
-    requires shares { SharesWords engine.old }
     requires lines { CanRun engine.old.decls round.now }
     requires some_try { 1 ≤ tries }
     requires goes_on { engine.old.ended ≡ false }
@@ -334,7 +269,6 @@ fn run_apart<R: Threads + Wait + Sync, D: Disk + Send + Drop, G: LineGate + Sync
         (λ v w. HasRunBeside D.tells D.clock D.image_at D.faults round.now lent left vault.old vault.new
         answers.new.items result.1 v w) tries round.now engine.old engine.new logs.old.items logs.new.items
         growing.old.items growing.new.items result.0 }
-    ensures arrays { HasTree engine.old.decls → ⊥ }
     ensures history { KeepsHistory round.now result.0.outcomes engine.old engine.new }
     ensures calls { AreAllTold 0 result.0.outcomes result.0.ends.items }
 {
@@ -364,42 +298,9 @@ fn run_apart<R: Threads + Wait + Sync, D: Disk + Send + Drop, G: LineGate + Sync
         glean,
         end: KeeperEnd::none(),
     };
-    let ran = engine.run_shared(rt, logs, growing, rooms, round, tries, gate, &mut keeper);
+    let ran = engine.run_lines(rt, logs, growing, rooms, round, tries, gate, &mut keeper);
     let end = keeper.end;
     (ran, end)
-}
-
-// Runs the workers' lines on the plain map, one after another, and then those of the maintenance thread.
-fn run_in_turn<R: Threads + Wait + Sync, D: Disk + Send + Drop, G: LineGate + Sync>(
-    rt: &R,
-    alloc: Global,
-    runtime: &mut Runtime,
-    vault: &mut Vault<D>,
-    round: &Round<'_>,
-    answers: &mut Vec<Answer>,
-    gate: &G,
-) -> Result<(WorkersRan, KeeperEnd), Memory>
-    requires plain { SharesWords runtime.old.stands → ⊥ }
-    requires lines { CanRun runtime.old.stands.decls round.now }
-    requires goes_on { runtime.old.stands.ended ≡ false }
-    requires whole { IsWhole vault.old }
-    requires ready { CanKeep D.tells D.clock D.image_at runtime.old vault.old }
-    requires up { AreLogsUp D.tells runtime.old.logs (growing_in runtime.old.side vault.old) }
-    requires flushed { AllByRecursion (λ log. log.journal.lines ≡ []) runtime.old.logs }
-    requires idle { AreIdle round.now runtime.old.logs }
-    requires passed { ArePassed round.now runtime.old }
-    requires none { answers.old.items ≡ [] }
-    requires answer_room { length (keeper_lines round.now) ≤ vec_capacity answers.old }
-    requires tie_room { length (keeper_lines round.now) ≤ vault.old.ties.room }
-    ensures runs { (tries : ℕ) → 1 ≤ tries → RunsOrStops D.tells D.clock D.image_at D.faults tries round.now
-        runtime.old runtime.new vault.old vault.new answers.new.items result }
-    ensures limited { IfOk result (λ ran. ran.1.limited ≡ save_limited (keeper_lines round.now) answers.new.items) }
-    ensures calls { IfOk result (λ ran. AreAllTold 0 ran.0.outcomes ran.0.ends.items
-        × (calls_in ran.1.calls ≡ calls_for is_answered 255 0 answers.new.items)) }
-{
-    let ran = run_lent(alloc, runtime, vault, round, gate)?;
-    let keeper = run_keeper(rt, alloc, runtime, vault, round, gate, answers);
-    Ok((ran, keeper))
 }
 
 // What the gate was told by each worker, and last by the maintenance thread.
@@ -432,44 +333,6 @@ fn make_room<D: Disk>(
     vault.ties.reserve(asked + 1)?;
     vault.cuts.reserve(WORKERS)?;
     Ok(answers)
-}
-
-// Runs the workers' lines on the plain map, over the growing log files, which are lent out of the vault meanwhile.
-fn run_lent<D: Disk + Drop, G: LineGate>(
-    alloc: Global,
-    runtime: &mut Runtime,
-    vault: &mut Vault<D>,
-    round: &Round<'_>,
-    gate: &G,
-) -> Result<WorkersRan, Memory>
-    requires plain { SharesWords runtime.old.stands → ⊥ }
-    requires lines { CanRun runtime.old.stands.decls round.now }
-    requires goes_on { runtime.old.stands.ended ≡ false }
-    requires whole { IsWhole vault.old }
-    requires workers { length runtime.old.logs ≡ 8 }
-    requires up { AreLogsUp D.tells runtime.old.logs (growing_in runtime.old.side vault.old) }
-    requires flushed { AllByRecursion (λ log. log.journal.lines ≡ []) runtime.old.logs }
-    requires idle { AreIdle round.now runtime.old.logs }
-    ensures runs { (tries : ℕ) → 1 ≤ tries → (marks : List (List Stood)) × (readied : List (List Readied))
-        × LinesCome D.tells D.clock D.image_at D.faults tries round.now
-        runtime.old.stands runtime.new.stands marks readied runtime.old.logs runtime.new.logs
-        (growing_in runtime.old.side vault.old) (growing_in runtime.old.side vault.new) result
-        × IfOk result (λ ran. AreLastOf marks runtime.new.logs) }
-    ensures epoch { runtime.new.stands.clock.epoch ≡ runtime.old.stands.clock.epoch }
-    ensures pages { runtime.new.stands.pages ≡ runtime.old.stands.pages }
-    ensures drops { runtime.new.stands.drops ≡ runtime.old.stands.drops }
-    ensures map { runtime.new.stands.slots ≡ 0 }
-    ensures once { IfOk result (λ ran. DrewOnce runtime.old.stands runtime.new.stands ran.outcomes) }
-    ensures calls { IfOk result (λ ran. AreAllTold 0 ran.outcomes ran.ends.items) }
-    ensures runtime { runtime.new ≡ record runtime.old { stands = runtime.new.stands; logs = runtime.new.logs } }
-    ensures vault { SameButGrowing runtime.old.side vault.old vault.new }
-{
-    let mut growing = lend(alloc, runtime.side, vault);
-    let ran = runtime
-        .engine
-        .run_plainly(alloc, &mut runtime.logs, &mut growing, round, gate);
-    give_back(runtime.side, vault, growing);
-    ran
 }
 
 // The growing log files, out of the vault.

@@ -17,7 +17,6 @@ ghost use Rattle.worker_logs.specs.Saves.{CountsOf};
 ghost use Rattle.worker_logs.specs.declared.savepoints.Side.TheVariants.{Even};
 ghost use Rattle.recovery_core.specs.NewestSnapshot.{IsNewestSnapshot};
 ghost use Rattle.round_engine.specs.Begun.{OpensOn, begun};
-ghost use Rattle.round_engine.specs.LineEngines.{SharesWords};
 ghost use Rattle.round_engine.specs.Logs.{AreClosedFiles, AreLogs};
 ghost use Rattle.round_engine.specs.Standing.{IsPublished, StandsOn};
 
@@ -50,7 +49,7 @@ pub struct Runtime {
     pub(crate) closed_at: u32,
     /// The workers' logs.
     pub(crate) logs: Vec<WorkerLog>,
-    /// Whether a device failed, or memory was wanted within a round.
+    /// Whether a device failed.
     pub(crate) down: bool,
 }
 
@@ -78,10 +77,9 @@ impl Model for Runtime {
 }
 
 impl Runtime {
-    /// A runtime over a vault that was just settled, in its state, and in the epoch after the saved one. Where words
-    /// that threads share run the lines, each record of an array opens as the newest snapshot has it, with its number;
-    /// they have the slots that are asked for, and room for as many snapshot pages as are let in. The logs are empty,
-    /// and the vault is left as it is.
+    /// A runtime over a vault that was just settled, in its state, and in the epoch after the saved one. Each record
+    /// opens as the newest snapshot has it, with its number; there are the slots that are asked for, and room for as
+    /// many snapshot pages as are let in. The logs are empty, and the vault is left as it is.
     pub fn new<D: Disk>(
         alloc: Global,
         vault: &mut Vault<D>,
@@ -108,7 +106,7 @@ impl Runtime {
             runtime.stands settled.save settled.store config.snap config.first) }
         ensures opens { IfOk result (λ runtime.
             OpensOn (words_of settled.store.pages) (length settled.store.pages) runtime.stands) }
-        ensures slots { IfOk result (λ runtime. SharesWords runtime.stands → runtime.stands.slots ≡ config.slots) }
+        ensures slots { IfOk result (λ runtime. runtime.stands.slots ≡ config.slots) }
         ensures stands { IfOk result (λ runtime.
             StandsOn D.tells D.clock D.image_at runtime vault.new) }
         // Over log files that are empty as far as they tell, which a settling leaves.
@@ -126,15 +124,14 @@ impl Runtime {
         begin(alloc, settled, config)
     }
 
-    /// Whether a round or a join ended the run: by a refusal, or for want of memory within it. Then no further
-    /// round is run.
+    /// Whether a round or a join ended the run, by a refusal. Then no further round is run.
     pub fn has_ended(&self) -> bool
         ensures { result ≡ self.now.stands.ended }
     {
         self.engine.has_ended()
     }
 
-    /// Whether a device failed, or memory was wanted within a round. Then nothing is joined any more.
+    /// Whether a device failed. Then nothing is joined any more.
     pub fn is_down(&self) -> bool
         ensures { result ≡ self.now.down }
     {
@@ -154,7 +151,7 @@ fn begin(alloc: Global, settled: Settled, config: Config) -> Result<Runtime, Mem
         runtime.stands settled.save settled.store config.snap config.first) }
     ensures opens { IfOk result (λ runtime.
         OpensOn (words_of settled.store.pages) (length settled.store.pages) runtime.stands) }
-    ensures slots { IfOk result (λ runtime. SharesWords runtime.stands → runtime.stands.slots ≡ config.slots) }
+    ensures slots { IfOk result (λ runtime. runtime.stands.slots ≡ config.slots) }
     ensures published { IfOk result (λ runtime. IsPublished runtime) }
 {
     let Settled {

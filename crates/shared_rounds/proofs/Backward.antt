@@ -11,14 +11,14 @@ use Rattle.engine_pages.specs.declared.engine.Engine.{Engine}
 use Rattle.engine_pages.specs.declared.view.Role.TheVariants.{Worker}
 use Rattle.engine_pages.specs.declared.view.View.{View}
 use Rattle.wire_form.specs.Words.{IsMark}
-use Rattle.worker_cells.specs.Below.{HasNoTree}
+use Rattle.tx_script.specs.Room.{all_words}
 use Rattle.tx_script.specs.Run.{CanRun}
 use Rattle.worker_cells.specs.Cells.{IsTied, RunsCell}
 use Rattle.worker_cells.specs.Gates.{calls_for, calls_in, is_run}
 use Rattle.worker_cells.specs.declared.cell.Cell.{Cell}
 use Rattle.worker_logs.specs.Logs.{LogState}
 use Rattle.shared_rounds.specs.Parts.{marks_parked}
-use Rattle.shared_rounds.specs.Rooms.{AreCounts}
+use Rattle.shared_rounds.specs.Rooms.{AreCounts, AreSpaces}
 use Rattle.shared_rounds.specs.Seated.{AreRan, AreSeated, HasRun, IsBegun, IsRan, IsReady, IsSeated, MayEnd, backward}
 
 pub backward_push : {X : Type 0} (xs : List X) (x : X) → backward (xs ++ x ∷ []) ≡ x ∷ backward xs
@@ -78,23 +78,25 @@ module _ {D : Type 0} (tells : D → Option (List ℕ)) (clock : D → ℕ) (ima
     (faults : D → ℕ) where
   -- ---- before the lines
 
-  ready_one : (words : Engine) (was mid : View) (counts : List ℕ) (worker : ℕ) (round : Round) (cell : Cell D)
-      (log : LogState) (bank : D) → CanRun mid.layout.decls round → HasNoTree mid.layout.decls
-      → AreCounts round counts → IsBegun round was worker (worker_view worker mid) log
-      → IsSeated tells words mid counts worker cell log bank → IsReady tells words round cell
-  ready_one words was mid counts worker round cell log bank lines arrays counted begun s = record {
+  ready_one : (words : Engine) (was mid : View) (counts spaces : List ℕ) (worker : ℕ) (round : Round) (cell : Cell D)
+      (log : LogState) (bank : D) → CanRun mid.layout.decls round
+      → AreCounts round counts → AreSpaces round spaces → IsBegun round was worker (worker_view worker mid) log
+      → IsSeated tells words mid counts spaces worker cell log bank → IsReady tells words round cell
+  ready_one words was mid counts spaces worker round cell log bank lines counted spaced begun s = record {
     of = s.of;
     ready = s.ready;
     role = ap (λ (v : View). v.role) s.seat ∙ ap Worker (sym s.number);
     small = subst (λ n. n < 8) (sym s.number) s.small;
     lines = subst (λ (v : View). CanRun v.layout.decls round) (sym s.seat) lines;
-    arrays = subst (λ (v : View). HasNoTree v.layout.decls) (sym s.seat) arrays;
     none = s.none;
     count = s.lines ∙ counted.each worker s.small
         ∙ ap (λ n. length (lines_of_worker round n)) (sym s.number);
     room = let many = counted.each worker s.small in
         subst (λ n. length (lines_of_worker round n) ≤ cell.outcomes.left) (sym s.number)
         (omega (arith, many, s.room));
+    space = let many = spaced.each worker s.small in
+        subst (λ n. all_words (lines_of_worker round n) ≤ cell.outcomes.space) (sym s.number)
+        (omega (arith, many, s.space));
     tied = λ some.
         let named = begun.named (λ none. some (ap (lines_of_worker round) s.number ∙ none)) in
         subst (λ (l : LogState). IsTied l.mark (view cell.pass).seat.marks × IsMark l.mark) (sym s.log_is)
@@ -104,38 +106,38 @@ module _ {D : Type 0} (tells : D → Option (List ℕ)) (clock : D → ℕ) (ima
         ));
   }
 
-  ready_all : (words : Engine) (was mid : View) (counts : List ℕ) (worker : ℕ) (round : Round) (cells : List (Cell D))
-      (logs : List LogState) (banks : List D) → CanRun mid.layout.decls round → HasNoTree mid.layout.decls
-      → AreCounts round counts → AreBegun round was mid worker logs
-      → AreSeated tells words mid counts worker cells logs banks
+  ready_all : (words : Engine) (was mid : View) (counts spaces : List ℕ) (worker : ℕ) (round : Round) (cells : List (Cell D))
+      (logs : List LogState) (banks : List D) → CanRun mid.layout.decls round
+      → AreCounts round counts → AreSpaces round spaces → AreBegun round was mid worker logs
+      → AreSeated tells words mid counts spaces worker cells logs banks
       → AllByRecursion (IsReady tells words round) cells
-  ready_all words was mid counts worker round [] logs banks lines arrays counted begun are = tt
-  ready_all words was mid counts worker round (cell ∷ cells) [] banks lines arrays counted begun are = absurd are
-  ready_all words was mid counts worker round (cell ∷ cells) (log ∷ logs) [] lines arrays counted begun are = absurd are
-  ready_all words was mid counts worker round (cell ∷ cells) (log ∷ logs) (bank ∷ banks) lines arrays counted begun
+  ready_all words was mid counts spaces worker round [] logs banks lines counted spaced begun are = tt
+  ready_all words was mid counts spaces worker round (cell ∷ cells) [] banks lines counted spaced begun are = absurd are
+  ready_all words was mid counts spaces worker round (cell ∷ cells) (log ∷ logs) [] lines counted spaced begun are = absurd are
+  ready_all words was mid counts spaces worker round (cell ∷ cells) (log ∷ logs) (bank ∷ banks) lines counted spaced begun
       are = (
-        ready_one words was mid counts worker round cell log bank lines arrays counted begun.0 are.0,
-        ready_all words was mid counts (worker + 1) round cells logs banks lines arrays counted begun.1 are.1,
+        ready_one words was mid counts spaces worker round cell log bank lines counted spaced begun.0 are.0,
+        ready_all words was mid counts spaces (worker + 1) round cells logs banks lines counted spaced begun.1 are.1,
       )
 
   -- seated cells may run
-  pub cells_ready : (words : Engine) (was mid : View) (counts : List ℕ) (round : Round) (cells : List (Cell D))
-      (logs : List LogState) (banks : List D) → CanRun mid.layout.decls round → HasNoTree mid.layout.decls
-      → AreCounts round counts → AreBegun round was mid 0 logs
-      → AreSeated tells words mid counts 0 (backward cells) logs banks
+  pub cells_ready : (words : Engine) (was mid : View) (counts spaces : List ℕ) (round : Round) (cells : List (Cell D))
+      (logs : List LogState) (banks : List D) → CanRun mid.layout.decls round
+      → AreCounts round counts → AreSpaces round spaces → AreBegun round was mid 0 logs
+      → AreSeated tells words mid counts spaces 0 (backward cells) logs banks
       → AllByRecursion (IsReady tells words round) cells
-  cells_ready words was mid counts round cells logs banks lines arrays counted begun are =
+  cells_ready words was mid counts spaces round cells logs banks lines counted spaced begun are =
       all_backward (IsReady tells words round) cells
-      (ready_all words was mid counts 0 round (backward cells) logs banks lines arrays counted begun are)
+      (ready_all words was mid counts spaces 0 round (backward cells) logs banks lines counted spaced begun are)
 
   -- ---- behind them
 
-  ran_one : (tries : ℕ) (round : Round) (words : Engine) (was mid : View) (counts : List ℕ) (worker : ℕ)
+  ran_one : (tries : ℕ) (round : Round) (words : Engine) (was mid : View) (counts spaces : List ℕ) (worker : ℕ)
       (old new : Cell D) (log : LogState) (bank : D) → IsBegun round was worker (worker_view worker mid) log
-      → IsSeated tells words mid counts worker old log bank
+      → IsSeated tells words mid counts spaces worker old log bank
       → HasRun tells clock image_at faults tries round words old new
       → IsRan tells clock image_at faults tries round words was worker new log bank
-  ran_one tries round words was mid counts worker old new log bank begun s ran = record {
+  ran_one tries round words was mid counts spaces worker old new log bank begun s ran = record {
     of = ran.of;
     number = ran.number ∙ s.number;
     small = s.small;
@@ -151,32 +153,32 @@ module _ {D : Type 0} (tells : D → Option (List ℕ)) (clock : D → ℕ) (ima
     calls = subst (λ n. calls_in new.end.calls ≡ calls_for is_run n 0 new.outcomes.told) s.number ran.calls;
   }
 
-  ran_all : (tries : ℕ) (round : Round) (words : Engine) (was mid : View) (counts : List ℕ) (worker : ℕ)
+  ran_all : (tries : ℕ) (round : Round) (words : Engine) (was mid : View) (counts spaces : List ℕ) (worker : ℕ)
       (olds news : List (Cell D)) (logs : List LogState) (banks : List D) → AreBegun round was mid worker logs
-      → AreSeated tells words mid counts worker olds logs banks
+      → AreSeated tells words mid counts spaces worker olds logs banks
       → BothBy (HasRun tells clock image_at faults tries round words) olds news
       → AreRan tells clock image_at faults tries round words was worker news logs banks
-  ran_all tries round words was mid counts worker [] [] [] [] begun are both = tt
-  ran_all tries round words was mid counts worker [] [] [] (b ∷ banks) begun are both = absurd are
-  ran_all tries round words was mid counts worker [] [] (l ∷ logs) banks begun are both = absurd are
-  ran_all tries round words was mid counts worker [] (n ∷ news) logs banks begun are both = absurd both
-  ran_all tries round words was mid counts worker (o ∷ olds) [] logs banks begun are both = absurd both
-  ran_all tries round words was mid counts worker (o ∷ olds) (n ∷ news) [] banks begun are both = absurd are
-  ran_all tries round words was mid counts worker (o ∷ olds) (n ∷ news) (l ∷ logs) [] begun are both = absurd are
-  ran_all tries round words was mid counts worker (o ∷ olds) (n ∷ news) (l ∷ logs) (b ∷ banks) begun are both = (
-    ran_one tries round words was mid counts worker o n l b begun.0 are.0 both.0,
-    ran_all tries round words was mid counts (worker + 1) olds news logs banks begun.1 are.1 both.1,
+  ran_all tries round words was mid counts spaces worker [] [] [] [] begun are both = tt
+  ran_all tries round words was mid counts spaces worker [] [] [] (b ∷ banks) begun are both = absurd are
+  ran_all tries round words was mid counts spaces worker [] [] (l ∷ logs) banks begun are both = absurd are
+  ran_all tries round words was mid counts spaces worker [] (n ∷ news) logs banks begun are both = absurd both
+  ran_all tries round words was mid counts spaces worker (o ∷ olds) [] logs banks begun are both = absurd both
+  ran_all tries round words was mid counts spaces worker (o ∷ olds) (n ∷ news) [] banks begun are both = absurd are
+  ran_all tries round words was mid counts spaces worker (o ∷ olds) (n ∷ news) (l ∷ logs) [] begun are both = absurd are
+  ran_all tries round words was mid counts spaces worker (o ∷ olds) (n ∷ news) (l ∷ logs) (b ∷ banks) begun are both = (
+    ran_one tries round words was mid counts spaces worker o n l b begun.0 are.0 both.0,
+    ran_all tries round words was mid counts spaces (worker + 1) olds news logs banks begun.1 are.1 both.1,
   )
 
   -- what threads made of seated cells
-  pub cells_ran : (tries : ℕ) (round : Round) (words : Engine) (was mid : View) (counts : List ℕ)
+  pub cells_ran : (tries : ℕ) (round : Round) (words : Engine) (was mid : View) (counts spaces : List ℕ)
       (olds news : List (Cell D)) (logs : List LogState) (banks : List D) → AreBegun round was mid 0 logs
-      → length news ≡ length olds → AreSeated tells words mid counts 0 (backward olds) logs banks
+      → length news ≡ length olds → AreSeated tells words mid counts spaces 0 (backward olds) logs banks
       → ((k : ℕ) (d : Cell D) → k < length olds → HasRun tells clock image_at faults tries round words
       (slice_index_or olds k d) (slice_index_or news k d))
       → AreRan tells clock image_at faults tries round words was 0 (backward news) logs banks
-  cells_ran tries round words was mid counts olds news logs banks begun same are each =
-      ran_all tries round words was mid counts 0 (backward olds) (backward news) logs banks begun are
+  cells_ran tries round words was mid counts spaces olds news logs banks begun same are each =
+      ran_all tries round words was mid counts spaces 0 (backward olds) (backward news) logs banks begun are
       (both_backward (HasRun tells clock image_at faults tries round words) olds news
       (both_from (HasRun tells clock image_at faults tries round words) olds news same each))
 

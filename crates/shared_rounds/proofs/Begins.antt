@@ -2,13 +2,9 @@
 use Rattle.std.proofs.Common.{◌≡◌, ℕ, zero, suc, ◌-◌, ◌<◌, ◌≤◌, length, true, true≢false, List, [], ◌∷◌}
 use Rattle.std.proofs.Common.{Some}
 use Rattle.std.proofs.Common.{get_or, replicate, refl, sym, ap, ◌∙◌, subst}
-use Rattle.std.specs.List.{list_all}
 use Rattle.lists.specs.Elements.{in_none}
-use Rattle.serial_model.specs.declared.decl.Decl.{Decl}
-use Rattle.serial_model.specs.declared.decl.Decl.TheVariants.{Array, Tree}
 use Rattle.serial_model.specs.declared.number.Number.{Number}
 use Rattle.commit_core.specs.Opening.{fresh_seat}
-use Rattle.serial_bridge.specs.WriteSets.{HasNoTree}
 use Rattle.engine_pages.specs.declared.layout.Layout.{Layout}
 use Rattle.engine_pages.specs.declared.view.View.{View}
 use Rattle.page_opening.specs.Making.{CanMake}
@@ -16,16 +12,10 @@ use Rattle.resident_pages.specs.Fills.{AreClaimed}
 use Rattle.resident_pages.specs.Publishes.{OnlyFilled}
 use Rattle.engine_pages.specs.Passes.{view, Pass}
 use Rattle.engine_pages.specs.Views.{bare_seat, opening_view, IsResting}
-use Rattle.shared_rounds.specs.SharedState.{conflicts_in, is_array, marks_of, opened, shared_by}
+use Rattle.shared_rounds.specs.SharedState.{conflicts_in, marks_of, opened, shared_by}
 use Rattle.shared_rounds.specs.SharedState.{state_of, IsKept, SharedState}
 use Rattle.shared_rounds.proofs.Contents.{opened_is}
 use Rattle.shared_rounds.proofs.Declared.{OpensDeclared}
-
--- where all storages are arrays none is a tree
-no_tree : (decls : List Decl) → list_all is_array decls ≡ true → HasNoTree decls
-no_tree [] are storage = refl
-no_tree (Array id size ∷ decls) are storage = no_tree decls are storage
-no_tree (Tree id ∷ decls) are storage = absurd (true≢false (sym are))
 
 -- ---- what the pass knows
 
@@ -69,13 +59,12 @@ first_shared l clock keeper is same =
     }) is
     ∙ ap (unused l) same
 
-pub first_kept : (l : Layout) (v : View) → CanMake l → list_all is_array l.decls ≡ true → OpensDeclared l
+pub first_kept : (l : Layout) (v : View) → CanMake l → OpensDeclared l
     → OnlyFilled (opening_view l) v → AreClaimed v → IsKept v
-first_kept l v can arrays none is claims = subst IsKept (sym is) record {
+first_kept l v can none is claims = subst IsKept (sym is) record {
   role = refl;
   made = refl;
   decls = can.opens.declared;
-  arrays = no_tree l.decls arrays;
   first = can.opens.number;
   records = λ k outside. opened_is l.opening k ∙ none k outside;
   counted = record { own = refl; all = λ h. refl; drawn = λ n is. absurd (true≢false (sym is)) };

@@ -82,7 +82,11 @@ line_comes first tries last log ops Full refused logged v w some from below come
       line.words,
       ends_with ops tries (ToSlots line.words) refused v w line.refused comes.2,
     )
-line_comes first tries last log ops Wide refused logged v w some from below comes = absurd comes
+line_comes first tries last log ops Wide refused logged v w some from below comes =
+    let line = comes.1 in (
+      omega (arith, line.began, from),
+      ends_with ops tries (ToSet line.set) refused v w line.refused comes.2,
+    )
 line_comes first tries last log ops Unrun refused logged v w some from below comes = absurd comes
 
 -- what a line keeps of its pass
@@ -92,7 +96,7 @@ line_seen tries ops (Committed verdict number replies) refused logged v w comes 
 line_seen tries ops Conflict refused logged v w comes = (comes.1.tried.seen, comes.1.tried.layout)
 line_seen tries ops Limit refused logged v w comes = (comes.1.refused.tried.seen, comes.1.refused.tried.layout)
 line_seen tries ops Full refused logged v w comes = (comes.1.refused.tried.seen, comes.1.refused.tried.layout)
-line_seen tries ops Wide refused logged v w comes = absurd comes
+line_seen tries ops Wide refused logged v w comes = (comes.1.refused.tried.seen, comes.1.refused.tried.layout)
 line_seen tries ops Unrun refused logged v w comes = absurd comes
 
 -- ---- lines in a row
@@ -150,7 +154,7 @@ line_last tries ops (Committed verdict number replies) refused logged v w more c
 line_last tries ops Conflict refused logged v w more comes rest = rest
 line_last tries ops Limit refused logged v w more comes rest = rest
 line_last tries ops Full refused logged v w more comes rest = rest
-line_last tries ops Wide refused logged v w more comes rest = absurd comes
+line_last tries ops Wide refused logged v w more comes rest = rest
 line_last tries ops Unrun refused logged v w more comes rest = absurd comes
 
 pub row_last : (tries : ℕ) (v : View) (ran : List LineRan) (left : List (List Op)) (w : View) → AreInARow tries v ran w

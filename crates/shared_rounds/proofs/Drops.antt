@@ -30,14 +30,15 @@ use Rattle.engine_pages.specs.declared.view.Dropped.{Dropped as Counts}
 use Rattle.engine_pages.specs.declared.view.Lead.{Lead}
 use Rattle.engine_pages.specs.declared.view.Role.TheVariants.{Keeper}
 use Rattle.engine_pages.specs.declared.view.View.{View}
-use Rattle.page_drops.specs.Calls.{CanDropAll, HasDroppedAll, slots_on}
+use Rattle.page_drops.specs.Calls.{CanDropAll, slots_on}
 use Rattle.page_drops.specs.declared.calls.Dropped.{Dropped}
+use Rattle.tree_drops.specs.Calls.{HasDroppedAll}
 use Rattle.resident_pages.specs.Extends.{lead_of}
 use Rattle.resident_pages.specs.Fills.{AreClaimed, HasLooked}
 use Rattle.resident_pages.specs.Publishes.{HasPublished}
 use Rattle.resident_pages.proofs.PagesFilled.{words_many}
 use Rattle.shared_rounds.specs.Beside.{Went}
-use Rattle.shared_rounds.specs.Drops.{AreNewestRoots, HasCalled, HasDropped, KnowsNewest, KnowsRoots, OnlyNamed}
+use Rattle.shared_rounds.specs.Drops.{HasCalled, HasDropped, KnowsNewest, KnowsRoots, OnlyNamed}
 use Rattle.shared_rounds.specs.SharedState.{HoldsNothing}
 use Rattle.shared_rounds.proofs.Claimed.{claimed_still, free_still, grown, owns_behind, same_pages}
 use Rattle.shared_rounds.proofs.NewPages.{newest_in, newest_is}
@@ -97,9 +98,9 @@ roots_known pages new contents v w stand declares h i s at some =
 -- the same, by what the words of the catalogue say
 pub knows_newest : (pages : List Page) (contents : Contents) (new : List (List ℕ)) (v w : View)
     → SnapshotStands (words_of pages) (length pages) contents → decls_of contents ≡ v.layout.decls
-    → HasPublished new (named_places (words_of pages) (newest_in v.layout.decls (words_of pages))) v w
+    → contents.epoch ≤ v.past → HasPublished new (named_places (words_of pages) (newest_in v.layout.decls (words_of pages))) v w
     → KnowsNewest (words_of pages) w
-knows_newest pages contents new v w stands declares h =
+knows_newest pages contents new v w stands declares over h =
     let words : List (List ℕ) = words_of pages in
     let here : CatalogueAt words (length words) contents =
     subst (λ n. CatalogueAt words n contents) (sym (words_many pages)) stands.here in
@@ -111,6 +112,7 @@ knows_newest pages contents new v w stands declares h =
       contents = contents;
       at = here;
       declares = declares ∙ sym (ap (λ (z : View). z.layout.decls) named.is);
+      past = let same = ap (λ (z : View). z.past) named.is in omega (arith, over, same);
       roots = roots_known words new contents v w stands.roots declares named;
     }
 
@@ -156,6 +158,15 @@ root_in_page pages contents i s at there =
     ∙ (sym (get_or-drop 16 words (3 * i + 2) 0)
     ∙ (ap (λ (ws : List ℕ). get_or (drop 16 ws) (3 * i + 2) 0) at.words
     ∙ root_word contents.storages (replicate (48 - length (flat_map stored_words contents.storages)) 0) i s there))
+
+-- the second word is the epoch
+pub epoch_in_page : (pages : List (List ℕ)) (contents : Contents) → CatalogueAt pages (length pages) contents
+    → get_or (page pages (length pages)) 1 0 % 2 ^ 32 ≡ contents.epoch
+epoch_in_page pages contents at =
+    let is : get_or (page pages (length pages)) 1 0 ≡ contents.epoch = ap (λ (ws : List ℕ). get_or ws 1 0) at.words in
+    let below = at.catalogue.epoch in
+    let small : contents.epoch % 2 ^ 32 ≡ contents.epoch = omega (arith, below) in
+    ap (λ n. n % 2 ^ 32) is ∙ small
 
 -- a root's number is below the catalogue's
 pub root_below : (pages : List (List ℕ)) (contents : Contents) (i : ℕ) (s : Stored)
@@ -203,12 +214,18 @@ module _ (pages : List (List ℕ)) (few : length pages ≤ 65536) (v : View) (kn
       let size = are.long in
       length-take-le count roots (omega (arith, all, most, size)) ∙ all
 
-  pub newest_roots : AreNewestRoots pages (take count roots)
-  newest_roots = record {
-    contents = knows.contents;
-    at = knows.at;
-    long = long ∙ sym many;
-    each = root_is;
+  -- the call over these roots, by the catalogue's epoch
+  pub called_so : (tally : Dropped) (w : View) (epoch : ℕ) → epoch ≡ knows.contents.epoch
+      → HasDroppedAll (take count roots) epoch v tally w → HasCalled pages tally v w
+  called_so tally w epoch is all = record {
+    roots = take count roots;
+    newest = record {
+      contents = knows.contents;
+      at = knows.at;
+      long = long ∙ sym many;
+      each = root_is;
+    };
+    all = subst (λ n. HasDroppedAll (take count roots) n v tally w) is all;
   }
 
   -- the root with an index
@@ -254,7 +271,7 @@ module _ (pages : List (List ℕ)) (few : length pages ≤ 65536) (v : View) (kn
 
 module _ (words : List (List ℕ)) (tally : Dropped) (v u mid w : View) (count : ℕ) (named : OnlyNamed v u)
     (claims : AreClaimed u) (called : HasCalled words tally u mid) (looked : HasLooked mid count w) where
-  abbrev d : HasDroppedAll called.roots u tally mid
+  abbrev d : HasDroppedAll called.roots called.newest.contents.epoch u tally mid
   d = called.all
 
   layout : w.layout ≡ v.layout

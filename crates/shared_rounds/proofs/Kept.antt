@@ -9,7 +9,6 @@ kept_next v w is k = subst IsKept (sym is) record {
   role = k.role;
   made = k.made;
   decls = k.decls;
-  arrays = k.arrays;
   first = k.first;
   records = k.records;
   counted = record { own = k.counted.own; all = k.counted.all; drawn = k.counted.drawn };

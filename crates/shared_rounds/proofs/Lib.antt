@@ -34,7 +34,6 @@ mod Rows
 mod Seated
 mod Seats
 mod Shared
-mod StillArrays
 mod Told
 mod TriesCaused
 mod Whole

@@ -1,24 +1,29 @@
 -- Whom tries in conflict met: where one met another's lock, a line of another worker may change that key, or pages were
 -- dropped. A line that found no slot may change some key.
-use Rattle.std.proofs.Common.{◌≡◌, ◌⊎◌, ◌∙◌, inl, inr, sym, ap, subst, refl, ℕ, zero, suc, ◌+◌, true, List, []}
-use Rattle.std.proofs.Common.{◌∷◌, ◌++◌, length, map, arith, Option, Some, None}
-use Rattle.std.specs.Prelude.{slice_get}
+use Rattle.std.proofs.Common.{◌≡◌, ◌⊎◌, ◌∙◌, inl, inr, sym, ap, subst, refl, ℕ, zero, suc, ◌+◌, Bool, true, false, List}
+use Rattle.std.proofs.Common.{[], ◌∷◌, ◌++◌, length, map, arith, Option, Some, None, eqb, eq-eqb, eqb-true}
+use Rattle.std.specs.Prelude.{◌==◌, ◌&&◌, nat_le, slice_get}
+use Rattle.std.proofs.lemmas.Bool.{and_parts}
 use Rattle.std.specs.List.{AllByRecursion, Contains}
 use Rattle.std.proofs.lemmas.Bool.Decides.{nat_tests}
 use Rattle.std.proofs.lemmas.List.Elements.{Contains-append_left, Contains-append_right}
 use Rattle.lists.specs.Elements.{any_in, in_cases, in_head, in_none, in_tail}
+use Rattle.serial_model.specs.declared.decl.Decl.{Decl}
 use Rattle.serial_model.specs.declared.key.Key.{Key}
 use Rattle.serial_model.specs.declared.op.Op.{Op}
 use Rattle.serial_model.specs.declared.op.Op.TheVariants.{Read, Write, Remove, Add, Take, Scan}
+use Rattle.engine_pages.specs.Pages.{decl_of, is_array, is_tree}
+use Rattle.engine_pages.specs.Pointers.{one_kind}
 use Rattle.engine_pages.specs.Touches.{AreBlamed, touch}
+use Rattle.engine_pages.specs.declared.layout.Layout.{Layout}
 use Rattle.engine_pages.specs.declared.view.Dropped.{Dropped}
 use Rattle.engine_pages.specs.declared.view.Touch.{Touch}
 use Rattle.engine_pages.specs.declared.view.View.{View}
-use Rattle.worker_cells.specs.Below.{blame_at, blame_of, blames_of, IsKeyOf, IsMetKey, IsOfKey, IsWrittenBy, Lost}
-use Rattle.worker_cells.specs.Below.{MayWrite, ToClock, ToOther, ToSet, ToSlots}
+use Rattle.worker_cells.specs.Below.{blame_at, blame_of, blames_of, IsKeyOf, IsMetKey, IsOfArray, IsOfKey, IsWrittenBy, Lost}
+use Rattle.worker_cells.specs.Below.{IsOnTree, MayWrite, ToClock, ToOther, ToSet, ToSlots}
 use Rattle.tx_script.specs.Conflicts.{IsMet, IsMetAt, IsMetBy, LinesMet, WorkersMet, changes, changes_key, same_key}
-use Rattle.tx_script.specs.Conflicts.{touches}
-use Rattle.tx_script.specs.Conflicts.{touches_key}
+use Rattle.tx_script.specs.Conflicts.{IsOnTree as IsOfTree, touches, touches_key}
+use Rattle.worker_cells.specs.InARow.{IsTakenBy, line_keeps, row_before}
 use Rattle.worker_cells.specs.Rows.{AreInARow, LineRan, lines_of, refused_of}
 use Rattle.shared_rounds.specs.Parts.{AreParts, IsPart, IsRound, Part, no_tries, tries_of, try_refusal}
 use Rattle.shared_rounds.specs.Shares.{Share}
@@ -43,13 +48,24 @@ same_self k = grind (arith, nat_tests)
 same_of : (q k : Key) → q ≡ k → same_key q k ≡ true
 same_of q k is = subst (λ (x : Key). same_key q x ≡ true) is (same_self q)
 
+both : (x y : Bool) → x ≡ true → y ≡ true → (x && y) ≡ true
+both true true first second = refl
+both true false first second = absurd cc
+both false y first second = absurd cc
+
+-- a range has the key, whichever way the storages are compared
+in_range : (own other : ℕ) (inside : Bool) → ((own == other) && inside) ≡ true → ((other == own) && inside) ≡ true
+in_range own other inside is =
+    let parts = and_parts (eqb own other) inside is in
+    both (eqb other own) inside (eq-eqb other own (sym (eqb-true own other parts.0))) parts.1
+
 touched_by : (op : Op) (k : Key) → IsOfKey op k → touches_key k op ≡ true
 touched_by (Read q) k of = same_of q k of
 touched_by (Write q value) k of = same_of q k of
 touched_by (Remove q) k of = same_of q k of
 touched_by (Add q value) k of = same_of q k of
 touched_by (Take q value) k of = same_of q k of
-touched_by (Scan storage low high) k of = absurd of
+touched_by (Scan storage low high) k of = in_range k.storage storage (nat_le low k.key && nat_le k.key high) of
 
 changed_by : (op : Op) (k : Key) → MayWrite op k → changes_key k op ≡ true
 changed_by (Read q) k may = absurd may
@@ -64,6 +80,15 @@ line_touches ops k key = any_in (touches_key k) ops key.op key.among (touched_by
 
 line_changes : (ops : List Op) (k : Key) → IsWrittenBy ops k → changes ops k ≡ true
 line_changes ops k key = any_in (changes_key k) ops key.op key.among (changed_by key.op k key.writes)
+
+-- an operation is on a tree
+on_tree : (decls : List Decl) (op : Op) → IsOnTree decls op → IsOfTree decls op
+on_tree decls (Read k) on = on
+on_tree decls (Write k value) on = on
+on_tree decls (Remove k) on = on
+on_tree decls (Add k amount) on = on
+on_tree decls (Take k amount) on = on
+on_tree decls (Scan storage low high) on = on
 
 -- ---- lines that were run
 
@@ -97,12 +122,16 @@ ops_in (x ∷ ran) left line has = elim (in_cases line x ran has) [
 ]
 
 row_lost : (tries : ℕ) (v : View) (ran : List LineRan) (w : View) → AreInARow tries v ran w → (line : LineRan)
-    → Contains ran line → AllByRecursion (IsLostOf line.ops) line.refused
+    → Contains ran line → AllByRecursion (IsLostOf v.layout.decls line.ops) line.refused
 row_lost tries v [] w row line has = absurd (in_none line has)
 row_lost tries v (x ∷ ran) w row line has = elim (in_cases line x ran has) [
-  | inl same ↦ subst (λ (y : LineRan). AllByRecursion (IsLostOf y.ops) y.refused) same
-      (line_lost tries x.ops x.outcome x.refused x.logged x.before x.after row.1)
-  | inr later ↦ row_lost tries x.after ran w row.2 line later
+  | inl same ↦ subst (λ (y : LineRan). AllByRecursion (IsLostOf v.layout.decls y.ops) y.refused) same
+      (subst (λ (l : Layout). AllByRecursion (IsLostOf l.decls x.ops) x.refused) row.0.layout
+      (line_lost tries x.ops x.outcome x.refused x.logged x.before x.after row.1))
+  | inr later ↦
+      let kept = line_keeps tries x.ops x.outcome x.refused x.logged x.before x.after row.1 in
+      subst (λ (l : Layout). AllByRecursion (IsLostOf l.decls line.ops) line.refused) (kept.layout ∙ row.0.layout)
+      (row_lost tries x.after ran w row.2 line later)
 ]
 
 part_at : (tries : ℕ) (was ended : View) (first : ℕ) (parts : List Part) (i : ℕ) (p : Part)
@@ -148,12 +177,25 @@ module _ (tries : ℕ) (was now : View) (parts : List Part) (r : IsRound tries w
             (ap (λ (v : View). v.touched) r.audited.1.is) o.taken;
       }
 
+  -- a line that locked the record of an array's key may write it
+  written_in : (by : ℕ) (p : Part) → slice_get parts by ≡ Some p → {t : Touch} → (x : IsTakenBy (suc by) p.ran t)
+      → is_array was.layout.decls t.key.storage ≡ true → IsWrittenBy x.line.ops t.key
+  written_in by p there {t} x array =
+      let part = part_at tries was r.ended 0 parts by p r.parts_are there in
+      let same : x.line.before.layout ≡ was.layout =
+      row_before tries p.from p.ran p.to part.row x.line x.among ∙ part.seated.layout in
+      elim x.written [
+        | inl own ↦ own
+        | inr tree ↦ absurd (one_kind (decl_of was.layout.decls t.key.storage) array
+            (subst (λ (l : Layout). is_tree l.decls t.key.storage ≡ true) same tree.0))
+      ]
+
   lost_met : (worker : ℕ) (p : Part) → slice_get parts worker ≡ Some p → (line : LineRan) → Contains p.ran line
-      → (lost : Lost) → Contains line.refused lost → IsLostOf line.ops lost
-      → IsMet lines_all dropped worker line.ops (try_refusal lost)
+      → (lost : Lost) → Contains line.refused lost → IsLostOf was.layout.decls line.ops lost
+      → IsMet was.layout.decls lines_all dropped worker line.ops (try_refusal lost)
   lost_met worker p at line among (ToClock clock) has of = tt
   lost_met worker p at line among (ToSlots words) has of = (of.0, line_changes line.ops of.0 of.1)
-  lost_met worker p at line among (ToSet set) has of = absurd of
+  lost_met worker p at line among (ToSet set) has of = (of.0, of.1, on_tree was.layout.decls of.0 of.2)
   lost_met worker p at line among (ToOther clash) has of =
       by_met clash.met refl of.1
     where
@@ -166,6 +208,7 @@ module _ (tries : ℕ) (was now : View) (parts : List Part) (r : IsRound tries w
           let o = blamed_all b (r.blamed worker p at b (blame_in (suc worker) k (refused_of p.ran) (ToOther clash)
           (refused_in p.ran line (ToOther clash) among has) here)) in
           let x = r.touched same (touch o.by k) o.taken in
+          let array : is_array was.layout.decls k.storage ≡ true = subst (IsOfArray was.layout.decls) met of.2 in
           let own : o.by ≡ suc x.0 = x.3.own in
           record {
             key = line_touches line.ops k key;
@@ -176,7 +219,7 @@ module _ (tries : ℕ) (was now : View) (parts : List Part) (r : IsRound tries w
               at = share_there parts x.0 x.1 x.2;
               ops = x.3.line.ops;
               among = ops_in x.1.ran x.1.left x.3.line x.3.among;
-              changes = line_changes x.3.line.ops k x.3.written;
+              changes = line_changes x.3.line.ops k (written_in x.0 x.1 x.2 x.3 array);
             };
           }
 
@@ -200,33 +243,34 @@ module _ (tries : ℕ) (was now : View) (parts : List Part) (r : IsRound tries w
 
   line_met : (worker : ℕ) (p : Part) → slice_get parts worker ≡ Some p → (line : LineRan) → Contains p.ran line
       → (losts : List Lost) → ((lost : Lost) → Contains losts lost → Contains line.refused lost)
-      → AllByRecursion (IsLostOf line.ops) losts
-      → AllByRecursion (IsMet lines_all dropped worker line.ops) (map try_refusal losts)
+      → AllByRecursion (IsLostOf was.layout.decls line.ops) losts
+      → AllByRecursion (IsMet was.layout.decls lines_all dropped worker line.ops) (map try_refusal losts)
   line_met worker p at line among [] within of = tt
   line_met worker p at line among (lost ∷ losts) within of = (
     lost_met worker p at line among lost (within lost (in_head lost losts)) of.0,
     line_met worker p at line among losts (λ x has. within x (in_tail x lost losts has)) of.1,
   )
 
-  left_met : (worker : ℕ) (left : List (List Op)) → LinesMet lines_all dropped worker left (no_tries left)
+  left_met : (worker : ℕ) (left : List (List Op)) → LinesMet was.layout.decls lines_all dropped worker left (no_tries left)
   left_met worker [] = tt
   left_met worker (ops ∷ left) = (tt, left_met worker left)
 
   lines_met : (worker : ℕ) (p : Part) → slice_get parts worker ≡ Some p → (ran : List LineRan)
       → ((line : LineRan) → Contains ran line → Contains p.ran line) → (left : List (List Op))
-      → LinesMet lines_all dropped worker (lines_of ran ++ left) (tries_of ran ++ no_tries left)
+      → LinesMet was.layout.decls lines_all dropped worker (lines_of ran ++ left) (tries_of ran ++ no_tries left)
   lines_met worker p at [] within left = left_met worker left
   lines_met worker p at (line ∷ ran) within left =
       let among = within line (in_head line ran) in
       let part = part_at tries was r.ended 0 parts worker p r.parts_are at in (
         line_met worker p at line among line.refused (λ lost has. has)
-            (row_lost tries p.from p.ran p.to part.row line among),
+            (subst (λ (l : Layout). AllByRecursion (IsLostOf l.decls line.ops) line.refused) part.seated.layout
+            (row_lost tries p.from p.ran p.to part.row line among)),
         lines_met worker p at ran (λ x has. within x (in_tail x line ran has)) left,
       )
 
   workers_met : (first : ℕ) (rest : List Part)
       → ((i : ℕ) (p : Part) → slice_get rest i ≡ Some p → slice_get parts (first + i) ≡ Some p)
-      → WorkersMet lines_all dropped first (map (λ (share : Share). share.lines) (shares_of rest))
+      → WorkersMet was.layout.decls lines_all dropped first (map (λ (share : Share). share.lines) (shares_of rest))
       (map (λ (share : Share). share.tries_refused) (shares_of rest))
   workers_met first [] there = tt
   workers_met first (p ∷ rest) there =
@@ -237,5 +281,5 @@ module _ (tries : ℕ) (was now : View) (parts : List Part) (r : IsRound tries w
             ap (λ n. slice_get parts n) later ∙ there (suc i) q is),
       )
 
-  pub all_met : WorkersMet lines_all dropped 0 lines_all (map (λ (share : Share). share.tries_refused) (shares_of parts))
+  pub all_met : WorkersMet was.layout.decls lines_all dropped 0 lines_all (map (λ (share : Share). share.tries_refused) (shares_of parts))
   all_met = workers_met 0 parts (λ i p is. let same : 0 + i ≡ i = omega arith in ap (λ n. slice_get parts n) same ∙ is)

@@ -116,7 +116,6 @@ kept_published pages v w is claims k = subst IsKept (sym is) record {
   role = k.role;
   made = k.made;
   decls = k.decls;
-  arrays = k.arrays;
   first = k.first;
   records = k.records;
   counted = record { own = k.counted.own; all = k.counted.all; drawn = k.counted.drawn };

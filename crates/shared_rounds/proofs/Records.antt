@@ -1,7 +1,8 @@
--- Commits write the keys of arrays alone.
+-- Commits write the keys of the storages alone.
 use Rattle.std.proofs.Common.{◌≡◌, ◌∙◌, sym, ap, subst, refl, ℕ, ◌+◌, Bool, true, false, true≢false, cond}
 use Rattle.std.proofs.Common.{List, [], ◌∷◌, ◌++◌, inl, inr, Option, None, Some}
-use Rattle.std.specs.Prelude.{IsTrue, option_to_list, unwrap_or}
+use Rattle.std.specs.Prelude.{◌==◌, ◌||◌, IsTrue, option_to_list, unwrap_or}
+use Rattle.std.proofs.lemmas.Bool.{or_right}
 use Rattle.std.specs.FinMap.{get}
 use Rattle.std.specs.List.{AllByRecursion, Contains}
 use Rattle.std.specs.Option.{option_or}
@@ -9,10 +10,11 @@ use Rattle.std.proofs.lemmas.List.Elements.{Contains-append_cases}
 use Rattle.std.proofs.lemmas.List.Sorted.{Contains-permutation, IsPermutation-sym}
 use Rattle.lists.specs.Elements.{in_cases, in_head, in_none, in_tail}
 use Rattle.serial_model.specs.declared.decl.Decl.{Decl}
+use Rattle.serial_model.specs.declared.decl.Decl.TheVariants.{Array, Tree}
 use Rattle.serial_model.specs.declared.key.Key.{Key}
 use Rattle.serial_model.specs.declared.number.Change.{Change}
 use Rattle.serial_model.specs.declared.number.Commit.{Commit}
-use Rattle.serial_model.specs.Keys.{has_key}
+use Rattle.serial_model.specs.Keys.{has_key, has_key_of, is_tree}
 use Rattle.serial_model.specs.State.{State}
 use Rattle.wire_form.specs.LogFile.{IsChangeOf, IsLineOf, has_place_for}
 use Rattle.commit_core.specs.declared.attempt.Attempt.{Attempt}
@@ -20,7 +22,6 @@ use Rattle.commit_core.specs.Keys.{same_key, written}
 use Rattle.commit_core.specs.Lemmas.Keys.{same_key-true}
 use Rattle.serial_bridge.specs.Bridge.{last_written}
 use Rattle.serial_bridge.specs.WriteLaws.{written-cons}
-use Rattle.serial_bridge.specs.WriteSets.{HasNoTree}
 use Rattle.engine_seats.specs.Gathered.{joined}
 use Rattle.engine_pages.specs.declared.view.View.{View}
 use Rattle.shared_rounds.specs.Contents.{after_commits}
@@ -31,27 +32,39 @@ use Rattle.shared_rounds.proofs.Joined.{mines_of, part_made}
 use Rattle.shared_rounds.proofs.LoggedAlong.{logged_as}
 use Rattle.shared_rounds.proofs.Made.{logged_from}
 
--- a change of these storages, which are arrays, is at a key of theirs
-change_has : (decls : List Decl) (c : Change) → HasNoTree decls → IsChangeOf decls c → has_key decls c.key ≡ true
-change_has decls c arrays is = by_value c.value is
+-- each key is one of a tree's
+tree_has : (decls : List Decl) (k : Key) → is_tree decls k.storage ≡ true → has_key decls k ≡ true
+tree_has [] k is = is
+tree_has (Array id size ∷ decls) k is =
+    or_right (has_key_of k (Array id size)) (has_key decls k) (tree_has decls k is)
+tree_has (Tree id ∷ decls) k is = by_test (id == k.storage) (tree_has decls k) is
+  where
+    by_test : (b : Bool) → (is_tree decls k.storage ≡ true → has_key decls k ≡ true)
+        → (b || is_tree decls k.storage) ≡ true → (b || has_key decls k) ≡ true
+    by_test true rest is = refl
+    by_test false rest is = rest is
+
+-- a change of these storages is at a key of theirs
+change_has : (decls : List Decl) (c : Change) → IsChangeOf decls c → has_key decls c.key ≡ true
+change_has decls c is = by_value c.value is
   where
     by_value : (value : Option ℕ) → IsTrue (has_place_for decls c.key value) → has_key decls c.key ≡ true
     by_value (Some v) is = is
-    by_value None is = absurd (true≢false (sym is ∙ arrays c.key.storage))
+    by_value None is = tree_has decls c.key is
 
 -- a key that no storage has is not written
-not_written : (decls : List Decl) (k : Key) (writes : List Change) → HasNoTree decls → has_key decls k ≡ false
+not_written : (decls : List Decl) (k : Key) (writes : List Change) → has_key decls k ≡ false
     → AllByRecursion (IsChangeOf decls) writes → written k writes ≡ None
-not_written decls k [] arrays none are = refl
-not_written decls k (c ∷ writes) arrays none are =
+not_written decls k [] none are = refl
+not_written decls k (c ∷ writes) none are =
     written-cons c writes k
-    ∙ by_test (same_key c.key k) refl (not_written decls k writes arrays none are.1)
+    ∙ by_test (same_key c.key k) refl (not_written decls k writes none are.1)
   where
     by_test : (b : Bool) → same_key c.key k ≡ b → written k writes ≡ None
         → cond b (Some c.value) (written k writes) ≡ None
     by_test false is rest = rest
     by_test true is rest =
-        absurd (true≢false (sym (change_has decls c arrays are.0)
+        absurd (true≢false (sym (change_has decls c are.0)
         ∙ ap (has_key decls) (same_key-true c.key k is) ∙ none))
 
 -- what was logged of an attempt are its writes
@@ -105,7 +118,7 @@ records_stay tries was now parts r s k none empty =
     let new = (split tries was now parts r).new in
     commits_over new s k
     ∙ ap (λ o. unwrap_or o (get s k)) (none_last k new (λ a has.
-    not_written was.layout.decls k a.writes r.arrays none (parts_write tries was r.ended 0 parts r.parts_are a
+    not_written was.layout.decls k a.writes none (parts_write tries was r.ended 0 parts r.parts_are a
     (Contains-permutation new (joined (mines_of parts)) a
     (IsPermutation-sym (joined (mines_of parts)) new (split tries was now parts r).same) has))))
     ∙ empty

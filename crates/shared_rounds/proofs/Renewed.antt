@@ -19,7 +19,6 @@ use Rattle.commit_core.specs.Keys.{content_at, content_of, written}
 use Rattle.commit_core.specs.Serial.{after_writes}
 use Rattle.commit_core.specs.declared.seat.Seat.{Seat}
 use Rattle.serial_bridge.specs.Bridge.{Agrees, after_attempts}
-use Rattle.serial_bridge.specs.WriteSets.{HasNoTree}
 use Rattle.engine_seats.specs.Counts.{AreSerial}
 use Rattle.engine_pages.specs.Views.{IsResting, bare_seat}
 use Rattle.engine_pages.specs.declared.layout.Layout.{Layout}
@@ -78,7 +77,6 @@ module _ (tries : ℕ) (was now : View) (parts : List Part) (r : IsRound tries w
         role = ap (λ (v : View). v.role) r.audited.2.is ∙ ap (λ (v : View). v.role) r.audited.1.is ∙ r.role;
         made = ap (λ (v : View). v.made) r.audited.2.is ∙ ap (λ (v : View). v.made) r.audited.1.is ∙ r.made;
         decls = subst (λ (l : Layout). AreDecls l.decls) (sym layout) kept.decls;
-        arrays = subst (λ (l : Layout). HasNoTree l.decls) (sym layout) kept.arrays;
         first = subst (λ (l : Layout). IsNumber l.first) (sym layout) kept.first;
         records = λ k none. ap (λ (t : State). get t k) state_now
             ∙ records_stay tries was now parts r (state_of was) k

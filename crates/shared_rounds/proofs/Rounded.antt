@@ -1,7 +1,7 @@
 -- What a round comes to.
 use Rattle.std.proofs.Common.{◌≡◌, ◌∙◌, sym, ap, refl, subst, ℕ, ◌+◌, ◌<◌, ◌≤◌, Bool, List, [], ◌∷◌}
 use Rattle.std.proofs.Common.{◌++◌, length, take, drop, arith}
-use Rattle.std.proofs.Common.{Option, Ok}
+use Rattle.std.proofs.Common.{Option}
 use Rattle.std.specs.Prelude.{get_or, map, slice_index_or}
 use Rattle.commit_core.specs.declared.seat.Seat.{Seat}
 use Rattle.engine_pages.specs.Views.{IsResting, bare_seat}
@@ -116,7 +116,7 @@ module _ {D : Type 0} (tells : D → Option (List ℕ)) (clock : D → ℕ) (ima
       → (done : Bool) → 1 ≤ tries
       → LinesCome tells clock image_at faults tries round (stands was first done) (stands now (clock_number word) done)
       (map (λ (share : Share). share.marks) (shares_of so.parts))
-      (map (λ (share : Share). share.readied) (shares_of so.parts)) logs_was logs banks_was banks (Ok ran)
+      (map (λ (share : Share). share.readied) (shares_of so.parts)) logs_was logs banks_was banks ran
   round_comes tries round was behind ended now logs_was logs banks_was banks ran so kept word count audited first at
       done some =
       record {
@@ -146,19 +146,19 @@ given_back (x ∷ new) (y ∷ old) same = ap (λ l. x ∷ l) (given_back new old
 -- what threads made of cells that were lent to them as a slice
 module _ {D : Type 0} (tells : D → Option (List ℕ)) (clock : D → ℕ) (image_at : D → ℕ → List ℕ → Type 0)
     (faults : D → ℕ) where
-  pub lent_ran : (tries : ℕ) (round : Round) (words : Engine) (was mid : View) (counts : List ℕ)
+  pub lent_ran : (tries : ℕ) (round : Round) (words : Engine) (was mid : View) (counts spaces : List ℕ)
       (olds news lent : List (Cell D)) (len : ℕ) (logs : List LogState) (banks : List D)
       → AreBegun round was mid 0 logs
       → length news ≡ length olds → len ≡ length olds → lent ≡ olds
-      → AreSeated tells words mid counts 0 (backward olds) logs banks
+      → AreSeated tells words mid counts spaces 0 (backward olds) logs banks
       → ((k : ℕ) (d : Cell D) → k < length lent → HasRun tells clock image_at faults tries round words
       (slice_index_or lent k d) (slice_index_or news k d))
       → AreRan tells clock image_at faults tries round words was 0
       (backward (take len (news ++ drop (length news) olds))) logs banks
-  lent_ran tries round words was mid counts olds news lent len logs banks begun same count is seated each =
+  lent_ran tries round words was mid counts spaces olds news lent len logs banks begun same count is seated each =
       subst (λ l. AreRan tells clock image_at faults tries round words was 0 (backward l) logs banks)
       (sym (ap (λ n. take n (news ++ drop (length news) olds)) count ∙ given_back news olds same))
-      (cells_ran tells clock image_at faults tries round words was mid counts olds news logs banks begun same seated
+      (cells_ran tells clock image_at faults tries round words was mid counts spaces olds news logs banks begun same seated
       (subst (λ (l : List (Cell D)). (k : ℕ) (d : Cell D) → k < length l
       → HasRun tells clock image_at faults tries round
       words (slice_index_or l k d) (slice_index_or news k d)) is each))

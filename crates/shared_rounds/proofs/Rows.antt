@@ -136,7 +136,9 @@ made_line decls low worker tries ops Conflict refused logged v w layout role sin
 made_line decls low worker tries ops Limit refused logged v w layout role since comes =
     subst (λ (l : Option Commit). Made decls low v w (λ index line. []) (option_to_list l)) (sym comes.0)
     (made_tried decls low ops _ v w comes.1.refused.tried)
-made_line decls low worker tries ops Wide refused logged v w layout role since comes = absurd comes
+made_line decls low worker tries ops Wide refused logged v w layout role since comes =
+    subst (λ (l : Option Commit). Made decls low v w (λ index line. []) (option_to_list l)) (sym comes.0)
+    (made_tried decls low ops _ v w comes.1.refused.tried)
 made_line decls low worker tries ops Full refused logged v w layout role since comes =
     subst (λ (l : Option Commit). Made decls low v w (λ index line. []) (option_to_list l)) (sym comes.0)
     (made_tried decls low ops _ v w comes.1.refused.tried)

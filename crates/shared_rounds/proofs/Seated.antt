@@ -66,11 +66,14 @@ all_at_place P [] x back all = all.0
 all_at_place P (y ∷ rest) x back all = all_at_place P rest x back all.1
 
 -- the last of the rooms is that of the worker of this number, and the others are those of the workers before it
-pub last_room : (counts : List ℕ) (rest : List RoomState) (room : RoomState) → AreRooms counts (rest ++ room ∷ [])
-    → (room.told ≡ []) × (room.left ≡ get_or counts (length rest) 0) × AreRooms counts rest
-last_room counts rest room are = (
+pub last_room : (counts spaces : List ℕ) (rest : List RoomState) (room : RoomState)
+    → AreRooms counts spaces (rest ++ room ∷ [])
+    → (room.told ≡ []) × (room.left ≡ get_or counts (length rest) 0) × (room.space ≡ get_or spaces (length rest) 0)
+    × AreRooms counts spaces rest
+last_room counts spaces rest room are = (
   (are (length rest) room at).0,
   (are (length rest) room at).1,
+  (are (length rest) room at).2,
   (λ worker r is. are worker r (front_place rest room worker r is)),
 )
   where
@@ -80,9 +83,9 @@ last_room counts rest room are = (
 -- ---- a worker's pass
 
 module _ {D : Type 0} (tells : D → Option (List ℕ)) where
-  pub none_seated : (words : Engine) (was : View) (counts : List ℕ) (worker : ℕ) (logs : List LogState)
-      (banks : List D) → SeatedSoFar tells words was counts worker [] logs logs banks banks
-  none_seated words was counts worker logs banks = record {
+  pub none_seated : (words : Engine) (was : View) (counts spaces : List ℕ) (worker : ℕ) (logs : List LogState)
+      (banks : List D) → SeatedSoFar tells words was counts spaces worker [] logs logs banks banks
+  none_seated words was counts spaces worker logs banks = record {
     their_logs = [];
     their_banks = [];
     logs_are = sym (append-nil logs);
@@ -90,7 +93,7 @@ module _ {D : Type 0} (tells : D → Option (List ℕ)) where
     seated = tt;
   }
 
-  pub seats_one : (words : Engine) (was : View) (counts : List ℕ) (worker : ℕ) (cells : List (Cell D))
+  pub seats_one : (words : Engine) (was : View) (counts spaces : List ℕ) (worker : ℕ) (cells : List (Cell D))
       (logs_was logs rest : List LogState)
       (banks_was banks others : List D) (cell : Cell D) → CanSeat was → AreLogsUp tells logs_was banks_was
       → AllByRecursion (λ (log : LogState). log.journal.lines ≡ []) logs_was
@@ -98,11 +101,11 @@ module _ {D : Type 0} (tells : D → Option (List ℕ)) where
       → logs ≡ rest ++ cell.log ∷ [] → banks ≡ others ++ cell.bank ∷ []
       → IsPassOf words cell.pass → cell.worker ≡ worker → cell.lines ≡ get_or counts worker 0
       → view cell.pass ≡ worker_view worker was → IsOver (view cell.pass) → cell.outcomes.told ≡ []
-      → cell.outcomes.left ≡ get_or counts worker 0
-      → SeatedSoFar tells words was counts (worker + 1) cells logs_was logs banks_was banks
-      → SeatedSoFar tells words was counts worker (cells ++ cell ∷ []) logs_was rest banks_was others
-  seats_one words was counts worker cells logs_was logs rest banks_was banks others cell can up flushed less place
-      bank_place log_is bank_is of number lines seat over none room so =
+      → cell.outcomes.left ≡ get_or counts worker 0 → cell.outcomes.space ≡ get_or spaces worker 0
+      → SeatedSoFar tells words was counts spaces (worker + 1) cells logs_was logs banks_was banks
+      → SeatedSoFar tells words was counts spaces worker (cells ++ cell ∷ []) logs_was rest banks_was others
+  seats_one words was counts spaces worker cells logs_was logs rest banks_was banks others cell can up flushed less place
+      bank_place log_is bank_is of number lines seat over none room space so =
       let logs_here : logs_was ≡ (rest ++ cell.log ∷ []) ++ so.their_logs =
       so.logs_are ∙ ap (λ (l : List LogState). l ++ so.their_logs) log_is in
       let banks_here : banks_was ≡ (others ++ cell.bank ∷ []) ++ so.their_banks =
@@ -117,7 +120,7 @@ module _ {D : Type 0} (tells : D → Option (List ℕ)) where
         their_banks = cell.bank ∷ so.their_banks;
         logs_are = logs_here ∙ append_assoc rest (cell.log ∷ []) so.their_logs;
         banks_are = banks_here ∙ append_assoc others (cell.bank ∷ []) so.their_banks;
-        seated = subst (λ l. AreSeated tells words was counts worker l (cell.log ∷ so.their_logs)
+        seated = subst (λ l. AreSeated tells words was counts spaces worker l (cell.log ∷ so.their_logs)
             (cell.bank ∷ so.their_banks)) (sym (backward_push cells cell)) (
               record {
                 of = of;
@@ -136,14 +139,15 @@ module _ {D : Type 0} (tells : D → Option (List ℕ)) where
                 };
                 none = none;
                 room = room;
+                space = space;
               },
               so.seated,
             );
       }
 
-  pub all_seated : (words : Engine) (was : View) (counts : List ℕ) (cells : List (Cell D)) (logs_was : List LogState)
-      (banks_was : List D) → SeatedSoFar tells words was counts 0 cells logs_was [] banks_was []
-      → AreSeated tells words was counts 0 (backward cells) logs_was banks_was
-  all_seated words was counts cells logs_was banks_was so =
-      subst (λ l. AreSeated tells words was counts 0 (backward cells) l banks_was) (sym so.logs_are)
-      (subst (λ b. AreSeated tells words was counts 0 (backward cells) so.their_logs b) (sym so.banks_are) so.seated)
+  pub all_seated : (words : Engine) (was : View) (counts spaces : List ℕ) (cells : List (Cell D)) (logs_was : List LogState)
+      (banks_was : List D) → SeatedSoFar tells words was counts spaces 0 cells logs_was [] banks_was []
+      → AreSeated tells words was counts spaces 0 (backward cells) logs_was banks_was
+  all_seated words was counts spaces cells logs_was banks_was so =
+      subst (λ l. AreSeated tells words was counts spaces 0 (backward cells) l banks_was) (sym so.logs_are)
+      (subst (λ b. AreSeated tells words was counts spaces 0 (backward cells) so.their_logs b) (sym so.banks_are) so.seated)

@@ -48,7 +48,10 @@ line_caused slots tries ops Full refused logged v w same comes =
     subst (λ l. AllByRecursion (IsTryCause slots) (map try_refusal l)) (sym comes.2)
     (behind_caused slots ops line.refused.losts (ToSlots line.words) line.refused.each
     (line.all.count ∙ ap (λ (l : Layout). l.slots) line.before.layout ∙ same, line.all.taken))
-line_caused slots tries ops Wide refused logged v w same comes = absurd comes
+line_caused slots tries ops Wide refused logged v w same comes =
+    let line = comes.1 in
+    subst (λ l. AllByRecursion (IsTryCause slots) (map try_refusal l)) (sym comes.2)
+    (behind_caused slots ops line.refused.losts (ToSet line.set) line.refused.each tt)
 line_caused slots tries ops Limit refused logged v w same comes =
     let line = comes.1 in
     subst (λ l. AllByRecursion (IsTryCause slots) (map try_refusal l)) (sym comes.2)

@@ -45,7 +45,6 @@ module _ {D : Type 0} (tells : D → Option (List ℕ)) (clock : D → ℕ) (ima
     (kept : IsKept was) (word count : ℕ) (audited : HasAudited ended word count now) where
   abbrev pub round_is : IsRound tries was now so.parts
   round_is = record {
-    arrays = kept.arrays;
     counted = kept.counted;
     eight = so.many;
     ended = ended;

@@ -1,13 +1,12 @@
--- What comes of the workers' lines of a round, by what the call answers.
-use Rattle.std.specs.Prelude.{ℕ, Bool, List, Option, Result, Ok, Err}
-use Rattle.lists.specs.declared.memory.Memory.{Memory}
+-- What comes of the workers' lines of a round, as the call answers it.
+use Rattle.std.specs.Prelude.{ℕ, Bool, List, Option}
 use Rattle.script_grammar.specs.Script.{Round}
 use Rattle.tx_script.specs.Readied.{Readied}
 use Rattle.worker_logs.specs.Logs.{LogState}
 use Rattle.worker_logs.specs.Shown.{Stood}
 use Rattle.shared_rounds.specs.SharedState.{SharedState}
 use Rattle.shared_rounds.specs.Standing.{Standing}
-use Rattle.shared_rounds.specs.Workers.{RunsWorkers, StopsWorkers}
+use Rattle.shared_rounds.specs.Workers.{RunsWorkers}
 use Rattle.shared_rounds.specs.declared.ends.WorkersRan.{WorkersRan}
 
 -- an engine of words as a standing, in a run that has ended or goes on
@@ -28,17 +27,10 @@ standing ended s = record {
 
 module _ {D : Type 0} (tells : D → Option (List ℕ)) (clock : D → ℕ) (image_at : D → ℕ → List ℕ → Type 0)
     (faults : D → ℕ) where
-  -- All lines were run, each so often at most; or some first ones of each worker, where memory was wanted.
-  abbrev pub Come : ℕ → Round → Standing → Standing → List (List Stood) → List (List Readied) → List LogState
-      → List LogState → List D → List D → Result WorkersRan Memory → Type 0
-  Come tries round s t marks readied logs_was logs banks_was banks (Ok ran) =
-      RunsWorkers tells clock image_at faults tries round s t ran.outcomes ran.ends.items marks readied logs_was logs
-      banks_was banks
-  Come tries round s t marks readied logs_was logs banks_was banks (Err memory) =
-      StopsWorkers tells clock image_at faults tries round s t marks readied logs_was logs banks_was banks
-
-  -- That as a record, which a proof can carry over to equal logs and log files.
+  -- All lines were run, each so often at most, with these outcomes and ends of logs: a record that a proof can carry over
+  -- to equal logs and log files.
   pub record LinesCome (tries : ℕ) (round : Round) (s t : Standing) (marks : List (List Stood))
-      (readied : List (List Readied)) (logs_was logs : List LogState) (banks_was banks : List D)
-      (result : Result WorkersRan Memory) : Type 0 where
-    pub come : Come tries round s t marks readied logs_was logs banks_was banks result
+      (readied : List (List Readied)) (logs_was logs : List LogState) (banks_was banks : List D) (ran : WorkersRan)
+      : Type 0 where
+    pub come : RunsWorkers tells clock image_at faults tries round s t ran.outcomes ran.ends.items marks readied logs_was
+        logs banks_was banks

@@ -7,7 +7,6 @@ use Rattle.serial_model.specs.declared.number.Number.{Number}
 use Rattle.serial_model.specs.declared.op.Op.{Op}
 use Rattle.wire_form.specs.LogFile.{IsLineOf}
 use Rattle.wire_form.specs.Words.{IsMark}
-use Rattle.serial_bridge.specs.WriteSets.{HasNoTree}
 use Rattle.commit_core.specs.declared.seat.Mark.{Mark}
 use Rattle.engine_seats.specs.Cuts.{HasSeen}
 use Rattle.engine_seats.specs.Gathered.{gathered_all}
@@ -134,7 +133,6 @@ HasBlames parts v = (worker : ℕ) (p : Part) → slice_get parts worker ≡ Som
 -- later epochs meanwhile. Numbers were drawn for their lines alone, and where no pages were dropped meanwhile, locks were
 -- taken for them alone.
 pub record IsRound (tries : ℕ) (was now : View) (parts : List Part) : Type 0 where
-  pub arrays : HasNoTree was.layout.decls
   pub counted : IsCounted was
   pub eight : length parts ≡ 8
   pub ended : View

@@ -8,7 +8,8 @@ use Rattle.engine_pages.specs.declared.engine.Engine.{Engine}
 use Rattle.engine_pages.specs.declared.view.Role.TheVariants.{Worker}
 use Rattle.engine_pages.specs.declared.view.View.{View}
 use Rattle.wire_form.specs.Words.{IsMark}
-use Rattle.worker_cells.specs.Below.{HasNoTree, IsOver}
+use Rattle.worker_cells.specs.Below.{IsOver}
+use Rattle.tx_script.specs.Room.{all_words}
 use Rattle.tx_script.specs.Run.{CanRun}
 use Rattle.worker_cells.specs.Cells.{IsCell, IsTied, RunsCell, core_mark}
 use Rattle.worker_cells.specs.Gates.{calls_for, calls_in, is_run}
@@ -33,7 +34,7 @@ pub record IsBegun (round : Round) (was : View) (worker : ℕ) (from : View) (lo
 
 module _ {D : Type 0} (tells : D → Option (List ℕ)) where
   -- The worker's cell, with this log and log file.
-  pub record IsSeated (words : Engine) (was : View) (counts : List ℕ) (worker : ℕ) (cell : Cell D) (log : LogState)
+  pub record IsSeated (words : Engine) (was : View) (counts spaces : List ℕ) (worker : ℕ) (cell : Cell D) (log : LogState)
       (bank : D) : Type 0 where
     pub of : IsPassOf words cell.pass
     pub number : cell.worker ≡ worker
@@ -45,23 +46,24 @@ module _ {D : Type 0} (tells : D → Option (List ℕ)) where
     pub ready : IsCell tells (view cell.pass) cell.log cell.bank
     pub none : cell.outcomes.told ≡ []
     pub room : cell.outcomes.left ≡ get_or counts worker 0
+    pub space : cell.outcomes.space ≡ get_or spaces worker 0
 
   -- the cells of the workers from this one on
-  abbrev pub AreSeated : Engine → View → List ℕ → ℕ → List (Cell D) → List LogState → List D → Type 0
-  AreSeated words was counts worker [] [] [] = ⊤
-  AreSeated words was counts worker (cell ∷ cells) (log ∷ logs) (bank ∷ banks) =
-      IsSeated words was counts worker cell log bank × AreSeated words was counts (worker + 1) cells logs banks
-  AreSeated words was counts worker _ _ _ = ⊥
+  abbrev pub AreSeated : Engine → View → List ℕ → List ℕ → ℕ → List (Cell D) → List LogState → List D → Type 0
+  AreSeated words was counts spaces worker [] [] [] = ⊤
+  AreSeated words was counts spaces worker (cell ∷ cells) (log ∷ logs) (bank ∷ banks) =
+      IsSeated words was counts spaces worker cell log bank × AreSeated words was counts spaces (worker + 1) cells logs banks
+  AreSeated words was counts spaces worker _ _ _ = ⊥
 
   -- The workers from this one on are seated, the last one first: what logs and log files are left, and theirs.
-  pub record SeatedSoFar (words : Engine) (was : View) (counts : List ℕ) (worker : ℕ) (cells : List (Cell D))
+  pub record SeatedSoFar (words : Engine) (was : View) (counts spaces : List ℕ) (worker : ℕ) (cells : List (Cell D))
       (logs_was logs : List LogState)
       (banks_was banks : List D) : Type 0 where
     pub their_logs : List LogState
     pub their_banks : List D
     pub logs_are : logs_was ≡ logs ++ their_logs
     pub banks_are : banks_was ≡ banks ++ their_banks
-    pub seated : AreSeated words was counts worker (backward cells) their_logs their_banks
+    pub seated : AreSeated words was counts spaces worker (backward cells) their_logs their_banks
 
   -- what a cell has as its thread begins
   pub record IsReady (words : Engine) (round : Round) (cell : Cell D) : Type 0 where
@@ -70,10 +72,10 @@ module _ {D : Type 0} (tells : D → Option (List ℕ)) where
     pub role : (view cell.pass).role ≡ Worker cell.worker
     pub small : cell.worker < 8
     pub lines : CanRun (view cell.pass).layout.decls round
-    pub arrays : HasNoTree (view cell.pass).layout.decls
     pub none : cell.outcomes.told ≡ []
     pub count : cell.lines ≡ length (lines_of_worker round cell.worker)
     pub room : length (lines_of_worker round cell.worker) ≤ cell.outcomes.left
+    pub space : all_words (lines_of_worker round cell.worker) ≤ cell.outcomes.space
     pub tied : (lines_of_worker round cell.worker ≡ [] → ⊥)
         → IsTied cell.log.mark (view cell.pass).seat.marks × IsMark cell.log.mark
 

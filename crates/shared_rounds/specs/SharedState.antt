@@ -1,11 +1,9 @@
 -- What an engine of words is between two rounds, as the pass of the maintenance thread knows it.
-use Rattle.std.specs.Prelude.{◌≡◌, ◌+◌, ◌<◌, ◌≤◌, ◌&&◌, ℕ, Bool, true, false, List, [], ◌∷◌, filter, length, map}
+use Rattle.std.specs.Prelude.{◌≡◌, ◌+◌, ◌<◌, ◌≤◌, ℕ, Bool, true, false, List, [], ◌∷◌, filter, length, map}
 use Rattle.std.specs.Prelude.{Contains, None, fold, get_or}
-use Rattle.std.specs.List.{list_all}
-use Rattle.std.specs.FinMap.{empty, entries, get}
+use Rattle.std.specs.FinMap.{empty, get}
 use Rattle.views.specs.Sums.{total}
 use Rattle.serial_model.specs.declared.decl.Decl.{Decl}
-use Rattle.serial_model.specs.declared.decl.Decl.TheVariants.{Array, Tree}
 use Rattle.serial_model.specs.declared.key.Key.{Key}
 use Rattle.serial_model.specs.declared.number.Number.{Number}
 use Rattle.serial_model.specs.Decls.{AreDecls}
@@ -18,7 +16,6 @@ use Rattle.commit_core.specs.CoreState.{is_decided}
 use Rattle.commit_core.specs.Sound.Numbers.{EachOnce}
 use Rattle.commit_core.specs.declared.seat.Mark.{Mark}
 use Rattle.commit_core.specs.declared.seat.Seat.{Seat}
-use Rattle.serial_bridge.specs.WriteSets.{HasNoTree}
 use Rattle.engine_pages.specs.declared.engine.Engine.{Engine}
 use Rattle.engine_pages.specs.declared.view.Dropped.{Dropped}
 use Rattle.engine_pages.specs.declared.view.RefusalCause.{RefusalCause}
@@ -33,15 +30,6 @@ use Rattle.engine_pages.specs.Views.{bare_seat, IsResting}
 use Rattle.shared_rounds.specs.Contents.{after_commits, with_value}
 
 -- ---- what an engine begins with
-
--- the storage is an array
-abbrev pub is_array : Decl → Bool
-is_array (Array id size) = true
-is_array (Tree id) = false
-
--- all storages are arrays, and each key of the state is one of theirs
-abbrev pub are_arrays : List Decl → State → Bool
-are_arrays decls s = list_all is_array decls && list_all (λ e. has_key decls e.0) (entries s)
 
 -- ---- what it is between two rounds
 
@@ -128,14 +116,13 @@ pub record HoldsNothing (v : View) : Type 0 where
   pub shuts : v.shuts ≡ []
 
 -- What the keeper's pass knows between two rounds: nobody is seated, and no seat, its own or a worker's, has a
--- transaction or a lock; each storage is an array, and only their keys have values; the attempts that count are its
--- own, and serial; each number was drawn by this pass, or by one that was ended into it; all room for snapshot pages
--- behind those that are published is its own to fill; and it has nothing of the pages in memory.
+-- transaction or a lock; only keys of the storages have values; the attempts that count are its own, and serial; each
+-- number was drawn by this pass, or by one that was ended into it; all room for snapshot pages behind those that are
+-- published is its own to fill; and it has nothing of the pages in memory.
 pub record IsKept (v : View) : Type 0 where
   pub role : v.role ≡ Keeper
   pub made : v.made ≡ []
   pub decls : AreDecls v.layout.decls
-  pub arrays : HasNoTree v.layout.decls
   pub first : IsNumber v.layout.first
   pub records : (k : Key) → has_key v.layout.decls k ≡ false → get (state_of v) k ≡ None
   pub counted : IsCounted v

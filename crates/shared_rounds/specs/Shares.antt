@@ -1,5 +1,4 @@
--- What the workers' lines of a round come to, whichever engine ran them: what came of each line, and an order in which
--- the commits are serial. Nothing is said of the order in which the workers ran: their commits may lie among each
+-- What the workers' lines of a round come to: what came of each line, and an order in which the commits are serial. Nothing is said of the order in which the workers ran: their commits may lie among each
 -- other, in any order of their numbers.
 use Rattle.std.specs.Prelude.{◌≡◌, ◌<◌, ◌≤◌, ◌+◌, ◌-◌, ℕ, zero, suc, List, [], ◌∷◌, filter, length, map, sum_by, Option}
 use Rattle.std.specs.Prelude.{None, Some}
@@ -96,9 +95,9 @@ all_conflicts refused = sum_by (λ of_worker. sum_by conflicts_among of_worker) 
 -- The lines of eight workers were run from s to t, each with so many tries. Contents, clock, the attempts that count
 -- and the count of conflicts change alone, and which pages are published, and what drops came to; the clock may be in a
 -- later epoch then, where the maintenance thread's lines ran beside them. Each number was drawn for a commit of theirs,
--- or for a try of theirs that was refused behind its draw. Each conflict that is told of a line at a record is with a
--- line of another worker, or pages were dropped meanwhile; the engine counted each, and no others. Where a try found no
--- slot usable, the words of all slots are told.
+-- or for a try of theirs that was refused behind its draw. Each conflict that is told of a line at a record of an array
+-- is with a line of another worker, or pages were dropped meanwhile; the engine counted each, and no others. Where a try
+-- found no slot usable, the words of all slots are told; where one filled a set, its line has an operation on a tree.
 pub record RunsShares (tries : ℕ) (s t : Standing) (shares : List Share) : Type 0 where
   pub workers : length shares ≡ 8
   pub only : t ≡ record s {
@@ -112,7 +111,7 @@ pub record RunsShares (tries : ℕ) (s t : Standing) (shares : List Share) : Typ
   pub epoch : s.clock.epoch ≤ t.clock.epoch
   pub draw : t.clock.draw ≡ s.clock.draw + commit_count (map (λ (share : Share). share.outcomes) shares)
       + lost_of (map (λ (share : Share). share.tries_refused) shares)
-  pub met : WorkersMet (map (λ (share : Share). share.lines) shares) (t.drops ≡ s.drops → ⊥) 0
+  pub met : WorkersMet s.decls (map (λ (share : Share). share.lines) shares) (t.drops ≡ s.drops → ⊥) 0
       (map (λ (share : Share). share.lines) shares) (map (λ (share : Share). share.tries_refused) shares)
   pub caused : AllByRecursion (λ (share : Share).
       AllByRecursion (AllByRecursion (IsTryCause s.slots)) share.tries_refused) shares

@@ -1,8 +1,7 @@
 -- What the lines of a round come to, with what was done beside them.
-use Rattle.std.specs.Prelude.{◌≡◌, ◌<◌, ◌+◌, ℕ, Bool, List, Option, Result, get_or, length}
+use Rattle.std.specs.Prelude.{◌≡◌, ◌<◌, ◌+◌, ℕ, Bool, List, Option, get_or, length}
 use Rattle.engine_pages.specs.Views.{bare_seat}
 use Rattle.engine_pages.specs.declared.view.View.{View}
-use Rattle.lists.specs.declared.memory.Memory.{Memory}
 use Rattle.script_grammar.specs.Script.{Round}
 use Rattle.tx_script.specs.Readied.{Readied}
 use Rattle.worker_logs.specs.Logs.{LogState}
@@ -21,12 +20,12 @@ use Rattle.shared_rounds.specs.declared.ends.WorkersRan.{WorkersRan}
 -- met no other marks.
 pub record RunsBeside {D : Type 0} (tells : D → Option (List ℕ)) (clock : D → ℕ) (image_at : D → ℕ → List ℕ → Type 0)
     (faults : D → ℕ) (did : View → View → Type 0) (tries : ℕ) (round : Round) (was now : SharedState)
-    (logs_was logs : List LogState) (banks_was banks : List D) (result : Result WorkersRan Memory) : Type 0 where
+    (logs_was logs : List LogState) (banks_was banks : List D) (ran : WorkersRan) : Type 0 where
   pub marks : List (List Stood)
   pub readied : List (List Readied)
   pub lines : (ended : Bool)
       → LinesCome tells clock image_at faults tries round (standing ended was) (standing ended now)
-      marks readied logs_was logs banks_was banks result
+      marks readied logs_was logs banks_was banks ran
   pub beside : BesideRan did marks was now
 
 -- The workers' marks were set, they were seated, their lines run, and beside them this was done by the keeper; then all

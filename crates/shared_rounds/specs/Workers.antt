@@ -1,12 +1,11 @@
--- What the workers' lines of a round leave of their logs and log files, whichever engine ran them.
+-- What the workers' lines of a round leave of their logs and log files.
 use Rattle.std.specs.Prelude.{◌≡◌, ◌<◌, ◌≤◌, ◌+◌, ◌-◌, ℕ, Bool, true, false, List, [], ◌∷◌, ◌++◌, length, map, ⊤}
 use Rattle.std.specs.Prelude.{Option, Some, None, is_some, slice_get}
 use Rattle.std.specs.List.{AllByRecursion, Contains}
 use Rattle.std.specs.Option.{option_map}
-use Rattle.lists.specs.Fronts.{IsFront}
 use Rattle.serial_model.specs.declared.number.Commit.{Commit}
 use Rattle.serial_model.specs.declared.op.Op.{Op}
-use Rattle.script_grammar.specs.Script.{Round, lines_of_worker, worker_lines}
+use Rattle.script_grammar.specs.Script.{Round, worker_lines}
 use Rattle.log_writer.specs.Journal.{JournalState, Reaches, end_of}
 use Rattle.tx_script.specs.Causes.{longest_line}
 use Rattle.tx_script.specs.Run.{LogRefusal, LogFailed, LogFull}
@@ -131,15 +130,3 @@ module _ {D : Type 0} (tells : D → Option (List ℕ)) (clock : D → ℕ) (ima
     pub left_out : (i : ℕ) (share : Share) (old : LogState) (before : D) → slice_get shares i ≡ Some share
         → slice_get logs_was i ≡ Some old → slice_get banks_was i ≡ Some before
         → LeavesOut s.clock.epoch (Contains share.outcomes Unrun) share.logged share.refusal old before
-
-  -- Memory was wanted: some first lines of each worker were run, behind the first of its marks.
-  pub record StopsWorkers (tries : ℕ) (round : Round) (s t : Standing) (marks : List (List Stood))
-      (readied : List (List Readied)) (logs_was logs : List LogState) (banks_was banks : List D) : Type 0 where
-    pub shares : List Share
-    pub marks_are : map (λ (share : Share). share.marks) shares ≡ marks
-    pub readied_are : map (λ (share : Share). share.readied) shares ≡ readied
-    pub over : RunsOver tries s t shares logs_was logs banks_was banks
-    pub begins : (i : ℕ) (share : Share) → slice_get shares i ≡ Some share
-        → BeginsAt s.clock.epoch (lines_of_worker round i) share.marks
-    pub fronts : (i : ℕ) (share : Share) → slice_get shares i ≡ Some share
-        → IsFront share.lines (lines_of_worker round i)

@@ -26,6 +26,7 @@ pub(crate) fn seat_all<D: Disk + Drop>(
     logs: &mut Vec<WorkerLog>,
     growing: &mut Vec<D>,
     counts: &[u32; WORKERS],
+    spaces: &[u32; WORKERS],
     rooms: &mut Vec<OutcomeRoom>,
     cells: &mut Vec<Cell<D>>,
 )
@@ -36,7 +37,7 @@ pub(crate) fn seat_all<D: Disk + Drop>(
     requires up { AreLogsUp D.tells logs.old.items growing.old.items }
     requires flushed { AllByRecursion (λ (log : LogState). log.journal.lines ≡ []) logs.old.items }
     requires counts { length counts.now ≡ 8 }
-    requires rooms { (vec_len rooms.old ≡ 8) × AreRooms counts.now rooms.old.items }
+    requires rooms { (vec_len rooms.old ≡ 8) × AreRooms counts.now spaces.now rooms.old.items }
     requires cells { (vec_len cells.old ≡ 0) × (cells.old.items ≡ []) × (8 ≤ vec_capacity cells.old) }
     ensures of { IsPassOf engine.now keeper.new }
     ensures keeper { view keeper.new ≡ with_made (seats_from 8 0) (view keeper.old) }
@@ -45,7 +46,7 @@ pub(crate) fn seat_all<D: Disk + Drop>(
     ensures room { (8 ≤ vec_capacity logs.new) × (8 ≤ vec_capacity growing.new) }
     ensures desks { (vec_len desks.new ≡ 0) × (8 ≤ vec_capacity desks.new) }
     ensures len { vec_len cells.new ≡ 8 }
-    ensures seated { AreSeated D.tells engine.now (view keeper.old) counts.now 0 (backward cells.new.items)
+    ensures seated { AreSeated D.tells engine.now (view keeper.old) counts.now spaces.now 0 (backward cells.new.items)
         logs.old.items growing.old.items }
 {
     for count in 0..WORKERS {

@@ -1,4 +1,4 @@
-// Pages of arrays are taken out of memory beside the workers' lines.
+// Pages are taken out of memory beside the workers' lines.
 ghost use Rattle.std.specs.Prelude.{◌≡◌, ◌+◌, ◌*◌, ◌<◌, ◌≤◌, ◌%◌, ◌^◌, ℕ, get_or, length};
 ghost use Rattle.serial_model.specs.Decls.{AreDecls};
 ghost use Rattle.wire_form.specs.Pages.{Contents, decls_of};
@@ -11,14 +11,15 @@ ghost use Rattle.shared_rounds.specs.Drops.{HasCalled, HasDropped, KnowsNewest, 
 ghost use Rattle.shared_rounds.specs.SharedState.{HoldsNothing};
 
 use engine_pages::{Engine, Pass};
-use page_drops::{Dropped, drop_all};
+use page_drops::Dropped;
 use resident_pages::{look_at_pages, publish_pages};
 use snapshot_store::SnapStore;
 use std::marker::Brand;
+use tree_drops::drop_all;
 
-/// Takes all pages of arrays out of memory that are what the store's newest snapshot has, beside transactions that run.
-/// All pages of the store are published, and it has all that are. Answers how many pages were dropped and how many were
-/// kept, and which one was kept first.
+/// Takes all pages out of memory that are what the store's newest snapshot has, beside transactions that run.
+/// All pages of the store are published, and it has all that are; the snapshot's epoch is over. Answers how many pages
+/// were dropped and how many were kept, and which one was kept first.
 pub fn drop_pages(words: &Engine, keeper: &mut Pass, store: &SnapStore) -> Dropped
     requires of { IsPassOf words.now keeper.old }
     requires keeper { (view keeper.old).role ≡ Keeper }
@@ -28,7 +29,8 @@ pub fn drop_pages(words: &Engine, keeper: &mut Pass, store: &SnapStore) -> Dropp
     requires declared { AreDecls (view keeper.old).layout.decls }
     requires pages { (view keeper.old).pages ≡ words_of store.now.pages }
     requires snapshot { (contents : Contents) × SnapshotStands (words_of store.now.pages) (length store.now.pages)
-        contents × (decls_of contents ≡ (view keeper.old).layout.decls) }
+        contents × (decls_of contents ≡ (view keeper.old).layout.decls)
+        × (contents.epoch ≤ (view keeper.old).past) }
     requires room { length store.now.pages ≤ (view keeper.old).layout.resident }
     ensures of { IsPassOf words.now keeper.new }
     ensures drops { HasDropped (words_of store.now.pages) result (view keeper.old) (view keeper.new) }
@@ -46,7 +48,8 @@ fn name_newest(words: &Engine, keeper: &mut Pass, store: &SnapStore)
     requires claimed { AreClaimed (view keeper.old) }
     requires pages { (view keeper.old).pages ≡ words_of store.now.pages }
     requires snapshot { (contents : Contents) × SnapshotStands (words_of store.now.pages) (length store.now.pages)
-        contents × (decls_of contents ≡ (view keeper.old).layout.decls) }
+        contents × (decls_of contents ≡ (view keeper.old).layout.decls)
+        × (contents.epoch ≤ (view keeper.old).past) }
     requires room { length store.now.pages ≤ (view keeper.old).layout.resident }
     ensures of { IsPassOf words.now keeper.new }
     ensures only { OnlyNamed (view keeper.old) (view keeper.new) }
@@ -69,8 +72,21 @@ fn drop_named(words: &Engine, keeper: &mut Pass, store: &SnapStore) -> Dropped
     ensures of { IsPassOf words.now keeper.new }
     ensures drops { HasCalled (words_of store.now.pages) result (view keeper.old) (view keeper.new) }
 {
-    let roots = roots_in(store.words(u64::from(store.count())));
-    drop_all(words, keeper, &roots[..words.decls().len()])
+    let catalogue = store.words(u64::from(store.count()));
+    let roots = roots_in(catalogue);
+    drop_all(
+        words,
+        keeper,
+        &roots[..words.decls().len()],
+        epoch_in(catalogue),
+    )
+}
+
+// The epoch that a catalogue has, in its second word.
+fn epoch_in(catalogue: &[u64; 64]) -> u32
+    ensures { result ≡ get_or catalogue.now 1 0 % 2 ^ 32 }
+{
+    (catalogue[1] % 0x1_0000_0000) as u32
 }
 
 // The roots' page numbers that a catalogue has, the third of three words for each storage.

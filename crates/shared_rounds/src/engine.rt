@@ -1,6 +1,5 @@
 // The engine of words that a runtime keeps.
-ghost use Rattle.std.specs.Prelude.{◌≡◌, ◌+◌, ◌-◌, ◌<◌, ◌≤◌, [], true, IfOk, Some, length, replicate, vec_len};
-ghost use Rattle.std.specs.List.{list_all};
+ghost use Rattle.std.specs.Prelude.{◌≡◌, ◌+◌, ◌-◌, ◌<◌, ◌≤◌, [], IfOk, Some, length, replicate, vec_len};
 ghost use Rattle.lists.specs.Fronts.{IsFront};
 ghost use Rattle.serial_model.specs.Numbers.{IsNumber, last_epoch};
 ghost use Rattle.wire_form.specs.Pages.{Contents, decls_of};
@@ -10,7 +9,7 @@ ghost use Rattle.engine_pages.specs.Views.{opening_view};
 ghost use Rattle.page_opening.specs.Making.{CanMake};
 ghost use Rattle.resident_pages.specs.Fills.{AreClaimed};
 ghost use Rattle.resident_pages.specs.Publishes.{OnlyFilled};
-ghost use Rattle.shared_rounds.specs.SharedState.{are_arrays, is_array, opened};
+ghost use Rattle.shared_rounds.specs.SharedState.{opened};
 
 use crate::publishing::publish_new;
 use engine_pages::{Engine, Pass, Start};
@@ -29,7 +28,7 @@ use worker_cells::Desk;
 pub struct SharedEngine {
     pub(crate) words: Engine,
     pub(crate) keeper: Pass,
-    /// The storages, all of them arrays.
+    /// The storages.
     pub(crate) decls: Decls,
     /// The number that the next commit gets.
     pub(crate) clock: Number,
@@ -54,12 +53,10 @@ impl Model for SharedEngine {
 }
 
 impl SharedEngine {
-    /// An engine over the pages of a snapshot, all of whose storages are arrays. What the pages have at a key stands
-    /// there at first, with its number.
+    /// An engine over the pages of a snapshot. What the pages have at a key stands there at first, with its number.
     pub fn new(alloc: Global, decls: Decls, start: Start) -> Result<SharedEngine, Memory>
         requires can { CanMake start }
         requires decls { decls ≡ start.decls }
-        requires arrays { list_all is_array start.decls ≡ true }
         ensures begins { IfOk result (λ engine. engine ≡ record {
           decls = start.decls;
           state = opened start.opening;
@@ -97,7 +94,6 @@ impl SharedEngine {
         ensures value { result ≡ self.now.clock }
         ensures number { IsNumber result }
         ensures some_slots { 0 < self.now.slots }
-        ensures arrays { are_arrays self.now.decls self.now.state ≡ true }
     {
         self.clock
     }

@@ -1,16 +1,15 @@
 //! An engine of words that threads share, as a runtime keeps it, and all workers' lines of a round on it, in threads.
 //!
 //! Promises: a [`SharedEngine`] is its storages, their contents, the clock and the workers' marks (`SharedState`),
-//! whatever its words are. It begins with what the pages of a snapshot have at the keys of arrays (`new`), and goes on
-//! to the next epoch with all else as it is (`advance`). Between two rounds nobody is seated, all attempts that count
+//! whatever its words are. It begins with what the pages of a snapshot have at keys (`new`), and goes on to the next
+//! epoch with all else as it is (`advance`). Between two rounds nobody is seated, all attempts that count
 //! are the keeper's own, and these leave the contents (`IsKept`).
 //!
-//! `RunsWorkers` says what a round's lines come to, whichever engine ran them: each line's outcome with its cause, an
-//! order of all commits in which they are serial from the standing before to the one after, and of each log that it
-//! took what its own worker's commits changed. A line is left out only where its log refused one earlier in the round
-//! (`LeavesOut`). Each number was drawn for a commit, or for a try that was refused behind its draw, and a try in
-//! conflict met a line of another worker, or pages were dropped meanwhile (`RunsShares`). `StopsWorkers` says it of
-//! some first lines, on an engine whose lines may want memory. Here [`make_rooms`] takes all memory that the lines of
+//! `RunsWorkers` says what a round's lines come to: each line's outcome with its cause, an order of all commits in which
+//! they are serial from the standing before to the one after, and of each log that it took what its own worker's commits
+//! changed. A line is left out only where its log refused one earlier in the round (`LeavesOut`). Each number was drawn
+//! for a commit, or for a try that was refused behind its draw, and a try in conflict at a record of an array met a line
+//! of another worker, or pages were dropped meanwhile (`RunsShares`). [`make_rooms`] takes all memory that the lines of
 //! a round want (`IsRoomOf`), and [`run_workers`], which is lent it, wants none: it runs the lines in as many threads
 //! as workers have lines, of which the caller's is one. What it tells is `LinesCome`, and the commits that it tells
 //! are those that came to the history, each the attempt of its line's transaction (`HasGathered`). Behind the lines
@@ -25,7 +24,7 @@
 //! Each mark that the maintenance thread met stands at its place among these (`BesideRan`); it seats nobody meanwhile,
 //! draws no number, and takes no lock but for drops, behind which it holds nothing (`Went`). Epochs may go on beside
 //! the lines: the clock behind them has the maintenance thread's. [`publish_new`] makes the pages of a new snapshot
-//! known to the words, and [`drop_pages`] takes pages of arrays out of memory that are what the newest one has: what
+//! known to the words, and [`drop_pages`] takes pages out of memory that are what the newest one has: what
 //! each such call came to is counted (`HasDropped`, `SharedState.drops`).
 //!
 //! Terms: *standing*, the storages, their contents and the clock; *share*, a worker's lines with what came of them;
@@ -45,7 +44,6 @@ mod dropping;
 mod ends;
 mod engine;
 mod marking;
-mod opening;
 mod publishing;
 mod rooms;
 mod workers;
@@ -54,7 +52,6 @@ pub use beside::{Alone, Beside};
 pub use dropping::drop_pages;
 pub use ends::WorkersRan;
 pub use engine::SharedEngine;
-pub use opening::are_arrays;
 pub use page_drops::Dropped;
 pub use publishing::publish_new;
 pub use rooms::{Rooms, count_lines, make_rooms};

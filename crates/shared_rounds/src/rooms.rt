@@ -1,11 +1,15 @@
 // Room for what comes of the workers' lines of a round, made before the first worker is seated.
-ghost use Rattle.std.specs.Prelude.{◌≡◌, ◌+◌, ◌<◌, ◌≤◌, ℕ, IfOk, get_or, length, vec_len};
-ghost use Rattle.shared_rounds.specs.Rooms.{AreCounts, AreRooms, IsRoomOf, counts_for};
+ghost use Rattle.std.specs.Prelude.{◌≡◌, ◌==◌, ◌*◌, ◌+◌, ◌<◌, ◌≤◌, ℕ, IfOk, List, cond, get_or, length, vec_len};
+ghost use Rattle.serial_model.specs.declared.decl.Decl.{Decl};
+ghost use Rattle.script_grammar.specs.Lines.{line_lent};
+ghost use Rattle.tx_script.specs.Room.{most_words, words_for};
+ghost use Rattle.tx_script.specs.Run.{CanRun, CanRunLine};
+ghost use Rattle.shared_rounds.specs.Rooms.{AreCounts, AreRooms, AreSpaces, IsRoomOf, counts_for, spaces_for};
 
 use outside::Disk;
-use serial_model::{Memory, WORKERS};
+use serial_model::{Memory, Op, WORKERS};
 use std::alloc::Global;
-use tx_script::{OutcomeRoom, Outcomes, Round};
+use tx_script::{Line, LineOps, OutcomeRoom, Outcomes, Round};
 use worker_cells::Cell;
 
 /// All memory that the workers' lines of a round take.
@@ -13,6 +17,8 @@ use worker_cells::Cell;
 pub struct Rooms<D> {
     /// How many lines each worker has.
     pub(crate) counts: [u32; WORKERS],
+    /// How many words the replies of each worker's lines have at most.
+    pub(crate) spaces: [u32; WORKERS],
     /// For a cell of each worker; none is made yet.
     pub(crate) cells: Vec<Cell<D>>,
     /// For the outcomes of each worker's lines, worker 0's first.
@@ -24,15 +30,17 @@ pub struct Rooms<D> {
 /// Room for the workers' lines of this round, over log files of this kind of disk. Where it can't be had it is refused
 /// whole.
 pub fn make_rooms<D: Disk + Drop>(alloc: Global, round: &Round<'_>) -> Result<Rooms<D>, Memory>
-    requires { length round.now.lines ≤ 65536 }
+    requires { (decls : List Decl) × CanRun decls round.now }
     ensures { IfOk result (λ rooms. IsRoomOf round.now rooms) }
 {
     let counts = count_lines(round);
-    let outcomes = make_outcome_rooms(alloc, &counts)?;
+    let spaces = count_words(round);
+    let outcomes = make_outcome_rooms(alloc, &counts, &spaces)?;
     let cells = Vec::with_capacity(alloc, WORKERS)?;
     let told = Vec::with_capacity(alloc, WORKERS)?;
     Ok(Rooms {
         counts,
+        spaces,
         cells,
         outcomes,
         told,
@@ -69,15 +77,92 @@ fn count_one(counts: &mut [u32; WORKERS], worker: Option<u8>)
     counts[index] += 1;
 }
 
-// Room for so many lines of each worker.
-fn make_outcome_rooms(alloc: Global, counts: &[u32; WORKERS]) -> Result<Vec<OutcomeRoom>, Memory>
-    requires workers { length counts.now ≡ 8 }
-    requires few { (worker : ℕ) → worker < 8 → get_or counts.now worker 0 ≤ 65536 }
-    ensures { IfOk result (λ rooms. (vec_len rooms ≡ 8) × AreRooms counts.now rooms.items) }
+/// How many words the replies of each worker's lines have at most.
+fn count_words(round: &Round<'_>) -> [u32; WORKERS]
+    requires { (decls : List Decl) × CanRun decls round.now }
+    ensures { AreSpaces round.now result }
+{
+    let mut room = LineOps::new();
+    let mut spaces = [0; WORKERS];
+    for index in 0..round.len() {
+        add_words(&mut spaces, round.line(index, &mut room));
+    }
+    spaces
+}
+
+// Adds the words of one line more, if it is a worker's.
+fn add_words(spaces: &mut [u32; WORKERS], line: Line<'_>)
+    requires workers { length spaces.old ≡ 8 }
+    requires line { (decls : List Decl) × CanRunLine decls (line_lent line) }
+    requires few { (other : ℕ) → other < 8 → get_or spaces.old other 0 ≤ 544 * 65536 }
+    ensures workers { length spaces.new ≡ 8 }
+    ensures words { (other : ℕ) → other < 8
+        → get_or spaces.new other 0 ≡ get_or spaces.old other 0 + spaces_for (line_lent line.entry) other }
+{
+    let Line::Worker { worker, ops } = line else {
+        return;
+    };
+    add_for(spaces, worker, words_of(ops));
+}
+
+// Adds so many words for a line of this worker.
+fn add_for(spaces: &mut [u32; WORKERS], worker: u8, words: u32)
+    requires workers { length spaces.old ≡ 8 }
+    requires few { (other : ℕ) → other < 8 → get_or spaces.old other 0 ≤ 544 * 65536 }
+    requires words { words ≤ 544 }
+    ensures workers { length spaces.new ≡ 8 }
+    ensures words { (other : ℕ) → other < 8
+        → get_or spaces.new other 0 ≡ get_or spaces.old other 0 + cond (worker == other) words 0 }
+{
+    let index = usize::from(worker);
+    if index >= WORKERS {
+        return;
+    }
+    spaces[index] += words;
+}
+
+// How many words the replies of a line have at most.
+fn words_of(ops: &[Op]) -> u32
+    requires { length ops.now ≤ 16 }
+    ensures is { result ≡ most_words ops.now }
+    ensures few { result ≤ 544 }
+{
+    let mut words = 0;
+    for op in ops {
+        words += words_of_one(op);
+    }
+    words
+}
+
+// How many words an operation's reply has at most: two of a value, and 34 of a scan's 16 rows.
+fn words_of_one(op: &Op) -> u32
+    ensures is { result ≡ words_for op.now }
+    ensures few { result ≤ 34 }
+{
+    match op {
+        Op::Read(_) => 2,
+        Op::Scan { .. } => 34,
+        Op::Write(_, _) | Op::Remove(_) | Op::Add(_, _) | Op::Take(_, _) => 0,
+    }
+}
+
+// Room for so many lines of each worker, with so many words of replies.
+fn make_outcome_rooms(
+    alloc: Global,
+    counts: &[u32; WORKERS],
+    spaces: &[u32; WORKERS],
+) -> Result<Vec<OutcomeRoom>, Memory>
+    requires counts { length counts.now ≡ 8 }
+    requires spaces { length spaces.now ≡ 8 }
+    ensures { IfOk result (λ rooms. (vec_len rooms ≡ 8) × AreRooms counts.now spaces.now rooms.items) }
 {
     let mut rooms = Vec::with_capacity(alloc, WORKERS)?;
     for worker in 0..WORKERS {
-        rooms.push_reserved(OutcomeRoom::new(alloc, counts[worker] as usize)?);
+        rooms.push_reserved(OutcomeRoom::new(
+            alloc,
+            counts[worker] as usize,
+            spaces[worker] as usize,
+        )?);
     }
     Ok(rooms)
 }

@@ -1,5 +1,5 @@
 // All workers' lines of a round.
-ghost use Rattle.std.specs.Prelude.{◌≡◌, ◌≤◌, [], Ok, length, true, vec_len};
+ghost use Rattle.std.specs.Prelude.{◌≡◌, ◌≤◌, [], length, vec_len};
 ghost use Rattle.std.specs.List.{AllByRecursion};
 ghost use Rattle.engine_pages.specs.Passes.{IsPassOf, view};
 ghost use Rattle.engine_pages.specs.declared.view.Role.TheVariants.{Keeper};
@@ -7,7 +7,6 @@ ghost use Rattle.engine_pages.specs.declared.view.View.{View};
 ghost use Rattle.worker_logs.specs.Logs.{LogState};
 ghost use Rattle.worker_logs.specs.Rows.{AreLogsUp};
 ghost use Rattle.tx_script.specs.Run.{CanRun};
-ghost use Rattle.serial_bridge.specs.WriteSets.{HasNoTree};
 ghost use Rattle.worker_cells.specs.Gates.{AreAllTold};
 ghost use Rattle.shared_rounds.specs.Gathers.{HasGathered};
 ghost use Rattle.shared_rounds.specs.Beside.{BeginsBeside, BeginsOn};
@@ -17,7 +16,7 @@ ghost use Rattle.shared_rounds.specs.Together.{RanSeated, RunsBeside};
 ghost use Rattle.shared_rounds.specs.Marks.{AreMarksBehind};
 ghost use Rattle.shared_rounds.specs.Parts.{clock_number};
 ghost use Rattle.shared_rounds.specs.Rooms.{IsRoomOf};
-ghost use Rattle.shared_rounds.specs.SharedState.{IsKept, are_arrays};
+ghost use Rattle.shared_rounds.specs.SharedState.{IsKept};
 
 use crate::SharedEngine;
 use crate::beside::{Beside, run_beside};
@@ -59,11 +58,9 @@ pub fn run_workers<R: Threads + Sync, D: Disk + Send + Drop, G: LineGate + Sync,
     requires idle { AreIdle round.now logs.old.items }
     requires rooms { IsRoomOf round.now rooms }
     requires beside { (v : View) → BeginsBeside engine.old v → B.can beside.old v }
-    ensures arrays { HasNoTree engine.old.decls }
     ensures history { HasGathered engine.old.decls round.now result.outcomes engine.old.mine engine.new.mine }
-    ensures stays { are_arrays engine.new.decls engine.new.state ≡ true }
     ensures runs { RunsBeside D.tells D.clock D.image_at D.faults (B.did beside.old beside.new) tries round.now
-        engine.old engine.new logs.old.items logs.new.items growing.old.items growing.new.items (Ok result) }
+        engine.old engine.new logs.old.items logs.new.items growing.old.items growing.new.items result }
     ensures marks { AreMarksBehind round.now logs.new.items engine.new.marks }
     ensures calls { AreAllTold 0 result.outcomes result.ends.items }
 {
@@ -124,6 +121,7 @@ fn run_seated<R: Threads + Sync, D: Disk + Send + Drop, G: LineGate + Sync, B: B
 {
     let Rooms {
         counts,
+        spaces,
         mut cells,
         mut outcomes,
         told,
@@ -136,6 +134,7 @@ fn run_seated<R: Threads + Sync, D: Disk + Send + Drop, G: LineGate + Sync, B: B
         logs,
         growing,
         &counts,
+        &spaces,
         &mut outcomes,
         &mut cells,
     );

@@ -48,8 +48,9 @@ use Rattle.tx_runner.specs.LineEnds.{HasCommittedLine, IsAsAlone}
 use Rattle.tx_runner.specs.Steps.{AreKeysOf, HasRunTo}
 use Rattle.tx_runner.specs.Tries.{HasConflicted, HasDrawsLeft, IsClash, IsPlaced, IsWrittenBy, blames_of, drawn_for}
 use Rattle.tx_runner.specs.Tries.{why_of, whys_of}
-use Rattle.tx_runner.proofs.Refusals.{blames_then, touches_then}
+use Rattle.tx_runner.proofs.Refusals.{blames_then}
 use Rattle.tx_runner.proofs.Standing.{StandsAs, left_before, seen_then}
+use Rattle.tx_runner.proofs.Touched.{touches_then}
 
 -- ---- the attempt is the line's
 
@@ -144,7 +145,7 @@ in_either t (x ∷ xs) ys has = elim (in_cases t x (xs ++ ys) has) [
 
 -- the operations were run since the try began, and then it was committed
 pub try_committed : (ops : List Op) (verdict : Verdict) (replies : List Reply) (commit : Commit) (sets : Sets)
-    (u v w : View) → StandsAs u v → AreKeysOf v.layout ops sets → HasRunTo ops verdict replies sets v
+    (u v w : View) → StandsAs ops u v → AreKeysOf v.layout ops sets → HasRunTo ops verdict replies sets v
     → commit.changes ≡ changes_of (kept_writes (keeps verdict) sets.writes)
     → Rises IsKeyBelow (map (λ (x : Change). x.key) commit.changes) → length commit.changes ≤ 16
     → HasCommitted commit.changes commit.number v w → v.steps ≤ w.steps → HasDrawsLeft u
@@ -169,14 +170,14 @@ try_committed ops verdict replies commit sets u v w s keys run written rises few
   blamed = c.blamed ∙ s.blamed ∙ sym (append-nil u.blamed);
   touched = λ t has. elim (in_either t v.touched (touches_of (seat_number v.role) commit.changes)
       (subst (λ (l : List Touch). Contains l t) c.touched has)) [
-        | inl before ↦ inl (subst (λ (l : List Touch). Contains l t) s.touched before)
+        | inl before ↦ s.touched t before
         | inr own ↦
             let x = of_change (seat_number v.role) commit.changes t own in
             inr (
               ap (λ (y : Touch). y.seat) (sym x.2) ∙ ap seat_number s.role,
-              subst (IsWrittenBy ops) (ap (λ (y : Touch). y.key) x.2)
+              inl (subst (IsWrittenBy ops) (ap (λ (y : Touch). y.key) x.2)
                   (keys.writes x.0.key (of_kept (keeps verdict) x.0 sets.writes
-                  (subst (λ (l : List Change). Contains l x.0) written x.1))),
+                  (subst (λ (l : List Change). Contains l x.0) written x.1)))),
             )
       ];
   seat = c.seat ∙ ap seat_number s.role;
@@ -245,7 +246,7 @@ line_committed ops done tries verdict replies commit u v w less h k = record {
       omega (arith, first, second, sum_by-append drawn_for h.losts k.losts);
   blamed = blames_then (seat_number u.role) h.losts k.losts u.blamed v.blamed w.blamed h.tried.blamed
       (k.blamed ∙ ap (λ (q : ℕ). v.blamed ++ blames_of q k.losts) (ap seat_number h.tried.role));
-  touched = touches_then ops u v w h.tried.role h.tried.touched k.touched;
+  touched = touches_then ops u v w h.tried.layout h.tried.role h.tried.touched k.touched;
   seat = k.seat ∙ ap seat_number h.tried.role;
   numbered = k.numbered;
   writes = k.writes;

@@ -3,55 +3,60 @@ use Rattle.std.proofs.Common.{◌≡◌, inl, inr, Option, Some, None, true≢fa
 use Rattle.std.proofs.Common.{length, List, [], ◌∷◌, ◌++◌}
 use Rattle.std.proofs.Common.{refl, sym, ap, ◌∙◌, subst, arith, append_assoc, length-append}
 use Rattle.std.specs.List.{AllByRecursion, Contains}
-use Rattle.std.specs.Prelude.{◌==◌}
+use Rattle.std.specs.Prelude.{◌==◌, IsTrue}
 use Rattle.std.proofs.lemmas.Bool.{eqb-true}
 use Rattle.std.proofs.lemmas.Grind.{flat_map-append}
 use Rattle.std.proofs.lemmas.List.{append-nil, map-append}
 use Rattle.std.proofs.lemmas.List.Sums.{sum_by-append, sum_by-cons}
 use Rattle.lists.specs.Each.{all_push}
-use Rattle.lists.specs.Elements.{any_in, any_is}
+use Rattle.lists.specs.Elements.{any_in, any_is, in_cases, in_none}
 use Rattle.lists.specs.Fronts.{front_refl}
 use Rattle.homes.specs.Homes.{same_key}
 use Rattle.homes.specs.Laws.{same_key-self}
 use Rattle.serial_model.specs.declared.key.Key.{Key}
 use Rattle.serial_model.specs.declared.op.Op.{Op}
+use Rattle.serial_model.specs.Keys.{fits}
 use Rattle.tx_sets.specs.declared.reads.ReadEntry.{ReadEntry}
 use Rattle.tx_sets.specs.declared.seen.Seen.{Seen}
 use Rattle.tx_sets.specs.declared.sets.Sets.{Sets}
 use Rattle.tx_sets.specs.declared.writes.Write.{Write}
 use Rattle.tx_sets.specs.Entries.{has_read, has_word, has_write}
 use Rattle.engine_pages.specs.declared.layout.Layout.{Layout}
+use Rattle.engine_pages.specs.Pages.{is_array}
 use Rattle.engine_pages.specs.declared.view.RefusalCause.{RefusalCause}
 use Rattle.engine_pages.specs.declared.view.RefusalCause.TheVariants as refusals
 use Rattle.engine_pages.specs.declared.view.SetName.{SetName}
-use Rattle.engine_pages.specs.declared.view.SetName.TheVariants.{Holds}
 use Rattle.engine_pages.specs.declared.view.Touch.{Touch}
 use Rattle.engine_pages.specs.declared.view.View.{View}
 use Rattle.engine_pages.specs.Slots.{first_retired}
 use Rattle.engine_pages.specs.Views.{seat_number}
-use Rattle.page_commit.specs.Below.{IsWayPlace}
-use Rattle.page_commit.specs.Live.{IsOver}
+use Rattle.page_commit.specs.Live.{IsLive, IsOver, IsWriteOf}
+use Rattle.page_commit.specs.Places.{ground, IsAnyKeyIn}
+use Rattle.page_commit.proofs.PlaceLaws.{key_array}
 use Rattle.page_commit.specs.Refusing.{HasRefused, RefusesBegin}
 use Rattle.page_commit.specs.Committing.{IsRecordOf, RefusesCommit, TookOnly, kept_writes}
 use Rattle.tx_runner.specs.declared.lines.LineEnd.{LineEnd}
 use Rattle.tx_runner.specs.declared.lines.LineEnd.TheVariants as answers
 use Rattle.tx_runner.specs.declared.room.LineRoom.{LineRoom}
 use Rattle.tx_runner.specs.LineEnds.{RunsLine}
-use Rattle.tx_runner.specs.Lines.{try_steps, IsOfKey, IsOnArray}
-use Rattle.tx_runner.specs.Steps.{AreKeysOf, IsCauseAmong, IsOpCause, IsTryCause, RefusesTry, end_of}
+use Rattle.tx_runner.specs.Lines.{try_steps, HasTreeOp, IsOfKey}
+use Rattle.tx_runner.specs.Steps.{AreKeysOf, IsCauseAmong, IsTryCause, IsWhyAmong, RefusesTry, end_of}
 use Rattle.tx_runner.specs.Tries.{AreAllTaken, HasConflicted, HasDrawsLeft, HasTriedFor, IsBesideRecords, IsChangedAt}
-use Rattle.tx_runner.specs.Tries.{IsClash, IsConflicting, IsKeyOf, IsLostAt, IsMetKey, IsPlaced, IsWrittenBy, Lost}
+use Rattle.tx_runner.specs.Tries.{IsClash, IsConflicting, IsKeyOf, IsLostAt, IsMetKey, IsOfArray, IsPlaced, IsWayWord}
+use Rattle.tx_runner.specs.Tries.{IsWrittenBy, Lost}
 use Rattle.tx_runner.specs.Tries.{ToClock, ToOther}
 use Rattle.tx_runner.specs.Tries.{ToSet, ToSlots, TouchesOnly, Writes, blame_at, blame_of, blames_of, drawn_for}
 use Rattle.tx_runner.specs.Tries.{why_of, whys_of}
 use Rattle.tx_runner.proofs.Arrays.{written_at}
+use Rattle.tx_runner.proofs.Causes.{locked_high, record_word}
 use Rattle.tx_runner.proofs.Standing.{StandsAs, left_before, seen_then, still}
 use Rattle.tx_runner.proofs.Sums.{steps_more, steps_within}
+use Rattle.tx_runner.proofs.Touched.{touches_then, untouched}
 
 -- ---- one try
 
 -- a refusal since the try began, for which so many numbers were drawn, and at which this one was met
-tried_once : (ops : List Op) (why : RefusalCause) (lost : Lost) (u v w : View) → StandsAs u v → HasRefused why v w
+tried_once : (ops : List Op) (why : RefusalCause) (lost : Lost) (u v w : View) → StandsAs ops u v → HasRefused why v w
     → why_of lost ≡ why → w.draws ≡ v.draws + drawn_for lost
     → w.blamed ≡ v.blamed ++ blame_of (seat_number v.role) lost → TouchesOnly ops u w → HasTriedFor ops (lost ∷ []) u w
 tried_once ops why lost u v w s r is drawn blamed touched = record {
@@ -80,9 +85,29 @@ has_written : (k : Key) (w : Write) (writes : List Write) → Contains writes w 
 has_written k w writes has is = any_in (λ (x : Write). same_key x.key k) writes w has
     (subst (λ (q : Key). same_key w.key q ≡ true) is (same_key-self w.key))
 
--- where nothing was locked
-untouched : (ops : List Op) (v w : View) → w.touched ≡ v.touched → TouchesOnly ops v w
-untouched ops v w same t has = inl (subst (λ (l : List Touch). Contains l t) same has)
+-- the record of an entry of the read set stands there
+read_place : (sets : Sets) (v : View) (e : ReadEntry) (k : Key) (at : ℕ) → IsLive sets v → Contains sets.reads e
+    → e.key ≡ k → e.at ≡ at → IsAnyKeyIn (ground v) k at
+read_place sets v e k at live has key place =
+    let part = live.parts.reads e has in
+    subst (λ (n : ℕ). IsAnyKeyIn (ground v) k n) place
+    (subst (λ (q : Key). IsAnyKeyIn (ground v) q e.at) key part.2.place)
+
+one_of : (P : Write → Type 0) (xs : List Write) (x : Write) → AllByRecursion P xs → Contains xs x → P x
+one_of P [] x all has = absurd (in_none x has)
+one_of P (y ∷ xs) x all has = elim (in_cases x y xs has) [
+  | inl same ↦ subst P same all.0
+  | inr later ↦ one_of P xs x all.1 later
+]
+
+-- and that of a write
+write_place : (sets : Sets) (keep : Bool) (v : View) (w : Write) (k : Key) (at : ℕ) → IsLive sets v
+    → Contains (kept_writes keep sets.writes) w → w.key ≡ k → w.at ≡ at → IsAnyKeyIn (ground v) k at
+write_place sets true v w k at live has key place =
+    let is = one_of (IsWriteOf (ground v)) sets.writes w live.writes has in
+    subst (λ (n : ℕ). IsAnyKeyIn (ground v) k n) place
+    (subst (λ (q : Key). IsAnyKeyIn (ground v) q w.at) key is.place)
+write_place sets false v w k at live has key place = absurd (in_none w has)
 
 -- the begin was refused
 pub begin_refused : (ops : List Op) (why : RefusalCause) (v w : View) → RefusesBegin why v w → RefusesTry ops why v w
@@ -90,7 +115,10 @@ begin_refused ops why v w r =
     let lost : Lost = ToClock r.clock in record {
       lost = lost;
       is = sym r.is;
-      tried = tried_once ops why lost v v w (still v) r.refused (sym r.is) (let none = r.undrawn in omega (arith, none))
+      tried = tried_once ops why lost v v w (still ops v) r.refused (sym r.is) (let none = r.undrawn in omega (
+        arith,
+        none,
+      ))
           (r.blamed ∙ sym (append-nil v.blamed)) (untouched ops v w r.touched);
       cause = (r.high, r.draws, v.steps, r.last);
     }
@@ -101,12 +129,13 @@ met_key ops (Some k) keys = keys k refl
 met_key ops None keys = tt
 
 -- a conflict, behind which so many numbers were drawn
-clash_try : (ops : List Op) (at expected seen : ℕ) (met : Option Key) (u v w : View) → HasDrawsLeft u → StandsAs u v
-    → HasRefused (refusals.Conflict at expected seen) v w → IsChangedAt met expected seen
-    → ((k : Key) → met ≡ Some k → IsKeyOf ops k) → (met ≡ None → IsBesideRecords v.layout (IsKeyOf ops) at)
+clash_try : (ops : List Op) (at expected seen : ℕ) (met : Option Key) (u v w : View) → HasDrawsLeft u
+    → StandsAs ops u v → HasRefused (refusals.Conflict at expected seen) v w → IsChangedAt met expected seen
+    → ((k : Key) → met ≡ Some k → IsKeyOf ops k) → IsOfArray v.layout.decls met
+    → (met ≡ None → IsBesideRecords v.layout (IsKeyOf ops) at)
     → w.blamed ≡ v.blamed ++ blame_at (seat_number v.role) met → TouchesOnly ops u w
     → RefusesTry ops (refusals.Conflict at expected seen) u w
-clash_try ops at expected seen met u v w left s r cause keys place blamed touched =
+clash_try ops at expected seen met u v w left s r cause keys array place blamed touched =
     let why : RefusalCause = refusals.Conflict at expected seen in
     let lost : Lost = ToOther (record { why = why; met = met; drew = r.drew }) in record {
       lost = lost;
@@ -115,12 +144,15 @@ clash_try ops at expected seen met u v w left s r cause keys place blamed touche
       cause = (
         (cause, met_key ops met keys),
         left,
-        λ none. subst (λ (y : Layout). IsBesideRecords y (IsKeyOf ops) at) s.layout (place none),
+        (
+          subst (λ (y : Layout). IsOfArray y.decls met) s.layout array,
+          λ none. subst (λ (y : Layout). IsBesideRecords y (IsKeyOf ops) at) s.layout (place none),
+        ),
       );
     }
 
 -- no slot was usable
-full_try : (ops : List Op) (told : Option (ℕ × ℕ)) (words : List ℕ) (u v w : View) → HasDrawsLeft u → StandsAs u v
+full_try : (ops : List Op) (told : Option (ℕ × ℕ)) (words : List ℕ) (u v w : View) → HasDrawsLeft u → StandsAs ops u v
     → HasRefused (refusals.Full told) v w → told ≡ first_retired 0 words → AreAllTaken words v w → Writes ops
     → w.draws ≡ v.draws → TouchesOnly ops u w → RefusesTry ops (refusals.Full told) u w
 full_try ops told words u v w left s r is all writes draws touched =
@@ -142,34 +174,48 @@ full_try ops told words u v w left s r is all writes draws touched =
       looked = all.looked;
     }
 
+-- a set was full
+wide_try : (ops : List Op) (set : SetName) (u v w : View) → HasDrawsLeft u → StandsAs ops u v
+    → HasRefused (refusals.Wide set) v w → HasTreeOp v.layout.decls ops → w.draws ≡ v.draws → TouchesOnly ops u w
+    → RefusesTry ops (refusals.Wide set) u w
+wide_try ops set u v w left s r tree draws touched =
+    let why : RefusalCause = refusals.Wide set in
+    let lost : Lost = ToSet set in record {
+      lost = lost;
+      is = refl;
+      tried = tried_once ops why lost u v w s r refl (omega (arith, draws)) (r.blamed ∙ ap (λ l. v.blamed ++ l) r.told)
+          touched;
+      cause = (subst (λ (l : Layout). HasTreeOp l.decls ops) s.layout tree, left);
+    }
+
 -- an operation was refused
-pub op_refused : (ops : List Op) (why : RefusalCause) (u v w : View) → HasDrawsLeft u → StandsAs u v
+pub op_refused : (ops : List Op) (why : RefusalCause) (u v w : View) → HasDrawsLeft u → StandsAs ops u v
     → HasRefused why v w → IsCauseAmong ops why v w → RefusesTry ops why u w
-op_refused ops why u v w left s r c = by_why why r c.op c.among c.cause
+op_refused ops why u v w left s r c =
+    by_why why r c.op c.among c.draws (touches_then ops u v w s.layout s.role s.touched c.touched) c.cause
   where
     beside : {at : ℕ} (op : Op) → Contains ops op → IsBesideRecords v.layout (IsOfKey op) at
         → IsBesideRecords v.layout (IsKeyOf ops) at
     beside op among (inl slot) = inl slot
     beside op among (inr way) = inr (way.0, record { op = op; among = among; at = way.1 }, way.2)
 
-    by_why : (y : RefusalCause) → HasRefused y v w → (op : Op) → Contains ops op → IsOpCause op y v w
-        → RefusesTry ops y u w
-    by_why (refusals.Conflict at expected seen) r op among c =
+    by_why : (y : RefusalCause) → HasRefused y v w → (op : Op) → Contains ops op → w.draws ≡ v.draws
+        → TouchesOnly ops u w → IsWhyAmong ops op y v w → RefusesTry ops y u w
+    by_why (refusals.Conflict at expected seen) r op among draws touched c =
         clash_try ops at expected seen c.met u v w left s r c.cause
-        (λ k is. record { op = op; among = among; at = c.key k is }) (λ none. beside op among (c.place none)) c.blamed
-        (untouched ops u w (c.touched ∙ s.touched))
-    by_why (refusals.Full told) r op among c =
+        (λ k is. record { op = op; among = among; at = c.key k is }) c.array (λ none. beside op among (c.place none))
+        c.blamed touched
+    by_why (refusals.Full told) r op among draws touched c =
         full_try ops told c.words u v w left s r c.told_is c.all
-        (c.key, record { op = op; among = among; writes = c.writes }) c.draws
-        (untouched ops u w (c.touched ∙ s.touched))
-    by_why (refusals.Wide set) r op among c = absurd c
-    by_why (refusals.NumberLimit clock) r op among c = absurd c
+        (c.key, record { op = op; among = among; writes = c.writes }) draws touched
+    by_why (refusals.Wide set) r op among draws touched c = wide_try ops set u v w left s r c draws touched
+    by_why (refusals.NumberLimit clock) r op among draws touched c = absurd c
 
 -- the commit was refused
 pub commit_refused : (ops : List Op) (why : RefusalCause) (sets : Sets) (keep : Bool) (u v w : View) → HasDrawsLeft u
-    → StandsAs u v → AreKeysOf v.layout ops sets → HasRefused why v w
+    → StandsAs ops u v → AreKeysOf v.layout ops sets → IsLive sets v → HasRefused why v w
     → RefusesCommit sets (kept_writes keep sets.writes) why v w → RefusesTry ops why u w
-commit_refused ops why sets keep u v w left s keys r c = by_why why r c
+commit_refused ops why sets keep u v w left s keys live r c = by_why why r c
   where
     kept : (k : Key) (b : Bool) → has_write k (kept_writes b sets.writes) ≡ true → IsWrittenBy ops k
     kept k true has = keys.writes k has
@@ -184,23 +230,30 @@ commit_refused ops why sets keep u v w left s keys r c = by_why why r c
     some_none : (k : Key) → Some k ≡ None → ⊥
     some_none k same = absurd cc
 
-    pointer_way : (at : ℕ) → has_word at sets.pointers ≡ true → (k : Key) × IsKeyOf ops k × IsWayPlace v.layout k at
+    pointer_way : (at : ℕ) → has_word at sets.pointers ≡ true → (k : Key) × IsKeyOf ops k × IsWayWord v.layout k at
     pointer_way at has =
         let p = any_is (λ (s : Seen). s.at == at) sets.pointers has in let x = keys.pointers p.0 p.1 in (
           x.0,
           x.1,
-          subst (λ (n : ℕ). IsWayPlace v.layout x.0 n) (eqb-true p.0.at at p.2) x.2,
+          subst (λ (n : ℕ). IsWayWord v.layout x.0 n) (eqb-true p.0.at at p.2) x.2,
         )
 
-    no_header : (at : ℕ) → has_word at sets.headers ≡ true → ⊥
-    no_header at has =
-        let none : has_word at sets.headers ≡ false = ap (has_word at) keys.headers in
-        true≢false (sym has ∙ none)
+    -- the record of a key that is no array's is one of a tree
+    tree_word : (k : Key) (at : ℕ) → IsAnyKeyIn (ground v) k at → is_array v.layout.decls k.storage ≡ false
+        → IsWayWord v.layout k at
+    tree_word k at (inl here) other = absurd (true≢false (sym (key_array (ground v) k at here) ∙ other))
+    tree_word k at (inr here) other = inr (here.kind, record_word v k at here)
+
+    -- and stands where the sets have it
+    place_of : (k : Key) (at : ℕ) → IsRecordOf sets.reads (kept_writes keep sets.writes) k at
+        → IsAnyKeyIn (ground v) k at
+    place_of k at (inl entry) = read_place sets v entry.0 k at live entry.1 entry.2 entry.3
+    place_of k at (inr write) = write_place sets keep v write.0 k at live write.1 write.2 write.3
 
     touches : TookOnly (kept_writes keep sets.writes) v w → TouchesOnly ops u w
     touches took t has = elim (took t has) [
-      | inl before ↦ inl (subst (λ (l : List Touch). Contains l t) s.touched before)
-      | inr own ↦ inr (own.0 ∙ ap seat_number s.role, kept t.key keep own.1)
+      | inl before ↦ s.touched t before
+      | inr own ↦ inr (own.0 ∙ ap seat_number s.role, inl (kept t.key keep own.1))
     ]
 
     by_why : (y : RefusalCause) → HasRefused y v w → RefusesCommit sets (kept_writes keep sets.writes) y v w
@@ -208,13 +261,25 @@ commit_refused ops why sets keep u v w left s keys r c = by_why why r c
     by_why (refusals.Conflict at expected seen) r c = elim c.0 [
       | inl here ↦
           clash_try ops at expected seen (Some here.0) u v w left s r here.2.conflict.cause
-          (λ k is. let same : here.0 ≡ k = cc in subst (IsKeyOf ops) same (read_or_written here.0 at here.1))
+          (λ k is. let same : here.0 ≡ k = cc in subst (IsKeyOf ops) same (read_or_written here.0 at here.1)) here.3
           (λ none. absurd (some_none here.0 none)) here.2.blamed (touches c.1)
       | inr other ↦ elim other [
         | inl pointer ↦
-            clash_try ops at expected seen None u v w left s r pointer.1.cause (λ k is. absurd cc)
+            clash_try ops at expected seen None u v w left s r pointer.1.cause (λ k is. absurd cc) tt
             (λ none. inr (pointer_way at pointer.0)) (pointer.2 ∙ sym (append-nil v.blamed)) (touches c.1)
-        | inr header ↦ absurd (no_header at header.0)
+        | inr rest ↦ elim rest [
+          | inl header ↦
+              clash_try ops at expected seen None u v w left s r header.1.cause (λ k is. absurd cc) tt
+              (λ none. inr (keys.headers at header.0)) (header.2 ∙ sym (append-nil v.blamed)) (touches c.1)
+          | inr tree ↦
+              clash_try ops at expected seen None u v w left s r (locked_high seen expected tree.2.cause)
+              (λ k is. absurd cc) tt
+              (λ none. inr (
+                tree.0,
+                read_or_written tree.0 at tree.1,
+                tree_word tree.0 at (place_of tree.0 at tree.1) tree.4,
+              )) (tree.3 ∙ sym (append-nil v.blamed)) (touches c.1)
+        ]
       ]
     ]
     by_why (refusals.Full told) r c = absurd c
@@ -245,14 +310,6 @@ none_tried ops v over = record {
   };
 }
 
--- locks that were taken in either part
-pub touches_then : (ops : List Op) (u v w : View) → v.role ≡ u.role → TouchesOnly ops u v → TouchesOnly ops v w
-    → TouchesOnly ops u w
-touches_then ops u v w role a b t has = elim (b t has) [
-  | inl before ↦ a t before
-  | inr own ↦ inr (own.0 ∙ ap seat_number role, own.1)
-]
-
 pub blames_then : (q : ℕ) (xs ys : List Lost) (u v w : List Touch) → v ≡ u ++ blames_of q xs → w ≡ v ++ blames_of q ys
     → w ≡ u ++ blames_of q (xs ++ ys)
 blames_then q xs ys u v w a b =
@@ -278,7 +335,7 @@ tried_then ops xs ys u v w a b = record {
       ∙ ap (λ l. u.refused ++ l) (sym (map-append why_of xs ys));
   blamed = blames_then (seat_number u.role) xs ys u.blamed v.blamed w.blamed a.blamed
       (b.blamed ∙ ap (λ (q : ℕ). v.blamed ++ blames_of q ys) (ap seat_number a.role));
-  touched = touches_then ops u v w a.role a.touched b.touched;
+  touched = touches_then ops u v w a.layout a.role a.touched b.touched;
 }
 
 -- one try more was refused with Conflict
@@ -345,10 +402,10 @@ line_ended ops done tries why end room u v w less h r ends = by_lost r.lost r.is
       all = cause.1;
     }
     by_lost (ToSet set) is tried cause = as_end answers.Wide (ap end_of (sym is)) record {
-      began = left_before u v h.tried.layout h.tried.seen cause.2;
-      many = cause.1;
-      refused = lost_behind ops done tries (ToSet Holds) u v w less h
-          (subst (λ (x : SetName). HasTriedFor ops (ToSet x ∷ []) v w) cause.0 tried);
+      began = left_before u v h.tried.layout h.tried.seen cause.1;
+      tree = subst (λ (l : Layout). HasTreeOp l.decls ops) h.tried.layout cause.0;
+      set = set;
+      refused = lost_behind ops done tries (ToSet set) u v w less h tried;
     }
     by_lost (ToClock clock) is tried cause = as_end answers.Limit (ap end_of (sym is)) record {
       clock = clock;
@@ -368,27 +425,28 @@ all_tried ops tried tries v w within all h =
     let same : tried ≡ tries = omega (arith, within, all) in subst (λ n. HasConflicted ops n v w) same h
 
 -- the declarations are the same behind them
-pub tried_arrays : (ops : List Op) (tried : ℕ) (v w : View) → HasConflicted ops tried v w
-    → AllByRecursion (IsOnArray v.layout.decls) ops → AllByRecursion (IsOnArray w.layout.decls) ops
-tried_arrays ops tried v w h all =
-    subst (λ (l : Layout). AllByRecursion (IsOnArray l.decls) ops) (sym h.tried.layout) all
+pub tried_fits : (ops : List Op) (tried : ℕ) (v w : View) → HasConflicted ops tried v w
+    → AllByRecursion (λ op. IsTrue (fits v.layout.decls op)) ops
+    → AllByRecursion (λ op. IsTrue (fits w.layout.decls op)) ops
+tried_fits ops tried v w h all =
+    subst (λ (l : Layout). AllByRecursion (λ op. IsTrue (fits l.decls op)) ops) (sym h.tried.layout) all
 
 -- ---- steps
 
--- one more took no more steps than each may, with as many slots as there were before
+-- one more took no more steps than each may, as the storages and slots were before
 pub more_took : (ops : List Op) (tried : ℕ) (u v w : View) → HasConflicted ops tried u v
-    → v.steps ≤ u.steps + tried * try_steps u.layout.slots (length ops)
-    → w.steps ≤ v.steps + try_steps v.layout.slots (length ops)
-    → w.steps ≤ u.steps + (tried + 1) * try_steps u.layout.slots (length ops)
+    → v.steps ≤ u.steps + tried * try_steps u.layout.decls u.layout.slots ops
+    → w.steps ≤ v.steps + try_steps v.layout.decls v.layout.slots ops
+    → w.steps ≤ u.steps + (tried + 1) * try_steps u.layout.decls u.layout.slots ops
 more_took ops tried u v w h before took =
-    steps_more tried (try_steps u.layout.slots (length ops)) u.steps v.steps w.steps before
-    (subst (λ (l : Layout). w.steps ≤ v.steps + try_steps l.slots (length ops)) h.tried.layout took)
+    steps_more tried (try_steps u.layout.decls u.layout.slots ops) u.steps v.steps w.steps before
+    (subst (λ (l : Layout). w.steps ≤ v.steps + try_steps l.decls l.slots ops) h.tried.layout took)
 
 -- so a line that ends with it took no more than all its tries may
 pub line_took : (ops : List Op) (tried tries : ℕ) (u v w : View) → tried < tries → HasConflicted ops tried u v
-    → v.steps ≤ u.steps + tried * try_steps u.layout.slots (length ops)
-    → w.steps ≤ v.steps + try_steps v.layout.slots (length ops)
-    → w.steps ≤ u.steps + tries * try_steps u.layout.slots (length ops)
+    → v.steps ≤ u.steps + tried * try_steps u.layout.decls u.layout.slots ops
+    → w.steps ≤ v.steps + try_steps v.layout.decls v.layout.slots ops
+    → w.steps ≤ u.steps + tries * try_steps u.layout.decls u.layout.slots ops
 line_took ops tried tries u v w less h before took =
-    steps_within (tried + 1) tries (try_steps u.layout.slots (length ops)) u.steps w.steps (omega (arith, less))
+    steps_within (tried + 1) tries (try_steps u.layout.decls u.layout.slots ops) u.steps w.steps (omega (arith, less))
     (more_took ops tried u v w h before took)

@@ -47,9 +47,9 @@ IsAsAlone decls opening history decided a e =
 -- pass's own, and counts. Its epoch is above the worker's mark, and its changes are those of a log line. It is that of
 -- the line's transaction, whose answers are the serial step's on the state below its number, now (`now`) and as any
 -- later audit has it (`later`). The tries before, which were fewer than the line has, were refused with Conflict, and
--- besides the commit's number just theirs were drawn, and the line took locks of keys at most that it may write; as the
--- first of all began, the clock was not at the last draws (`began`). Each record that it read had the last decided write
--- of its key at a step of this call (`parts`).
+-- besides the commit's number just theirs were drawn, and the line took locks at most that it may take; as the first of
+-- all began, the clock was not at the last draws (`began`). Each record that it read had the last decided write of its
+-- key at a step of this call (`parts`).
 pub record HasCommittedLine (ops : List Op) (tries : ℕ) (verdict : Verdict) (replies : List Reply) (commit : Commit)
     (v w : View) : Type 0 where
   pub began : HasDrawsLeft v

@@ -1,7 +1,7 @@
 -- Laws for a caller's own threads: with what a worker's pass begins, goes on and ends, and that what they committed
 -- between two counts is a serial run of their transactions.
 use Rattle.std.proofs.Common.{◌≡◌, refl, subst, ap, sym, ◌∙◌, ℕ, ◌++◌, List, [], ◌∷◌, get_or, true, false, true≢false}
-use Rattle.std.proofs.Common.{◌*◌, ◌≤◌, length, arith, eqb, eq-eqb}
+use Rattle.std.proofs.Common.{eqb, eq-eqb}
 use Rattle.std.specs.Prelude.{filter, Contains}
 use Rattle.std.specs.List.Sorted.{IsPermutation}
 use Rattle.lists.specs.Elements.{any_in, in_head, in_none}
@@ -38,6 +38,7 @@ use Rattle.page_commit.specs.Below.{worker_of}
 use Rattle.engine_seats.specs.Cuts.{IsDone}
 use Rattle.serial_model.specs.declared.op.Op.{Op}
 use Rattle.tx_runner.specs.Epochs.{HasSeenEpoch}
+use Rattle.tx_runner.specs.Lines.{is_on_tree}
 use Rattle.tx_runner.specs.Tries.{IsWideAt}
 use Rattle.page_commit.specs.Live.{IsOver}
 
@@ -132,10 +133,10 @@ over_done v over = record {
 
 -- ---- lines on arrays
 
--- No line of 16 operations is wide.
-pub never_wide : (ops : List Op) (tries : ℕ) (v w : View) → length ops ≤ 16 → IsWideAt ops tries v w → ⊥
-never_wide ops tries v w few wide =
-    let many : 128 ≤ 6 * length ops = wide.many in omega (arith, many, few)
+-- No line whose operations are all on arrays is wide.
+pub never_wide : (ops : List Op) (tries : ℕ) (v w : View)
+    → ((op : Op) → Contains ops op → is_on_tree v.layout.decls op ≡ false) → IsWideAt ops tries v w → ⊥
+never_wide ops tries v w none wide = true≢false (sym wide.tree.2 ∙ none wide.tree.0 wide.tree.1)
 
 -- ---- from two counts to a serial run
 
@@ -167,7 +168,8 @@ counted_runs decls s opening was history old decided before now mines entries be
       ordered = moved.0;
       same = moved.1;
       new = split.new;
-      runs = subst (λ (l : List Attempt). RunsSerially decls s moved.0 split.new (after_attempts (content_at opening) l))
+      runs = subst (λ (l : List Attempt). RunsSerially decls s moved.0 split.new (after_attempts (content_at opening)
+          l))
           (sym split.own)
           (runs_behind decls s opening before split.new moved.0
           (subst (ReadsAreSerial opening) counts_now serial) agrees moved.2);

@@ -1,6 +1,6 @@
 -- What the parts of a try do.
 use Rattle.std.specs.Prelude.{◌≡◌, ℕ, ◌+◌, ◌*◌, ◌%◌, ◌^◌, ◌≤◌, length, List, [], ◌∷◌, ◌++◌, Some, None, Option}
-use Rattle.std.specs.Prelude.{true}
+use Rattle.std.specs.Prelude.{true, ◌⊎◌, IfErr, IfOk, Result}
 use Rattle.std.specs.Prelude.{Contains, option_to_list}
 use Rattle.serial_model.specs.declared.key.Key.{Key}
 use Rattle.serial_model.specs.declared.op.Op.{Op}
@@ -10,32 +10,31 @@ use Rattle.serial_model.specs.declared.reply.Verdict.TheVariants.{Done, Short, O
 use Rattle.serial_model.specs.Numbers.{draw_limit}
 use Rattle.tx_sets.specs.declared.seen.Seen.{Seen}
 use Rattle.tx_sets.specs.declared.sets.Sets.{Sets}
-use Rattle.tx_sets.specs.Entries.{has_read, has_write}
+use Rattle.tx_sets.specs.Entries.{has_read, has_word, has_write}
 use Rattle.engine_pages.specs.declared.layout.Layout.{Layout}
 use Rattle.engine_pages.specs.declared.view.RefusalCause.{RefusalCause}
 use Rattle.engine_pages.specs.declared.view.RefusalCause.TheVariants as refusals
-use Rattle.engine_pages.specs.declared.view.SetName.TheVariants.{Holds}
 use Rattle.engine_pages.specs.declared.view.View.{View}
 use Rattle.engine_pages.specs.Layout.{clock_at}
 use Rattle.engine_pages.specs.Slots.{first_retired}
 use Rattle.engine_pages.specs.Steps.{glance}
 use Rattle.engine_pages.specs.Views.{seat_number}
-use Rattle.page_commit.specs.Below.{IsWayPlace}
 use Rattle.page_commit.specs.Calls.{op_holds}
 use Rattle.page_commit.specs.Live.{IsLive}
+use Rattle.page_commit.specs.Refusing.{HasRefused}
 use Rattle.page_commit.specs.Turning.{HasDone, HasStopped, MayWrite, OnlyWalked}
 use Rattle.page_commit.specs.Running.{HasRun, HasEnded}
 use Rattle.tx_runner.specs.declared.lines.LineEnd.{LineEnd}
 use Rattle.tx_runner.specs.declared.lines.LineEnd.TheVariants as ends
-use Rattle.tx_runner.specs.Lines.{IsOfKey}
+use Rattle.tx_runner.specs.Lines.{HasTreeOp, IsOfKey, IsOnTree, op_steps}
 use Rattle.tx_runner.specs.Tries.{AreAllTaken, HasDrawsLeft, HasTriedFor, IsBesideRecords, IsChangedAt, IsClash}
-use Rattle.tx_runner.specs.Tries.{IsKeyOf, IsPlaced, IsWrittenBy, Lost, ToClock, ToOther, ToSet, ToSlots, Writes}
-use Rattle.tx_runner.specs.Tries.{blame_at, why_of}
+use Rattle.tx_runner.specs.Tries.{IsKeyOf, IsOfArray, IsPlaced, IsWayWord, IsWrittenBy, Lost, ToClock, ToOther, ToSet}
+use Rattle.tx_runner.specs.Tries.{ToSlots, TouchesOnly, Writes, blame_at, why_of}
 
 -- ---- operations
 
--- The transaction has read and written at most so many keys, met so many pointers, and no header, and holds no more slots
--- than so many operations may.
+-- The transaction has read and written at most so many keys, met so many pointers, and no header, and holds no more
+-- slots than so many operations on arrays may.
 pub record AreWithin (count : ℕ) (sets : Sets) : Type 0 where
   pub reads : length sets.reads ≤ count
   pub writes : length sets.writes ≤ count
@@ -66,57 +65,96 @@ HasRunTo ops Done replies sets w = HasRun ops replies sets w
 HasRunTo ops Short replies sets w = HasEnded ops Short replies w
 HasRunTo ops Over replies sets w = HasEnded ops Over replies w
 
--- What the transaction has read are keys of the operations, what it has written are keys that they may write, each
--- pointer that it met is on the way to a key of theirs, and it keeps no header.
+-- What the transaction has read are keys of the operations, what it has written are keys that they may write, and each
+-- pointer that it met and each header that it keeps is a word for a key of theirs.
 pub record AreKeysOf (l : Layout) (ops : List Op) (sets : Sets) : Type 0 where
   pub reads : (k : Key) → has_read k sets.reads ≡ true → IsKeyOf ops k
   pub writes : (k : Key) → has_write k sets.writes ≡ true → IsWrittenBy ops k
-  pub pointers : (p : Seen) → Contains sets.pointers p → (k : Key) × IsKeyOf ops k × IsWayPlace l k p.at
-  pub headers : sets.headers ≡ []
+  pub pointers : (p : Seen) → Contains sets.pointers p → (k : Key) × IsKeyOf ops k × IsWayWord l k p.at
+  pub headers : (at : ℕ) → has_word at sets.headers ≡ true → (k : Key) × IsKeyOf ops k × IsWayWord l k at
 
--- and is still under way, with nothing new but loads, parts, and pages in memory
+-- Only walks lie between, with parts, and pages in memory, and locks that the operations may take.
+pub record OnlyLoaded (ops : List Op) (v w : View) : Type 0 where
+  pub walked : OnlyWalked v w
+  pub touched : TouchesOnly ops v w
+
+-- The sets have no more than operations on arrays alone may need, or one of the operations is on a tree.
+abbrev pub AreSized : List Op → ℕ → Sets → View → Type 0
+AreSized ops count sets v = HasTreeOp v.layout.decls ops ⊎ AreWithin count sets
+
+-- the sets have no more than there is room for
+pub record HasRoom (sets : Sets) : Type 0 where
+  pub reads : length sets.reads ≤ 256
+  pub writes : length sets.writes ≤ 16
+  pub pointers : length sets.pointers ≤ 128
+  pub headers : length sets.headers ≤ 256
+  pub holds : length sets.holds ≤ 128
+
+-- and is still under way, with nothing new but walks, parts, pages in memory and locks
 pub record HasAnsweredAll (ops : List Op) (verdict : Verdict) (replies : List Reply) (sets : Sets) (v w : View)
     : Type 0 where
   pub live : IsLive sets w
-  pub only : OnlyWalked v w
-  pub sized : AreWithin (length ops) sets
+  pub only : OnlyLoaded ops v w
+  pub sized : AreSized ops (length ops) sets v
   pub run : HasRunTo ops verdict replies sets w
   pub keys : AreKeysOf w.layout ops sets
 
--- An operation met a word that was changed, or is locked or shut: the record's of its key, or a slot's, or that of a
--- pointer on the way to its key. Nothing was drawn or locked.
+-- An operation met a word that was changed, or is locked or shut: that of the record of its key in an array, or else a
+-- slot's, that of a pointer on the way to its key, or one of a page of a tree.
 pub record IsOpConflict (op : Op) (at expected seen : ℕ) (v w : View) : Type 0 where
   pub met : Option Key
   pub key : (k : Key) → met ≡ Some k → IsOfKey op k
+  pub array : IsOfArray v.layout.decls met
   pub place : met ≡ None → IsBesideRecords v.layout (IsOfKey op) at
   pub cause : IsChangedAt met expected seen
   pub blamed : w.blamed ≡ v.blamed ++ blame_at (seat_number v.role) met
-  pub draws : w.draws ≡ v.draws
-  pub touched : w.touched ≡ v.touched
 
--- An operation that may write found no slot usable; of those that were seen the lowest retired one is told. Nothing was
--- drawn or locked.
+-- An operation that may write found no slot usable; of those that were seen the lowest retired one is told.
 pub record IsOpFull (op : Op) (told : Option (ℕ × ℕ)) (v w : View) : Type 0 where
   pub key : Key
   pub writes : MayWrite op key
   pub words : List ℕ
   pub all : AreAllTaken words v w
   pub told_is : told ≡ first_retired 0 words
+
+-- Why an operation is refused. A set is full only for one on a tree, or where more than 15 operations on arrays filled
+-- it.
+abbrev pub IsOpWhy : Op → Sets → RefusalCause → View → View → Type 0
+IsOpWhy op sets (refusals.Conflict at expected seen) v w = IsOpConflict op at expected seen v w
+IsOpWhy op sets (refusals.Full told) v w = IsOpFull op told v w
+IsOpWhy op sets (refusals.Wide set) v w = IsOnTree v.layout.decls op ⊎ (AreWithin 15 sets → ⊥)
+IsOpWhy op sets (refusals.NumberLimit clock) v w = ⊥
+
+-- the operation was refused for this, before any draw, and took locks at most that it may take
+pub record IsOpCause (op : Op) (sets : Sets) (why : RefusalCause) (v w : View) : Type 0 where
   pub draws : w.draws ≡ v.draws
-  pub touched : w.touched ≡ v.touched
+  pub touched : TouchesOnly (op ∷ []) v w
+  pub cause : IsOpWhy op sets why v w
 
--- Why an operation is refused, of a transaction that ran fewer than 16: they fill no set.
-abbrev pub IsOpCause : Op → RefusalCause → View → View → Type 0
-IsOpCause op (refusals.Conflict at expected seen) v w = IsOpConflict op at expected seen v w
-IsOpCause op (refusals.Full told) v w = IsOpFull op told v w
-IsOpCause op (refusals.Wide set) v w = ⊥
-IsOpCause op (refusals.NumberLimit clock) v w = ⊥
+-- What an operation comes to, or why it is refused; how many steps it takes at most, and how many slots more are held
+-- behind one on an array.
+pub record RunsOp (op : Op) (r : Result Verdict RefusalCause) (old now : List Reply) (sets new : Sets) (v w : View)
+    : Type 0 where
+  pub answers : IfOk r (λ verdict. HasAnswered op verdict old now sets new v w)
+  pub refused : IfErr r (λ why. HasRefused why v w)
+  pub cause : IfErr r (λ why. IsOpCause op sets why v w)
+  pub steps : w.steps ≤ v.steps + op_steps v.layout.decls v.layout.slots op
+  pub grows : IsOnTree v.layout.decls op ⊎ (length new.holds ≤ length sets.holds + op_holds)
 
--- the same of one of these operations
+-- Why one of these operations, which is this one, was refused.
+abbrev pub IsWhyAmong : List Op → Op → RefusalCause → View → View → Type 0
+IsWhyAmong ops op (refusals.Conflict at expected seen) v w = IsOpConflict op at expected seen v w
+IsWhyAmong ops op (refusals.Full told) v w = IsOpFull op told v w
+IsWhyAmong ops op (refusals.Wide set) v w = HasTreeOp v.layout.decls ops
+IsWhyAmong ops op (refusals.NumberLimit clock) v w = ⊥
+
+-- One of these operations was refused so, before any draw, and they took locks at most that they may take.
 pub record IsCauseAmong (ops : List Op) (why : RefusalCause) (v w : View) : Type 0 where
   pub op : Op
   pub among : Contains ops op
-  pub cause : IsOpCause op why v w
+  pub draws : w.draws ≡ v.draws
+  pub touched : TouchesOnly ops v w
+  pub cause : IsWhyAmong ops op why v w
 
 -- ---- tries
 
@@ -126,7 +164,7 @@ abbrev pub IsTryCause : List Op → Lost → View → View → Type 0
 IsTryCause ops (ToOther clash) v w =
     IsClash ops (ToOther clash) × HasDrawsLeft v × IsPlaced v.layout ops (ToOther clash)
 IsTryCause ops (ToSlots words) v w = Writes ops × AreAllTaken words v w × HasDrawsLeft v
-IsTryCause ops (ToSet set) v w = (set ≡ Holds) × (128 ≤ op_holds * length ops) × HasDrawsLeft v
+IsTryCause ops (ToSet set) v w = HasTreeOp v.layout.decls ops × HasDrawsLeft v
 IsTryCause ops (ToClock clock) v w =
     (draw_limit ≤ clock % 2 ^ 40) × (clock % 2 ^ 40 ≡ v.layout.first.draw + length w.history)
     × (step : ℕ) × (w.last ≡ Some (glance step clock_at clock))

@@ -1,28 +1,28 @@
 -- Tries of a line that were refused.
-use Rattle.std.specs.Prelude.{◌≡◌, ◌≢◌, ◌⊎◌, ℕ, ◌+◌, ◌*◌, ◌%◌, ◌^◌, ◌≤◌, ◌<◌, Bool, true, List, [], ◌∷◌, ◌++◌, length}
+use Rattle.std.specs.Prelude.{◌≡◌, ◌≢◌, ◌⊎◌, ℕ, ◌+◌, ◌%◌, ◌^◌, ◌≤◌, ◌<◌, Bool, true, List, [], ◌∷◌, ◌++◌, length}
 use Rattle.std.specs.Prelude.{Some, None, Option, Contains, cond, flat_map, map, sum_by, ⊤}
 use Rattle.std.specs.List.{AllByRecursion, list_all}
 use Rattle.serial_model.specs.Numbers.{draw_limit}
+use Rattle.serial_model.specs.declared.decl.Decl.{Decl}
 use Rattle.serial_model.specs.declared.key.Key.{Key}
 use Rattle.serial_model.specs.declared.op.Op.{Op}
 use Rattle.engine_pages.specs.declared.layout.Layout.{Layout}
 use Rattle.engine_pages.specs.declared.view.RefusalCause.{RefusalCause}
 use Rattle.engine_pages.specs.declared.view.RefusalCause.TheVariants as refusals
 use Rattle.engine_pages.specs.declared.view.SetName.{SetName}
-use Rattle.engine_pages.specs.declared.view.SetName.TheVariants.{Holds}
 use Rattle.engine_pages.specs.declared.view.Touch.{Touch}
 use Rattle.engine_pages.specs.declared.view.View.{View}
-use Rattle.engine_pages.specs.Layout.{clock_at, slot_at}
+use Rattle.engine_pages.specs.Layout.{clock_at, page_at, slot_at}
+use Rattle.engine_pages.specs.Pages.{is_array, is_tree}
 use Rattle.engine_pages.specs.Slots.{first_retired, is_taken_word, looks}
 use Rattle.engine_pages.specs.Steps.{glance}
 use Rattle.engine_pages.specs.Touches.{touch}
 use Rattle.engine_pages.specs.Views.{seat_number}
 use Rattle.page_commit.specs.Below.{IsWayPlace}
-use Rattle.page_commit.specs.Calls.{op_holds}
 use Rattle.page_commit.specs.Between.{HasSeen}
 use Rattle.page_commit.specs.Live.{IsOver}
 use Rattle.page_commit.specs.Turning.{MayWrite}
-use Rattle.tx_runner.specs.Lines.{IsOfKey}
+use Rattle.tx_runner.specs.Lines.{HasTreeOp, IsOfKey}
 
 -- ---- the keys of a line
 
@@ -42,10 +42,19 @@ pub record IsWrittenBy (ops : List Op) (k : Key) : Type 0 where
 abbrev pub Writes : List Op → Type 0
 Writes ops = (k : Key) × IsWrittenBy ops k
 
+-- some operation of the line may write in a tree
+abbrev pub WritesTree : List Decl → List Op → Type 0
+WritesTree decls ops = (k : Key) × IsWrittenBy ops k × (is_tree decls k.storage ≡ true)
+
+-- The line may lock the key's record: it may write the key; or it may write in a tree, and the key is one of a tree, of
+-- a leaf to which a key is added, or which is split.
+abbrev pub IsLockedFor : List Decl → List Op → Key → Type 0
+IsLockedFor decls ops k = IsWrittenBy ops k ⊎ ((is_tree decls k.storage ≡ true) × WritesTree decls ops)
+
 -- ---- conflicts
 
--- A word was in conflict: that of a key's record, which was locked, or not the expected one; or else that of a pointer
--- or a slot, which was shut, or not the expected one.
+-- A word was in conflict: that of the record of an array's key, which was locked, or not the expected one; or else that
+-- of a pointer, a slot or a page of a tree, which was locked or shut, or not the expected one.
 abbrev pub IsChangedAt : Option Key → ℕ → ℕ → Type 0
 IsChangedAt (Some k) expected seen = (2 ^ 60 ≤ seen) ⊎ ((expected < 2 ^ 60) × (seen ≢ expected))
 IsChangedAt None expected seen = (2 ^ 60 ≤ seen) ⊎ (seen ≢ expected)
@@ -57,15 +66,28 @@ IsConflicting (refusals.Full held) met = ⊥
 IsConflicting (refusals.Wide set) met = ⊥
 IsConflicting (refusals.NumberLimit clock) met = ⊥
 
--- where a record was in conflict, its key is one of the line
+-- where the record of an array was in conflict, its key is one of the line
 abbrev pub IsMetKey : List Op → Option Key → Type 0
 IsMetKey ops (Some k) = IsKeyOf ops k
 IsMetKey ops None = ⊤
 
--- the word is that of a slot, or of a pointer on the way to such a key
+-- and is one of an array, indeed
+abbrev pub IsOfArray : List Decl → Option Key → Type 0
+IsOfArray decls (Some k) = is_array decls k.storage ≡ true
+IsOfArray decls None = ⊤
+
+-- the word is a root's, or stands in a slot's page
+abbrev pub IsPageWord : Layout → ℕ → Type 0
+IsPageWord l at = (at < 32) ⊎ ((t : ℕ) × (i : ℕ) × (at ≡ page_at l.slots t i))
+
+-- the word is that of a pointer on the way to the key of an array, or one of a root or a page, for the key of a tree
+abbrev pub IsWayWord : Layout → Key → ℕ → Type 0
+IsWayWord l k at = IsWayPlace l k at ⊎ ((is_tree l.decls k.storage ≡ true) × IsPageWord l at)
+
+-- the word is that of a slot, or so one for such a key
 abbrev pub IsBesideRecords : Layout → (Key → Type 0) → ℕ → Type 0
 IsBesideRecords l of at =
-    ((t : ℕ) × (t < l.slots) × (at ≡ slot_at t)) ⊎ ((k : Key) × of k × IsWayPlace l k at)
+    ((t : ℕ) × (t < l.slots) × (at ≡ slot_at t)) ⊎ ((k : Key) × of k × IsWayWord l k at)
 
 -- so it is with the word of a conflict, for a key of the line
 abbrev pub IsBesideOf : Layout → List Op → RefusalCause → Type 0
@@ -87,8 +109,8 @@ pub record AreAllTaken (words : List ℕ) (v w : View) : Type 0 where
 
 -- ---- tries
 
--- A try that was refused with Conflict: why, at the record of which key, if it was at a record's word and not at that
--- of a pointer or a slot, and whether it had drawn its number by then.
+-- A try that was refused with Conflict: why, at the record of which key, if it was at the word of an array's record and
+-- not at that of a pointer, a slot or a page of a tree, and whether it had drawn its number by then.
 pub record Clash : Type 0 where
   pub why : RefusalCause
   pub met : Option Key
@@ -131,9 +153,10 @@ IsClash ops (ToSlots words) = ⊥
 IsClash ops (ToSet set) = ⊥
 IsClash ops (ToClock clock) = ⊥
 
--- A try that met a conflict, but at no record, met it at a slot, or at a pointer on the way to a key of the line.
+-- A try that met a conflict at a record met an array's; else it met it at a slot, at a pointer on the way to a key of
+-- the line, or at a word of a root or of a page, if the line has a key of a tree.
 abbrev pub IsPlaced : Layout → List Op → Lost → Type 0
-IsPlaced l ops (ToOther clash) = clash.met ≡ None → IsBesideOf l ops clash.why
+IsPlaced l ops (ToOther clash) = IsOfArray l.decls clash.met × (clash.met ≡ None → IsBesideOf l ops clash.why)
 IsPlaced l ops (ToSlots words) = ⊤
 IsPlaced l ops (ToSet set) = ⊤
 IsPlaced l ops (ToClock clock) = ⊤
@@ -154,14 +177,14 @@ blame_of q (ToClock clock) = []
 abbrev pub blames_of : ℕ → List Lost → List Touch
 blames_of q losts = flat_map (blame_of q) losts
 
--- the pass took locks of keys at most that the line may write
+-- the pass took locks at most that the line may take
 abbrev pub TouchesOnly : List Op → View → View → Type 0
 TouchesOnly ops v w = (t : Touch) → Contains w.touched t
-    → Contains v.touched t ⊎ ((t.seat ≡ seat_number v.role) × IsWrittenBy ops t.key)
+    → Contains v.touched t ⊎ ((t.seat ≡ seat_number v.role) × IsLockedFor v.layout.decls ops t.key)
 
 -- These tries of a line were made, in their order, and refused: no transaction is under way, so nothing is locked and
 -- no slot held, and of the pass's own nothing is new but the refusals, with the keys at which it met others, the
--- numbers that were drawn for these tries, and locks that were taken of keys which the line may write.
+-- numbers that were drawn for these tries, and locks that the line may take.
 pub record HasTriedFor (ops : List Op) (losts : List Lost) (v w : View) : Type 0 where
   pub over : IsOver w
   pub layout : w.layout ≡ v.layout
@@ -209,12 +232,13 @@ pub record IsFullAt (ops : List Op) (tries : ℕ) (v w : View) : Type 0 where
   pub before : HasTriedFor ops refused.losts v last
   pub all : AreAllTaken words last w
 
--- The set of the slots that a transaction holds, which has room for 128, was full: each operation holds so many more at
--- most. No other set can be filled by 16 operations.
+-- A set of the transaction was full, and the last try needed one entry more of it. On arrays alone 16 operations fill
+-- none, so one of the line is on a tree.
 pub record IsWideAt (ops : List Op) (tries : ℕ) (v w : View) : Type 0 where
   pub began : HasDrawsLeft v
-  pub many : 128 ≤ op_holds * length ops
-  pub refused : IsLostAt ops (ToSet Holds) tries v w
+  pub tree : HasTreeOp v.layout.decls ops
+  pub set : SetName
+  pub refused : IsLostAt ops (ToSet set) tries v w
 
 -- The last try wasn't begun, and drew no number: the clock, which it loaded and with which all draws are seen, is at
 -- the last draws.

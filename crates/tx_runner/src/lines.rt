@@ -1,9 +1,10 @@
 // Lines, with their tries.
-ghost use Rattle.std.specs.Prelude.{◌≡◌, ◌+◌, ◌*◌, ◌≤◌, length};
+ghost use Rattle.std.specs.Prelude.{◌≡◌, ◌+◌, ◌*◌, ◌≤◌, IsTrue, length};
 ghost use Rattle.std.specs.List.{AllByRecursion};
+ghost use Rattle.serial_model.specs.Keys.{fits};
 ghost use Rattle.engine_pages.specs.Passes.{view, IsPassOf};
 ghost use Rattle.page_commit.specs.Live.{IsOver};
-ghost use Rattle.tx_runner.specs.Lines.{try_steps, IsOnArray};
+ghost use Rattle.tx_runner.specs.Lines.{try_steps};
 ghost use Rattle.tx_runner.specs.LineEnds.{RunsLine};
 ghost use Rattle.tx_runner.specs.Steps.{end_of};
 
@@ -41,12 +42,12 @@ pub fn run_line(
 ) -> LineEnd
     requires of { IsPassOf engine.now pass.old }
     requires over { IsOver (view pass.old) }
-    requires arrays { AllByRecursion (IsOnArray (view pass.old).layout.decls) ops.now }
+    requires fitting { AllByRecursion (λ op. IsTrue (fits (view pass.old).layout.decls op)) ops.now }
     requires few { length ops.now ≤ 16 }
     requires tries { 1 ≤ tries }
     ensures of { IsPassOf engine.now pass.new }
-    ensures steps { (view pass.new).steps
-        ≤ (view pass.old).steps + tries * try_steps (view pass.old).layout.slots (length ops.now) }
+    ensures steps { (view pass.new).steps ≤ (view pass.old).steps
+        + tries * try_steps (view pass.old).layout.decls (view pass.old).layout.slots ops.now }
     ensures runs { RunsLine ops.now tries result room.new (view pass.old) (view pass.new) }
 {
     let mut tried = 0;

@@ -1,13 +1,14 @@
 // The replies of a line.
-ghost use Rattle.std.specs.Prelude.{◌≡◌, ◌<◌, [], ◌∷◌, ◌++◌, length};
-ghost use Rattle.serial_model.specs.ReplyWords.{replies_words};
+ghost use Rattle.std.specs.Prelude.{◌≡◌, ◌+◌, ◌*◌, ◌<◌, ◌≤◌, [], ◌∷◌, ◌++◌, length};
+ghost use Rattle.serial_model.specs.ReplyWords.{replies_words, rows_words};
 ghost use Rattle.serial_model.specs.declared.reply.Reply.{Reply};
 
-use serial_model::LentReplies;
+use serial_model::{LentReplies, Rows};
 use std::marker::Model;
 
-/// Each of the 16 operations of a line replies one value at most, which has one word or two.
-const CAPACITY: usize = 32;
+/// Each of the 16 operations of a line replies a value at most, which has one word or two, or 16 rows of two words each
+/// behind a mark and their count.
+const CAPACITY: usize = 544;
 
 /// Words in room that is made once: what was let go isn't blanked.
 #[derive(Drop)]
@@ -24,7 +25,7 @@ impl Model for Words {
 
     ghost view = { λ w. take w.count w.items };
 
-    ghost invariant = { λ w. (w.count ≤ 32) × (length w.items ≡ 32) };
+    ghost invariant = { λ w. (w.count ≤ 544) × (length w.items ≡ 544) };
 }
 
 impl Words {
@@ -38,7 +39,7 @@ impl Words {
     }
 
     fn push(&mut self, word: u64)
-        requires { length self.old < 32 }
+        requires { length self.old < 544 }
         ensures { self.new ≡ self.old ++ word ∷ [] }
     {
         let count = self.count;
@@ -107,6 +108,25 @@ impl LineReplies {
         }
     }
 
+    /// Of a key that isn't in its tree.
+    pub fn push_absent(&mut self)
+        requires { length self.old < 16 }
+        ensures { self.new ≡ self.old ++ Reply.Absent ∷ [] }
+    {
+        self.words.push(1);
+    }
+
+    /// Of a scan.
+    pub fn push_rows(&mut self, rows: &Rows)
+        requires { length self.old < 16 }
+        ensures { self.new ≡ self.old ++ Reply.Rows rows.now ∷ [] }
+    {
+        let pairs = rows.as_slice();
+        self.words.push(2);
+        self.words.push(pairs.len() as u64);
+        push_pairs(&mut self.words, pairs);
+    }
+
     /// The words in which they lie.
     pub fn words(&self) -> &[u64]
         ensures { result.now ≡ replies_words self.now }
@@ -119,5 +139,17 @@ impl LineReplies {
         ensures { result ≡ self.now }
     {
         LentReplies::new(self.words())
+    }
+}
+
+// Puts the key and the value of each row behind the words.
+fn push_pairs(words: &mut Words, pairs: &[(u64, u64)])
+    requires { length words.old + 2 * length pairs.now ≤ 544 }
+    ensures { words.new ≡ words.old ++ rows_words pairs.now }
+{
+    for index in 0..pairs.len() {
+        let (key, value) = pairs[index];
+        words.push(key);
+        words.push(value);
     }
 }

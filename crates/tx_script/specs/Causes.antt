@@ -1,6 +1,6 @@
 -- What must have happened for each outcome and each answer of a round. None comes without a cause.
 use Rattle.std.specs.Prelude.{◌≡◌, ◌<◌, ◌≤◌, ◌+◌, ◌-◌, ◌*◌, ◌/◌, ◌%◌, ◌^◌, ◌==◌, ◌&&◌, ◌||◌, ℕ, Bool, true, false, not}
-use Rattle.std.specs.Prelude.{List, [], ◌∷◌, ◌++◌, flat_map, fold, min, MatchBool, Option, Some, None}
+use Rattle.std.specs.Prelude.{List, [], ◌∷◌, flat_map, fold, min, MatchBool, Option, Some, None}
 use Rattle.std.specs.Prelude.{is_some, length, nat_lt, option_to_list, if◌then◌else◌, ⊤}
 use Rattle.std.specs.List.{AllByRecursion, Contains, list_all, list_any}
 use Rattle.serial_model.specs.Numbers.{last_epoch}
@@ -14,8 +14,7 @@ use Rattle.tx_script.specs.declared.outcome.Outcome.{Outcome}
 use Rattle.tx_script.specs.declared.outcome.Outcome.TheVariants.{Unrun}
 use Rattle.tx_script.specs.Run.{InConflict, LogFiles, LogRefusal, LogFailed, LogFull, NoNumber, NoRoom, NoSlot, Ran}
 use Rattle.tx_script.specs.Run.{TryRefusal}
-use Rattle.tx_script.specs.Tries.{AllCome, EndsWith}
-use Rattle.std.proofs.Common.{subst}
+use Rattle.tx_script.specs.Tries.{AllCome}
 
 -- ---- logs
 
@@ -70,24 +69,12 @@ is_usable word =
     ((word % 2 ^ 18 == 0) || (word % 2 ^ 18 == 3 * 2 ^ 16)) && nat_lt (word / 2 ^ 18) (2 ^ 46 - 1)
 
 -- The cause of a refusal, where there are so many slots: no slot is usable, by the words of all of them, as the try's
--- steps saw them. No line needs more than a set has room for: its 16 operations fill none.
+-- steps saw them. Which lines may fill a set is said with what they met: `Conflicts.antt`.
 abbrev pub IsTryCause : ℕ → TryRefusal → Type 0
 IsTryCause slots (InConflict met) = ⊤
 IsTryCause slots (NoSlot words) = (length words ≡ slots) × (list_all (λ word. not (is_usable word)) words ≡ true)
-IsTryCause slots NoRoom = ⊥
+IsTryCause slots NoRoom = ⊤
 IsTryCause slots NoNumber = ⊤
-
--- what holds of each of these and one behind them holds of that one
-last_of : (P : TryRefusal → Type 0) (before : List TryRefusal) (last : TryRefusal)
-    → AllByRecursion P (before ++ last ∷ []) → P last
-last_of P [] last all = all.0
-last_of P (first ∷ before) last all = last_of P before last all.1
-
--- So the last refusal of a line's tries has its cause, where each of them has.
-pub last_caused : (slots tries : ℕ) (last : TryRefusal) (refusals : List TryRefusal) → EndsWith tries last refusals
-    → AllByRecursion (IsTryCause slots) refusals → IsTryCause slots last
-last_caused slots tries last refusals ends all =
-    last_of (IsTryCause slots) ends.before last (subst (AllByRecursion (IsTryCause slots)) ends.all all)
 
 -- Each worker's outcomes have their causes, by the refusals of its lines' tries and by what refused its log: `ComesTo`.
 abbrev pub WorkersCaused : Ran → List (Option LogRefusal) → List (List Outcome) → List (List (List TryRefusal))

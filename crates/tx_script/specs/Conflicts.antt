@@ -1,18 +1,20 @@
--- What lines have to do with the refusals of their tries: one in conflict at a record touches a key there that another
--- worker's line of the same round may change, or pages were dropped in the round; and one that found no slot may change
--- some key.
+-- What lines have to do with the refusals of their tries: one in conflict at a record of an array touches a key there
+-- that another worker's line of the same round may change, or pages were dropped in the round; one that found no slot
+-- may change some key; and one that filled a set has an operation on a tree.
 use Rattle.std.specs.Prelude.{◌≡◌, ◌≢◌, ◌⊎◌, ◌+◌, ◌==◌, ◌&&◌, ℕ, Bool, true, false, List, [], ◌∷◌, nat_le, Contains}
 use Rattle.std.specs.Prelude.{slice_get, ◌++◌, ◌≤◌, Option, Some, None, ⊤}
 use Rattle.std.specs.List.{AllByRecursion, list_any}
 use Rattle.std.proofs.Common.{inl, inr, arith, refl, subst}
 use Rattle.lists.specs.Elements.{in_none}
+use Rattle.serial_model.specs.Keys.{is_tree}
+use Rattle.serial_model.specs.declared.decl.Decl.{Decl}
 use Rattle.serial_model.specs.declared.key.Key.{Key}
 use Rattle.serial_model.specs.declared.op.Op.{Op}
 use Rattle.serial_model.specs.declared.op.Op.TheVariants.{Read, Write, Remove, Add, Take, Scan}
 use Rattle.script_grammar.specs.Script.{Round, worker_lines}
 use Rattle.tx_script.specs.Run.{InConflict, LogRefusal, Met, NoNumber, NoRoom, NoSlot, Ran, TryRefusal}
 use Rattle.tx_script.specs.Tries.{ComesTo}
-use Rattle.tx_script.specs.declared.outcome.Outcome.TheVariants.{Conflict, Full}
+use Rattle.tx_script.specs.declared.outcome.Outcome.TheVariants.{Conflict, Full, Wide}
 
 -- ---- the keys of a line
 
@@ -46,6 +48,19 @@ touches ops k = list_any (touches_key k) ops
 abbrev pub changes : List Op → Key → Bool
 changes ops k = list_any (changes_key k) ops
 
+-- the operation is on a tree
+abbrev pub IsOnTree : List Decl → Op → Type 0
+IsOnTree decls (Read k) = is_tree decls k.storage ≡ true
+IsOnTree decls (Write k value) = is_tree decls k.storage ≡ true
+IsOnTree decls (Remove k) = is_tree decls k.storage ≡ true
+IsOnTree decls (Add k value) = is_tree decls k.storage ≡ true
+IsOnTree decls (Take k value) = is_tree decls k.storage ≡ true
+IsOnTree decls (Scan storage low high) = is_tree decls storage ≡ true
+
+-- an operation of the line is on a tree
+abbrev pub TouchesTree : List Decl → List Op → Type 0
+TouchesTree decls ops = (op : Op) × Contains ops op × IsOnTree decls op
+
 -- ---- the law of conflicts
 
 -- The worker has a line in the round that may change the key.
@@ -63,10 +78,10 @@ pub record IsMetBy (lines : List (List (List Op))) (worker : ℕ) (ops : List Op
   pub other : by ≢ worker
   pub changer : ChangesIn lines by k
 
--- A try in conflict at a record met another worker's line so; or it touches the key, in a round in which pages were
--- dropped, as is said where this is asked: the maintenance thread locks records of pages that it may take out of
--- memory. At a pointer or a slot nobody is told: its word was changed since the try saw it, or is shut, and that may
--- have been by the worker itself.
+-- A try in conflict at a record of an array met another worker's line so; or it touches the key, in a round in which
+-- pages were dropped, as is said where this is asked: the maintenance thread locks records of pages that it may take
+-- out of memory. At a pointer, a slot or a word of a tree nobody is told: its word was changed since the try saw it, or
+-- is locked or shut, and that may have been for another key, or by the worker itself.
 abbrev pub IsMetAt : List (List (List Op)) → Type 0 → ℕ → List Op → Option Key → Type 0
 IsMetAt lines dropped worker ops (Some k) = IsMetBy lines worker ops k ⊎ ((touches ops k ≡ true) × dropped)
 IsMetAt lines dropped worker ops None = ⊤
@@ -75,52 +90,56 @@ IsMetAt lines dropped worker ops None = ⊤
 abbrev pub ChangesSome : List Op → Type 0
 ChangesSome ops = (k : Key) × (changes ops k ≡ true)
 
--- What a line has to do with the refusal of a try: in conflict, where that was at a record, it met another worker's
--- line, or a drop; it found no slot only if it may change some key, since what is read takes none; and it filled no
--- set.
-abbrev pub IsMet : List (List (List Op)) → Type 0 → ℕ → List Op → TryRefusal → Type 0
-IsMet lines dropped worker ops (InConflict met) = IsMetAt lines dropped worker ops met.key
-IsMet lines dropped worker ops (NoSlot words) = ChangesSome ops
-IsMet lines dropped worker ops NoRoom = ⊥
-IsMet lines dropped worker ops NoNumber = ⊤
+-- What a line has to do with the refusal of a try: in conflict, where that was at a record of an array, it met another
+-- worker's line, or a drop; it found no slot only if it may change some key, since what is read takes none; and it
+-- filled a set only if an operation of it is on a tree.
+abbrev pub IsMet : List Decl → List (List (List Op)) → Type 0 → ℕ → List Op → TryRefusal → Type 0
+IsMet decls lines dropped worker ops (InConflict met) = IsMetAt lines dropped worker ops met.key
+IsMet decls lines dropped worker ops (NoSlot words) = ChangesSome ops
+IsMet decls lines dropped worker ops NoRoom = TouchesTree decls ops
+IsMet decls lines dropped worker ops NoNumber = ⊤
 
 -- so it is of the tries of each line of a worker
-abbrev pub LinesMet : List (List (List Op)) → Type 0 → ℕ → List (List Op) → List (List TryRefusal) → Type 0
-LinesMet lines dropped worker [] [] = ⊤
-LinesMet lines dropped worker (ops ∷ mine) (refusals ∷ more) =
-    AllByRecursion (IsMet lines dropped worker ops) refusals × LinesMet lines dropped worker mine more
-LinesMet lines dropped worker [] (refusals ∷ more) = ⊥
-LinesMet lines dropped worker (ops ∷ mine) [] = ⊥
+abbrev pub LinesMet : List Decl → List (List (List Op)) → Type 0 → ℕ → List (List Op) → List (List TryRefusal)
+    → Type 0
+LinesMet decls lines dropped worker [] [] = ⊤
+LinesMet decls lines dropped worker (ops ∷ mine) (refusals ∷ more) =
+    AllByRecursion (IsMet decls lines dropped worker ops) refusals × LinesMet decls lines dropped worker mine more
+LinesMet decls lines dropped worker [] (refusals ∷ more) = ⊥
+LinesMet decls lines dropped worker (ops ∷ mine) [] = ⊥
 
 -- and of each worker from this one on
-abbrev pub WorkersMet : List (List (List Op)) → Type 0 → ℕ → List (List (List Op)) → List (List (List TryRefusal))
-    → Type 0
-WorkersMet lines dropped worker [] [] = ⊤
-WorkersMet lines dropped worker (mine ∷ more) (refused ∷ others) =
-    LinesMet lines dropped worker mine refused × WorkersMet lines dropped (worker + 1) more others
-WorkersMet lines dropped worker [] (refused ∷ others) = ⊥
-WorkersMet lines dropped worker (mine ∷ more) [] = ⊥
+abbrev pub WorkersMet : List Decl → List (List (List Op)) → Type 0 → ℕ → List (List (List Op))
+    → List (List (List TryRefusal)) → Type 0
+WorkersMet decls lines dropped worker [] [] = ⊤
+WorkersMet decls lines dropped worker (mine ∷ more) (refused ∷ others) =
+    LinesMet decls lines dropped worker mine refused × WorkersMet decls lines dropped (worker + 1) more others
+WorkersMet decls lines dropped worker [] (refused ∷ others) = ⊥
+WorkersMet decls lines dropped worker (mine ∷ more) [] = ⊥
 
--- Each conflict of the round at a record is with a line of another worker in it, or pages were dropped in the round; and
--- each line that found no slot may change some key.
-pub record AreMet (ran : Ran) (round : Round) : Type 0 where
-  pub workers : WorkersMet (worker_lines round) (ran.beside.drops ≡ [] → ⊥) 0 (worker_lines round) ran.beside.refused
+-- Each conflict of the round at a record of an array is with a line of another worker in it, or pages were dropped in
+-- the round; each line that found no slot may change some key; and each that filled a set has an operation on a tree.
+pub record AreMet (decls : List Decl) (ran : Ran) (round : Round) : Type 0 where
+  pub workers : WorkersMet decls (worker_lines round) (ran.beside.drops ≡ [] → ⊥) 0 (worker_lines round)
+      ran.beside.refused
 
 -- ---- what is told
 
--- A line that is told in conflict met a line of another worker, or a drop, or was in conflict at a pointer or a slot.
-pub conflict_met : (lines : List (List (List Op))) (dropped : Type 0) (worker first last tries : ℕ)
+-- A line that is told in conflict met a line of another worker, or a drop, or was in conflict at a pointer, a slot or a
+-- word of a tree.
+pub conflict_met : (decls : List Decl) (lines : List (List (List Op))) (dropped : Type 0)
+    (worker first last tries : ℕ)
     (log : Option LogRefusal) (ops : List Op) (refusals : List TryRefusal) → 1 ≤ tries
-    → ComesTo first last tries log Conflict refusals → AllByRecursion (IsMet lines dropped worker ops) refusals
+    → ComesTo first last tries log Conflict refusals → AllByRecursion (IsMet decls lines dropped worker ops) refusals
     → (met : Met) × IsMetAt lines dropped worker ops met.key
-conflict_met lines dropped worker first last tries log ops [] some come all =
+conflict_met decls lines dropped worker first last tries log ops [] some come all =
     absurd (let none = come.2 in omega (arith, some, none))
-conflict_met lines dropped worker first last tries log ops (InConflict met ∷ more) some come all = (met, all.0)
-conflict_met lines dropped worker first last tries log ops (NoSlot words ∷ more) some come all =
+conflict_met decls lines dropped worker first last tries log ops (InConflict met ∷ more) some come all = (met, all.0)
+conflict_met decls lines dropped worker first last tries log ops (NoSlot words ∷ more) some come all =
     absurd (let no = come.1.0 in cc)
-conflict_met lines dropped worker first last tries log ops (NoRoom ∷ more) some come all =
+conflict_met decls lines dropped worker first last tries log ops (NoRoom ∷ more) some come all =
     absurd (let no = come.1.0 in cc)
-conflict_met lines dropped worker first last tries log ops (NoNumber ∷ more) some come all =
+conflict_met decls lines dropped worker first last tries log ops (NoNumber ∷ more) some come all =
     absurd (let no = come.1.0 in cc)
 
 -- what holds of each of these refusals and one behind them holds of that one
@@ -130,14 +149,25 @@ last_of P [] last all = all.0
 last_of P (first ∷ before) last all = last_of P before last all.1
 
 -- A line that is told full may change some key.
-pub full_changes : (lines : List (List (List Op))) (dropped : Type 0) (worker first last tries : ℕ)
+pub full_changes : (decls : List Decl) (lines : List (List (List Op))) (dropped : Type 0)
+    (worker first last tries : ℕ)
     (log : Option LogRefusal) (ops : List Op) (refusals : List TryRefusal)
-    → ComesTo first last tries log Full refusals → AllByRecursion (IsMet lines dropped worker ops) refusals
+    → ComesTo first last tries log Full refusals → AllByRecursion (IsMet decls lines dropped worker ops) refusals
     → ChangesSome ops
-full_changes lines dropped worker first last tries log ops refusals come all =
+full_changes decls lines dropped worker first last tries log ops refusals come all =
     let ends = come.2 in
-    last_of (IsMet lines dropped worker ops) ends.before (NoSlot come.1)
-    (subst (AllByRecursion (IsMet lines dropped worker ops)) ends.all all)
+    last_of (IsMet decls lines dropped worker ops) ends.before (NoSlot come.1)
+    (subst (AllByRecursion (IsMet decls lines dropped worker ops)) ends.all all)
+
+-- A line that is told wide has an operation on a tree: on arrays alone no line is.
+pub wide_touches : (decls : List Decl) (lines : List (List (List Op))) (dropped : Type 0)
+    (worker first last tries : ℕ) (log : Option LogRefusal) (ops : List Op) (refusals : List TryRefusal)
+    → ComesTo first last tries log Wide refusals → AllByRecursion (IsMet decls lines dropped worker ops) refusals
+    → TouchesTree decls ops
+wide_touches decls lines dropped worker first last tries log ops refusals come all =
+    let ends = come.1 in
+    last_of (IsMet decls lines dropped worker ops) ends.before NoRoom
+    (subst (AllByRecursion (IsMet decls lines dropped worker ops)) ends.all all)
 
 -- ---- a worker by itself
 
@@ -152,89 +182,95 @@ meets_nobody lines worker ops k alone m =
     let c = m.changer in
     in_none c.ops (subst (λ (l : List (List Op)). Contains l c.ops) (alone m.by c.mine m.other c.at) c.among)
 
--- the try was in conflict at no record
+-- the try was in conflict at no record of an array
 abbrev pub MeetsNobody : TryRefusal → Type 0
 MeetsNobody (InConflict met) = met.key ≡ None
 MeetsNobody (NoSlot words) = ⊤
 MeetsNobody NoRoom = ⊤
 MeetsNobody NoNumber = ⊤
 
-one_alone : (lines : List (List (List Op))) (dropped : Type 0) (worker : ℕ) (ops : List Op) (refusal : TryRefusal)
-    → (dropped → ⊥) → IsByItself lines worker → IsMet lines dropped worker ops refusal → MeetsNobody refusal
-one_alone lines dropped worker ops (InConflict met) none alone m = by_key met.key m
+one_alone : (decls : List Decl) (lines : List (List (List Op))) (dropped : Type 0) (worker : ℕ)
+    (ops : List Op) (refusal : TryRefusal)
+    → (dropped → ⊥) → IsByItself lines worker → IsMet decls lines dropped worker ops refusal → MeetsNobody refusal
+one_alone decls lines dropped worker ops (InConflict met) none alone m = by_key met.key m
   where
     by_key : (key : Option Key) → IsMetAt lines dropped worker ops key → key ≡ None
     by_key (Some k) (inl m) = absurd (meets_nobody lines worker ops k alone m)
     by_key (Some k) (inr m) = absurd (none m.1)
     by_key None m = refl
-one_alone lines dropped worker ops (NoSlot words) none alone m = tt
-one_alone lines dropped worker ops NoRoom none alone m = absurd m
-one_alone lines dropped worker ops NoNumber none alone m = tt
+one_alone decls lines dropped worker ops (NoSlot words) none alone m = tt
+one_alone decls lines dropped worker ops NoRoom none alone m = tt
+one_alone decls lines dropped worker ops NoNumber none alone m = tt
 
-no_try_met : (lines : List (List (List Op))) (dropped : Type 0) (worker : ℕ) (ops : List Op)
+no_try_met : (decls : List Decl) (lines : List (List (List Op))) (dropped : Type 0) (worker : ℕ) (ops : List Op)
     (refusals : List TryRefusal) → (dropped → ⊥) → IsByItself lines worker
-    → AllByRecursion (IsMet lines dropped worker ops) refusals → AllByRecursion MeetsNobody refusals
-no_try_met lines dropped worker ops [] none alone all = tt
-no_try_met lines dropped worker ops (refusal ∷ more) none alone all = (
-  one_alone lines dropped worker ops refusal none alone all.0,
-  no_try_met lines dropped worker ops more none alone all.1,
+    → AllByRecursion (IsMet decls lines dropped worker ops) refusals → AllByRecursion MeetsNobody refusals
+no_try_met decls lines dropped worker ops [] none alone all = tt
+no_try_met decls lines dropped worker ops (refusal ∷ more) none alone all = (
+  one_alone decls lines dropped worker ops refusal none alone all.0,
+  no_try_met decls lines dropped worker ops more none alone all.1,
 )
 
--- A worker that has a round to itself, in which no pages were dropped, is in conflict at no record. At a pointer it may
--- be: at one that it led to a page itself, in a transaction that had read below it.
-pub alone_met : (lines : List (List (List Op))) (dropped : Type 0) (worker : ℕ) (mine : List (List Op))
+-- A worker that has a round to itself, in which no pages were dropped, is in conflict at no record of an array. At a
+-- pointer it may be: at one that it led to a page itself, in a transaction that had read below it; and at words of a
+-- leaf of a tree that it split itself.
+pub alone_met : (decls : List Decl) (lines : List (List (List Op))) (dropped : Type 0) (worker : ℕ)
+    (mine : List (List Op))
     (refused : List (List TryRefusal)) → (dropped → ⊥) → IsByItself lines worker
-    → LinesMet lines dropped worker mine refused → AllByRecursion (AllByRecursion MeetsNobody) refused
-alone_met lines dropped worker [] [] none alone all = tt
-alone_met lines dropped worker [] (refusals ∷ more) none alone all = absurd all
-alone_met lines dropped worker (ops ∷ mine) [] none alone all = absurd all
-alone_met lines dropped worker (ops ∷ mine) (refusals ∷ more) none alone all = (
-  no_try_met lines dropped worker ops refusals none alone all.0,
-  alone_met lines dropped worker mine more none alone all.1,
+    → LinesMet decls lines dropped worker mine refused → AllByRecursion (AllByRecursion MeetsNobody) refused
+alone_met decls lines dropped worker [] [] none alone all = tt
+alone_met decls lines dropped worker [] (refusals ∷ more) none alone all = absurd all
+alone_met decls lines dropped worker (ops ∷ mine) [] none alone all = absurd all
+alone_met decls lines dropped worker (ops ∷ mine) (refusals ∷ more) none alone all = (
+  no_try_met decls lines dropped worker ops refusals none alone all.0,
+  alone_met decls lines dropped worker mine more none alone all.1,
 )
 
 -- ---- where it is said otherwise that pages were dropped
 
-try_for : (lines : List (List (List Op))) (dropped other : Type 0) (worker : ℕ) (ops : List Op) (refusal : TryRefusal)
-    → (dropped → other) → IsMet lines dropped worker ops refusal → IsMet lines other worker ops refusal
-try_for lines dropped other worker ops (InConflict met) says m = by_key met.key m
+try_for : (decls : List Decl) (lines : List (List (List Op))) (dropped other : Type 0) (worker : ℕ)
+    (ops : List Op) (refusal : TryRefusal)
+    → (dropped → other) → IsMet decls lines dropped worker ops refusal → IsMet decls lines other worker ops refusal
+try_for decls lines dropped other worker ops (InConflict met) says m = by_key met.key m
   where
     by_key : (key : Option Key) → IsMetAt lines dropped worker ops key → IsMetAt lines other worker ops key
     by_key (Some k) (inl m) = inl m
     by_key (Some k) (inr m) = inr (m.0, says m.1)
     by_key None m = tt
-try_for lines dropped other worker ops (NoSlot words) says m = m
-try_for lines dropped other worker ops NoRoom says m = m
-try_for lines dropped other worker ops NoNumber says m = tt
+try_for decls lines dropped other worker ops (NoSlot words) says m = m
+try_for decls lines dropped other worker ops NoRoom says m = m
+try_for decls lines dropped other worker ops NoNumber says m = tt
 
-tries_for : (lines : List (List (List Op))) (dropped other : Type 0) (worker : ℕ) (ops : List Op)
-    (refusals : List TryRefusal) → (dropped → other) → AllByRecursion (IsMet lines dropped worker ops) refusals
-    → AllByRecursion (IsMet lines other worker ops) refusals
-tries_for lines dropped other worker ops [] says all = tt
-tries_for lines dropped other worker ops (refusal ∷ more) says all = (
-  try_for lines dropped other worker ops refusal says all.0,
-  tries_for lines dropped other worker ops more says all.1,
+tries_for : (decls : List Decl) (lines : List (List (List Op))) (dropped other : Type 0) (worker : ℕ) (ops : List Op)
+    (refusals : List TryRefusal) → (dropped → other) → AllByRecursion (IsMet decls lines dropped worker ops) refusals
+    → AllByRecursion (IsMet decls lines other worker ops) refusals
+tries_for decls lines dropped other worker ops [] says all = tt
+tries_for decls lines dropped other worker ops (refusal ∷ more) says all = (
+  try_for decls lines dropped other worker ops refusal says all.0,
+  tries_for decls lines dropped other worker ops more says all.1,
 )
 
-lines_for : (lines : List (List (List Op))) (dropped other : Type 0) (worker : ℕ) (mine : List (List Op))
-    (refused : List (List TryRefusal)) → (dropped → other) → LinesMet lines dropped worker mine refused
-    → LinesMet lines other worker mine refused
-lines_for lines dropped other worker [] [] says all = tt
-lines_for lines dropped other worker [] (refusals ∷ more) says all = absurd all
-lines_for lines dropped other worker (ops ∷ mine) [] says all = absurd all
-lines_for lines dropped other worker (ops ∷ mine) (refusals ∷ more) says all = (
-  tries_for lines dropped other worker ops refusals says all.0,
-  lines_for lines dropped other worker mine more says all.1,
+lines_for : (decls : List Decl) (lines : List (List (List Op))) (dropped other : Type 0) (worker : ℕ)
+    (mine : List (List Op))
+    (refused : List (List TryRefusal)) → (dropped → other) → LinesMet decls lines dropped worker mine refused
+    → LinesMet decls lines other worker mine refused
+lines_for decls lines dropped other worker [] [] says all = tt
+lines_for decls lines dropped other worker [] (refusals ∷ more) says all = absurd all
+lines_for decls lines dropped other worker (ops ∷ mine) [] says all = absurd all
+lines_for decls lines dropped other worker (ops ∷ mine) (refusals ∷ more) says all = (
+  tries_for decls lines dropped other worker ops refusals says all.0,
+  lines_for decls lines dropped other worker mine more says all.1,
 )
 
 -- What holds where the one says that pages were dropped holds where another does, if that follows.
-pub met_for : (lines : List (List (List Op))) (dropped other : Type 0) (worker : ℕ) (mine : List (List (List Op)))
-    (refused : List (List (List TryRefusal))) → (dropped → other) → WorkersMet lines dropped worker mine refused
-    → WorkersMet lines other worker mine refused
-met_for lines dropped other worker [] [] says all = tt
-met_for lines dropped other worker [] (refused ∷ others) says all = absurd all
-met_for lines dropped other worker (mine ∷ more) [] says all = absurd all
-met_for lines dropped other worker (mine ∷ more) (refused ∷ others) says all = (
-  lines_for lines dropped other worker mine refused says all.0,
-  met_for lines dropped other (worker + 1) more others says all.1,
+pub met_for : (decls : List Decl) (lines : List (List (List Op))) (dropped other : Type 0) (worker : ℕ)
+    (mine : List (List (List Op)))
+    (refused : List (List (List TryRefusal))) → (dropped → other) → WorkersMet decls lines dropped worker mine refused
+    → WorkersMet decls lines other worker mine refused
+met_for decls lines dropped other worker [] [] says all = tt
+met_for decls lines dropped other worker [] (refused ∷ others) says all = absurd all
+met_for decls lines dropped other worker (mine ∷ more) [] says all = absurd all
+met_for decls lines dropped other worker (mine ∷ more) (refused ∷ others) says all = (
+  lines_for decls lines dropped other worker mine refused says all.0,
+  met_for decls lines dropped other (worker + 1) more others says all.1,
 )

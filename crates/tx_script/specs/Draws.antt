@@ -2,15 +2,13 @@
 -- many lines a script's text has. The laws: a round draws no more numbers than its lines have tries; a line is refused
 -- a number only where the draws are used up; and with few tries a line no script comes to that.
 use Rattle.std.specs.Prelude.{◌≡◌, ◌⊎◌, ◌≤◌, ◌<◌, ◌+◌, ◌-◌, ◌*◌, ◌==◌, ◌||◌, ℕ, Bool, true, false, Option}
-use Rattle.std.specs.Prelude.{List, [], ◌∷◌, ◌++◌, length, map, filter, sum_by, codes, cond, nat_lt, Contains, ⊤}
+use Rattle.std.specs.Prelude.{List, [], ◌∷◌, ◌++◌, length, map, filter, sum_by, codes, cond, nat_lt}
 use Rattle.std.specs.List.{AllByRecursion, list_any, slice_split}
 use Rattle.std.proofs.Common.{refl, ap, ◌∙◌, inl, inr, arith, length-append}
 use Rattle.std.proofs.lemmas.List.{length-map}
 use Rattle.std.proofs.lemmas.List.Sums.{sum_by-cons, count_by-le-length, length-filter}
 use Rattle.std.proofs.lemmas.List.Splits.{length-slice_split}
 use Rattle.serial_model.specs.State.{State}
-use Rattle.serial_model.specs.declared.decl.Decl.{Decl}
-use Rattle.serial_model.specs.declared.decl.Decl.TheVariants.{Tree}
 use Rattle.serial_model.specs.declared.number.Number.{Number}
 use Rattle.serial_model.specs.declared.op.Op.{Op}
 use Rattle.serial_model.specs.Numbers.{draw_limit}
@@ -53,73 +51,11 @@ abbrev pub DrawsAreCounted : Ran → Type 0
 DrawsAreCounted ran =
     ran.printed.end.draw ≡ ran.printed.begin.draw + commit_count ran.printed.outcomes + lost_of ran.beside.refused
 
--- A number was drawn for each commit of the round, and none besides.
-abbrev pub DrawsOnce : Ran → Type 0
-DrawsOnce ran = ran.printed.end.draw ≡ ran.printed.begin.draw + commit_count ran.printed.outcomes
-
 -- The round drew no more numbers than its lines have tries, each so many.
 abbrev pub DrawsWithin : ℕ → Ran → Type 0
 DrawsWithin tries ran = ran.printed.end.draw ≤ ran.printed.begin.draw + tries * sum_by length ran.printed.outcomes
 
--- ---- rounds of storages among which is a tree: their lines are run one after another
-
--- a tree is declared
-abbrev pub HasTree : List Decl → Type 0
-HasTree decls = (id : ℕ) × Contains decls (Tree id)
-
--- A line commits with a number below the last draws, meets these, or is left out: nobody is in its way.
-abbrev pub IsUnhindered : Outcome → Type 0
-IsUnhindered (Committed verdict number replies) = number.draw < draw_limit
-IsUnhindered Limit = ⊤
-IsUnhindered Unrun = ⊤
-IsUnhindered _ = ⊥
-
--- no try was in conflict
-abbrev pub IsAlone : TryRefusal → Type 0
-IsAlone (InConflict met) = ⊥
-IsAlone (NoSlot words) = ⊤
-IsAlone NoRoom = ⊤
-IsAlone NoNumber = ⊤
-
--- so it is of each line of the round, and of each of its tries
-pub record RunsPlainly (ran : Ran) : Type 0 where
-  pub plain : AllByRecursion (AllByRecursion IsUnhindered) ran.printed.outcomes
-  pub alone : AllByRecursion (AllByRecursion (AllByRecursion IsAlone)) ran.beside.refused
-
--- so it is of each line of the round, and each number that was drawn is a commit's
-pub record RunsOnce (ran : Ran) : Type 0 where
-  pub once : DrawsOnce ran
-  pub plain : AllByRecursion (AllByRecursion IsUnhindered) ran.printed.outcomes
-
 -- ---- what a round draws
-
-lost_none : (refusals : List TryRefusal) → AllByRecursion IsAlone refusals → lost_of_line refusals ≡ 0
-lost_none [] all = refl
-lost_none (InConflict met ∷ more) all = absurd all.0
-lost_none (NoSlot words ∷ more) all =
-    omega (arith, sum_by-cons drew_by (NoSlot words) more, lost_none more all.1)
-lost_none (NoRoom ∷ more) all = omega (arith, sum_by-cons drew_by NoRoom more, lost_none more all.1)
-lost_none (NoNumber ∷ more) all = omega (arith, sum_by-cons drew_by NoNumber more, lost_none more all.1)
-
-lost_no_lines : (refused : List (List TryRefusal)) → AllByRecursion (AllByRecursion IsAlone) refused
-    → lost_of_lines refused ≡ 0
-lost_no_lines [] all = refl
-lost_no_lines (refusals ∷ more) all =
-    omega (arith, sum_by-cons lost_of_line refusals more, lost_none refusals all.0, lost_no_lines more all.1)
-
--- nothing was drawn for tries that met nobody
-pub lost_nothing : (refused : List (List (List TryRefusal)))
-    → AllByRecursion (AllByRecursion (AllByRecursion IsAlone)) refused → lost_of refused ≡ 0
-lost_nothing [] all = refl
-lost_nothing (mine ∷ more) all =
-    omega (arith, sum_by-cons lost_of_lines mine more, lost_no_lines mine all.0, lost_nothing more all.1)
-
--- A round in which no try met another transaction drew a number for each commit, and none besides.
-pub counted_once : (ran : Ran) → DrawsAreCounted ran → RunsPlainly ran → RunsOnce ran
-counted_once ran counted plainly = record {
-  once = omega (arith, counted, lost_nothing ran.beside.refused plainly.alone);
-  plain = plainly.plain;
-}
 
 drew_at_most_one : (refusal : TryRefusal) → drew_by refusal ≤ 1
 drew_at_most_one (InConflict met) = one met.drew
@@ -300,10 +236,6 @@ more_tries : (tries m n : ℕ) → m ≤ n → tries * m ≤ tries * n
 more_tries tries m n le =
     let is : n ≡ m + (n - m) = omega (arith, le) in
     omega (arith, ap (λ x. tries * x) is, tries_add tries m (n - m))
-
--- where numbers are drawn for commits alone each line has one try
-pub once_within : (ran : Ran) → DrawsOnce ran → DrawsWithin 1 ran
-once_within ran once = omega (arith, once, commit_count-le ran.printed.outcomes)
 
 -- what a round draws at most
 within_lines : (tries : ℕ) (ran : Ran) (round : Round) → IsOfRound ran round → DrawsWithin tries ran

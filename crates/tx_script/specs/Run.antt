@@ -26,8 +26,8 @@ pub data LogRefusal : Type 0 where
   LogFailed : LogRefusal
   LogFull : ℕ → LogRefusal
 
--- Where a try was in conflict: at the record of this key, where it met another transaction, or at no record, but at a
--- pointer or a slot that was changed; and `drew` where it had drawn its number by then.
+-- Where a try was in conflict: at the record of this key of an array, where it met another transaction, or at none, but
+-- at a pointer, a slot or a word of a tree; and `drew` where it had drawn its number by then.
 pub record Met : Type 0 where
   pub key : Option Key
   pub drew : Bool

@@ -17,10 +17,11 @@ use Rattle.serial_bridge.specs.WriteSets.{EachCounts}
 use Rattle.engine_pages.specs.declared.view.View.{View}
 use Rattle.tx_runner.specs.LineEnds.{HasCommittedLine}
 use Rattle.tx_runner.specs.LineWrites.{rising_counts}
-use Rattle.tx_runner.specs.Lines.{IsAnswered, IsOnArray}
-use Rattle.tx_runner.specs.Tries.{HasConflicted, IsAtLimit, IsFullAt, ToClock, ToSlots}
+use Rattle.tx_runner.specs.Lines.{IsAnswered}
+use Rattle.tx_runner.specs.Tries.{HasConflicted, IsAtLimit, IsFullAt, IsWideAt, ToClock, ToSet, ToSlots}
+use Rattle.tx_script.specs.Room.{most_words}
 use Rattle.tx_script.specs.declared.outcome.Outcome.{Outcome}
-use Rattle.tx_script.specs.declared.outcome.Outcome.TheVariants.{Committed, Conflict, Full, Limit}
+use Rattle.tx_script.specs.declared.outcome.Outcome.TheVariants.{Committed, Conflict, Full, Limit, Wide}
 use Rattle.worker_logs.specs.Logs.{LogState}
 use Rattle.worker_logs.specs.Rows.{TakesCommit}
 use Rattle.worker_cells.specs.Cells.{IsMarkedBelow, LogsLine, RunsOne}
@@ -58,13 +59,12 @@ module _ {ops : List Op} {tries : ℕ} {verdict : Verdict} {replies : List Reply
       (line.of (entry ops verdict replies commit) (answered ops verdict replies commit))
       (subst EachCounts (sym line.writes) counts))
 
-  -- its replies take few words
-  pub replies_few : AllByRecursion (IsOnArray v.layout.decls) ops
-      → HasCommittedLine ops tries verdict replies commit v w
-      → length (replies_words replies) ≤ 2 * length ops
-  replies_few on line =
+  -- its replies take no more words than its operations may
+  pub replies_few : HasCommittedLine ops tries verdict replies commit v w
+      → length (replies_words replies) ≤ most_words ops
+  replies_few line =
       let is = line.of (entry ops verdict replies commit) (answered ops verdict replies commit) in
-      runs_few v.layout.decls line.attempt.parts ops [] _ on is.runs
+      runs_few v.layout.decls line.attempt.parts ops [] _ is.runs
 
   -- it has a log line where it changed something
   pub loggable : (mark : Mark) → 1 ≤ v.layout.first.draw → IsMarkedBelow mark v
@@ -135,6 +135,20 @@ full_logs tries ops v w log line = (
   record {
     outcome = Full;
     refused = line.refused.losts ++ ToSlots line.words ∷ [];
+    logged = None;
+    comes = (refl, line, refl);
+    line = tt;
+    takes = refl;
+  },
+  refl,
+)
+
+pub wide_logs : (tries : ℕ) (ops : List Op) (v w : View) (log : LogState) → IsWideAt ops tries v w
+    → LogsAs Wide tries ops v w log log
+wide_logs tries ops v w log line = (
+  record {
+    outcome = Wide;
+    refused = line.refused.losts ++ ToSet line.set ∷ [];
     logged = None;
     comes = (refl, line, refl);
     line = tt;

@@ -22,7 +22,7 @@ comes_run tries ops (Committed verdict number replies) refused logged v w comes 
 comes_run tries ops Conflict refused logged v w comes = refl
 comes_run tries ops Limit refused logged v w comes = refl
 comes_run tries ops Full refused logged v w comes = refl
-comes_run tries ops Wide refused logged v w comes = absurd comes
+comes_run tries ops Wide refused logged v w comes = refl
 comes_run tries ops Unrun refused logged v w comes = absurd comes
 
 -- a log that was refused is not unshut

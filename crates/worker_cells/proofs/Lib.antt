@@ -1,7 +1,8 @@
 mod Over
 mod Moves
 mod Placed
-mod Replies
+mod Scanned
+pub mod Replies
 mod Ends
 mod LinesOf
 mod Loop

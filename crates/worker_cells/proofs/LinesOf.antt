@@ -2,19 +2,17 @@
 use Rattle.std.proofs.Common.{◌≡◌, ◌∙◌, ap, sym, subst, refl, ℕ, zero, suc, ◌+◌, eqb, List, [], ◌∷◌, ◌++◌, take, Option}
 use Rattle.std.proofs.Common.{Some, None, inl, inr, length, length-append, arith, ◌<◌, ◌≤◌}
 use Rattle.std.specs.Prelude.{drop}
-use Rattle.std.specs.List.{AllByRecursion, filter_map, slice_get}
+use Rattle.std.specs.List.{filter_map, slice_get}
 use Rattle.std.specs.Option.{option_map}
-use Rattle.std.specs.Prelude.{IsTrue}
 use Rattle.std.proofs.lemmas.Bool.{cases_Bool, cases_order, eqb-true}
 use Rattle.std.proofs.lemmas.List.{append-nil, take-append-drop, take_all, take_more}
 use Rattle.std.proofs.lemmas.List.Elements.{filter_map-append}
 use Rattle.std.proofs.lemmas.Option.{slice_get_within, get_or_from_slice_get}
-use Rattle.lists.specs.Each.{all_at, all_weaker}
+use Rattle.lists.specs.Each.{all_at}
 use Rattle.serial_model.specs.declared.decl.Decl.{Decl}
 use Rattle.serial_model.specs.declared.op.Op.{Op}
-use Rattle.serial_model.specs.Keys.{fits}
 use Rattle.script_grammar.specs.Script.{Line, Worker, Keeper, Round, ops_of_worker}
-use Rattle.tx_runner.specs.Lines.{HasNoTree, IsOnArray, fits_array}
+use Rattle.tx_script.specs.Room.{all_words, most_words}
 use Rattle.tx_script.specs.Run.{CanRun, CanRunLine, CanRunOps}
 
 -- the operations of these lines that are the worker's
@@ -120,6 +118,34 @@ count_more worker i count lines ops has is =
     ap (λ n. n + 1) is ∙ sym (length-append (ops_of worker (take i lines)) (ops ∷ []))
     ∙ sym (ap length (take_mine worker lines i ops has))
 
+-- ---- words of replies
+
+all_words-append : (xs ys : List (List Op)) → all_words (xs ++ ys) ≡ all_words xs + all_words ys
+all_words-append [] ys = omega arith
+all_words-append (ops ∷ xs) ys = omega (arith, all_words-append xs ys)
+
+-- those of a worker's line more
+pub words_more : (worker i : ℕ) (lines : List Line) (ops : List Op) → HasOps worker lines i (Some ops)
+    → all_words (ops_of worker (take (i + 1) lines)) ≡ all_words (ops_of worker (take i lines)) + most_words ops
+words_more worker i lines ops has =
+    ap all_words (take_mine worker lines i ops has)
+    ∙ (all_words-append (ops_of worker (take i lines)) (ops ∷ []) ∙ omega arith)
+
+-- they are among those of all its lines
+pub words_within : (worker i : ℕ) (lines : List Line) (ops : List Op) → HasOps worker lines i (Some ops)
+    → all_words (ops_of worker (take i lines)) + most_words ops ≤ all_words (ops_of worker lines)
+words_within worker i lines ops has =
+    let past = ops_of worker (drop (i + 1) lines) in
+    let all : ops_of worker (take (i + 1) lines) ++ past ≡ ops_of worker lines =
+    sym (ops_of-append worker (take (i + 1) lines) (drop (i + 1) lines))
+    ∙ ap (ops_of worker) (take-append-drop (i + 1) lines) in
+    omega (
+      arith,
+      ap all_words all,
+      all_words-append (ops_of worker (take (i + 1) lines)) past,
+      words_more worker i lines ops has,
+    )
+
 -- ---- what can be run of the worker's line
 
 runnable : (decls : List Decl) (worker : ℕ) (line : Line) (ops : List Op) → CanRunLine decls line
@@ -138,9 +164,3 @@ pub runnable_at : (decls : List Decl) (worker : ℕ) (round : Round) (i : ℕ) (
 runnable_at decls worker round i ops can has =
     let at = line_at worker round.lines i (Some ops) has in
     runnable decls worker at.0 ops (all_at (CanRunLine decls) round.lines i at.0 can.lines at.1) at.2
-
--- where no tree is declared its operations are on arrays
-pub on_arrays : (decls : List Decl) (worker : ℕ) (ops : List Op) → HasNoTree decls → CanRunOps decls worker ops
-    → AllByRecursion (IsOnArray decls) ops
-on_arrays decls worker ops none can =
-    all_weaker (λ op. IsTrue (fits decls op)) (IsOnArray decls) (λ op fit. fits_array decls op none fit) ops can.fitting

@@ -235,7 +235,8 @@ first_shown {tells = tells} {clock = clock} {image_at = image_at} {faults = faul
           (record { length = counted; epoch = let few = seen.few in omega (arith, few) });
       epoch = named ∙ ap (λ n. Some (n - 1)) (sym at);
       marks = ap (λ (y : View). y.seat.marks) is
-          ∙ ap (λ (s : Seat). s.marks ++ record { epoch = Some (epoch - 1); length = new.journal.durable } ∷ []) seen.seat
+          ∙ ap (λ (s : Seat). s.marks ++ record { epoch = Some (epoch - 1); length = new.journal.durable } ∷ [])
+          seen.seat
           ∙ ap (λ (m : Mark). v.seat.marks ++ core_mark m ∷ []) (sym joined.marked);
       joined = subst (λ n. IsJoined n new) (sym at) joined;
       journal = journal;

@@ -30,7 +30,8 @@ use Rattle.worker_logs.specs.Shown.{LogShows, Stood}
 use Rattle.worker_logs.specs.ShownLaws.{shows_commit, shows_later, shows_move, shows_none, shows_one}
 use Rattle.worker_logs.specs.RowLaws.{blames_move, blames_none, blames_took, keeps_commit, keeps_later, keeps_then}
 use Rattle.worker_logs.specs.RowLaws.{limit_took, reaches_took}
-use Rattle.worker_cells.specs.Cells.{AreLooked, HasLookedSince, HasMarks, IsCell, IsMarkedBelow, IsReached, IsTied, LogsLine}
+use Rattle.worker_cells.specs.Cells.{AreLooked, HasLookedSince, HasMarks, IsCell, IsMarkedBelow, IsReached, IsTied}
+use Rattle.worker_cells.specs.Cells.{LogsLine}
 use Rattle.worker_cells.specs.Cells.{RanOver, RanShown, Readies, ShowsMark, core_mark, core_of, epochs_of, steps_behind}
 use Rattle.worker_cells.specs.Rows.{ComesOf, IsSince, LineRan, logged_by, logged_of, outcomes_of, readied_of}
 use Rattle.worker_cells.specs.InARow.{goes_none, line_keeps, logged_push, row_goes, row_layout, row_push}
@@ -91,7 +92,7 @@ line_above tries ops (Committed verdict number replies) refused logged v w marke
     let same : comes.0 ≡ c = logged_is comes.0 comes.0.changes c (sym comes.2 ∙ is) in
     subst (λ (x : Commit). marked < x.number.epoch) same (comes.3.marked marked mark)
 line_above tries ops Conflict refused logged v w marked comes mark c is = absurd (let no = sym comes.0 ∙ is in cc)
-line_above tries ops Wide refused logged v w marked comes mark c is = absurd comes
+line_above tries ops Wide refused logged v w marked comes mark c is = absurd (let no = sym comes.0 ∙ is in cc)
 line_above tries ops Limit refused logged v w marked comes mark c is = absurd (let no = sym comes.0 ∙ is in cc)
 line_above tries ops Full refused logged v w marked comes mark c is = absurd (let no = sym comes.0 ∙ is in cc)
 line_above tries ops Unrun refused logged v w marked comes mark c is = absurd comes
@@ -124,7 +125,7 @@ began_line tries ops (Committed verdict number replies) refused logged v w comes
 began_line tries ops Conflict refused logged v w comes = refl
 began_line tries ops Limit refused logged v w comes = refl
 began_line tries ops Full refused logged v w comes = refl
-began_line tries ops Wide refused logged v w comes = absurd comes
+began_line tries ops Wide refused logged v w comes = refl
 began_line tries ops Unrun refused logged v w comes = absurd comes
 
 -- the epoch that a line leaves was reached
@@ -138,7 +139,7 @@ line_reached tries ops (Committed verdict number replies) refused logged v w epo
 line_reached tries ops Conflict refused logged v w epoch comes marked = inr (inl marked)
 line_reached tries ops Limit refused logged v w epoch comes marked = inr (inl marked)
 line_reached tries ops Full refused logged v w epoch comes marked = inr (inl marked)
-line_reached tries ops Wide refused logged v w epoch comes marked = absurd comes
+line_reached tries ops Wide refused logged v w epoch comes marked = inr (inl marked)
 line_reached tries ops Unrun refused logged v w epoch comes marked = absurd comes
 
 -- it is none below the one that was loaded before the line

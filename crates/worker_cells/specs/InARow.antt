@@ -5,7 +5,7 @@ use Rattle.std.specs.Prelude.{Contains, option_to_list}
 use Rattle.std.proofs.lemmas.List.{append-nil, map-append}
 use Rattle.std.proofs.lemmas.Grind.{flat_map-append}
 use Rattle.std.proofs.lemmas.List.Sums.{sum_by-cons}
-use Rattle.lists.specs.Elements.{in_head, in_tail}
+use Rattle.lists.specs.Elements.{in_cases, in_head, in_none, in_tail}
 use Rattle.lists.specs.Fronts.{front_refl, front_then}
 use Rattle.serial_model.specs.declared.number.Commit.{Commit}
 use Rattle.serial_model.specs.declared.op.Op.{Op}
@@ -14,7 +14,7 @@ use Rattle.engine_pages.specs.declared.view.View.{View}
 use Rattle.engine_pages.specs.Views.{seat_number}
 use Rattle.engine_seats.specs.Cuts.{HasSeen}
 use Rattle.tx_runner.specs.Below.{IsOver}
-use Rattle.tx_runner.specs.Tries.{HasTriedFor, IsWrittenBy, Lost, ToClock, ToSlots, TouchesOnly, blame_of}
+use Rattle.tx_runner.specs.Tries.{HasTriedFor, IsLockedFor, Lost, ToClock, ToSet, ToSlots, TouchesOnly, blame_of}
 use Rattle.tx_runner.specs.Tries.{blames_of, lost_to}
 use Rattle.tx_runner.specs.Tries.{why_of, whys_of}
 use Rattle.tx_script.specs.Run.{is_commit}
@@ -61,7 +61,7 @@ goes_then u v w first next = record {
 
 -- What a line keeps of its pass, whatever comes of it: no transaction is under way, the marks are as they were, what
 -- the pass was refused for, the line's tries were, at the keys that are told, so many numbers were drawn for it, and
--- locks were taken of keys that it may write.
+-- locks were taken that it may take.
 pub record Kept (ops : List Op) (outcome : Outcome) (refused : List Lost) (v w : View) : Type 0 where
   pub over : IsOver w
   pub layout : w.layout ≡ v.layout
@@ -116,7 +116,8 @@ line_keeps tries ops Limit refused logged v w comes =
 line_keeps tries ops Full refused logged v w comes =
     tries_keep ops Full (comes.1.refused.losts ++ ToSlots comes.1.words ∷ []) refused v w comes.1.refused.tried comes.2
     refl
-line_keeps tries ops Wide refused logged v w comes = absurd comes
+line_keeps tries ops Wide refused logged v w comes =
+    tries_keep ops Wide (comes.1.refused.losts ++ ToSet comes.1.set ∷ []) refused v w comes.1.refused.tried comes.2 refl
 line_keeps tries ops Unrun refused logged v w comes = absurd comes
 
 -- ---- lines in a row
@@ -142,6 +143,18 @@ row_layout tries v (line ∷ more) w row =
     row_layout tries line.after more w row.2
     ∙ (line_keeps tries line.ops line.outcome line.refused line.logged line.before line.after row.1).layout
     ∙ row.0.layout
+
+-- so it is as each of the lines begins
+pub row_before : (tries : ℕ) (v : View) (ran : List LineRan) (w : View) → AreInARow tries v ran w → (line : LineRan)
+    → Contains ran line → line.before.layout ≡ v.layout
+row_before tries v [] w row line has = absurd (in_none line has)
+row_before tries v (x ∷ more) w row line has = elim (in_cases line x more has) [
+  | inl same ↦ subst (λ (r : LineRan). r.before.layout ≡ v.layout) same row.0.layout
+  | inr later ↦
+      row_before tries x.after more w row.2 line later
+      ∙ (line_keeps tries x.ops x.outcome x.refused x.logged x.before x.after row.1).layout
+      ∙ row.0.layout
+]
 
 -- the role stays
 pub row_role : (tries : ℕ) (v : View) (ran : List LineRan) (w : View) → AreInARow tries v ran w → w.role ≡ v.role
@@ -188,12 +201,12 @@ row_blamed tries v (line ∷ more) w row =
     ∙ append_assoc v.blamed (blames_of q line.refused) (blames_of q (refused_of more))
     ∙ ap (λ l. v.blamed ++ l) (sym (flat_map-append (blame_of q) line.refused (refused_of more)))
 
--- a lock that it took is of a key that one of its lines may write
+-- a lock that it took is one that one of its lines may take
 pub record IsTakenBy (seat : ℕ) (ran : List LineRan) (t : Touch) : Type 0 where
   pub own : t.seat ≡ seat
   pub line : LineRan
   pub among : Contains ran line
-  pub written : IsWrittenBy line.ops t.key
+  pub written : IsLockedFor line.before.layout.decls line.ops t.key
 
 -- its locks were taken for its lines
 pub row_touched : (tries : ℕ) (v : View) (ran : List LineRan) (w : View) → AreInARow tries v ran w → (t : Touch)

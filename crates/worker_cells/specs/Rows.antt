@@ -7,7 +7,7 @@ use Rattle.serial_model.specs.declared.op.Op.{Op}
 use Rattle.engine_pages.specs.declared.view.View.{View}
 use Rattle.engine_seats.specs.Cuts.{HasSeen}
 use Rattle.tx_runner.specs.LineEnds.{HasCommittedLine}
-use Rattle.tx_runner.specs.Tries.{HasConflicted, IsAtLimit, IsFullAt, Lost, ToClock, ToSlots, lost_to}
+use Rattle.tx_runner.specs.Tries.{HasConflicted, IsAtLimit, IsFullAt, IsWideAt, Lost, ToClock, ToSet, ToSlots, lost_to}
 use Rattle.tx_script.specs.Readied.{Readied}
 use Rattle.tx_script.specs.Run.{is_commit}
 use Rattle.tx_script.specs.declared.outcome.Outcome.{Outcome}
@@ -21,7 +21,7 @@ logged_by commit [] = None
 logged_by commit (first ∷ more) = Some commit
 
 -- What came of a line with so many tries, from the one view to the other: its outcome, the refusals of its tries, and
--- what the log gets. A line's operations fill no set, and a line that was left out isn't run.
+-- what the log gets. A line that was left out isn't run.
 abbrev pub ComesOf : ℕ → List Op → Outcome → List Lost → Option Commit → View → View → Type 0
 ComesOf tries ops (Committed verdict number replies) refused logged v w =
     (commit : Commit) × (commit.number ≡ number) × (logged ≡ logged_by commit commit.changes)
@@ -34,7 +34,9 @@ ComesOf tries ops Limit refused logged v w =
 ComesOf tries ops Full refused logged v w =
     (logged ≡ None) × (line : IsFullAt ops tries v w)
     × (refused ≡ line.refused.losts ++ ToSlots line.words ∷ [])
-ComesOf tries ops Wide refused logged v w = ⊥
+ComesOf tries ops Wide refused logged v w =
+    (logged ≡ None) × (line : IsWideAt ops tries v w)
+    × (refused ≡ line.refused.losts ++ ToSet line.set ∷ [])
 ComesOf tries ops Unrun refused logged v w = ⊥
 
 -- if the line was committed, its epoch is this one or a later one

@@ -1,8 +1,9 @@
 // One worker's lines of a round.
 ghost use Rattle.std.specs.Prelude.{◌≡◌, ◌⊎◌, ◌+◌, ◌-◌, ◌<◌, ◌≤◌, ◌++◌, ◌∷◌, [], Some, None, is_some, length};
-ghost use Rattle.std.specs.Prelude.{option_map, option_to_list, slice_get, true, false};
+ghost use Rattle.std.specs.Prelude.{IsTrue, option_map, option_to_list, slice_get, true, false};
 ghost use Rattle.std.specs.List.{AllByRecursion};
 ghost use Rattle.std.specs.Option.{option_copied};
+ghost use Rattle.serial_model.specs.Keys.{fits};
 ghost use Rattle.script_grammar.specs.Script.{lines_of_worker, ops_of_worker};
 ghost use Rattle.wire_form.specs.LogLine.{IsLogLine, IsLoggable};
 ghost use Rattle.wire_form.specs.Words.{IsMark};
@@ -11,7 +12,7 @@ ghost use Rattle.worker_logs.specs.Rows.{TakesCommit, full_after};
 ghost use Rattle.engine_pages.specs.declared.view.Role.TheVariants.{Worker};
 ghost use Rattle.engine_pages.specs.Passes.{IsPassOf, view};
 ghost use Rattle.tx_runner.specs.Below.{IsOver};
-ghost use Rattle.tx_runner.specs.Lines.{HasNoTree, IsOnArray};
+ghost use Rattle.tx_script.specs.Room.{all_words, most_words};
 ghost use Rattle.tx_script.specs.Run.{CanRun};
 ghost use Rattle.worker_cells.specs.Cells.{IsCell, IsMarkedBelow, IsTied, RunsCell, RunsOne, StepsOne, fails};
 ghost use Rattle.worker_cells.specs.Gates.{Before, IsOpen, IsTold, calls_for, calls_in, calls_of, is_run};
@@ -45,10 +46,10 @@ pub fn run_cell<D: Disk, G: LineGate>(
         → IsTied cell.old.log.mark (view cell.old.pass).seat.marks × IsMark cell.old.log.mark }
     requires worker { ((view cell.old.pass).role ≡ Worker cell.old.worker) × (cell.old.worker < 8) }
     requires lines { CanRun (view cell.old.pass).layout.decls round.now }
-    requires arrays { HasNoTree (view cell.old.pass).layout.decls }
     requires told { cell.old.outcomes.told ≡ [] }
     requires count { cell.old.lines ≡ length (lines_of_worker round.now cell.old.worker) }
     requires room { length (lines_of_worker round.now cell.old.worker) ≤ cell.old.outcomes.left }
+    requires space { all_words (lines_of_worker round.now cell.old.worker) ≤ cell.old.outcomes.space }
     requires tries { 1 ≤ tries }
     ensures of { IsPassOf engine.now cell.new.pass }
     ensures worker { cell.new.worker ≡ cell.old.worker }
@@ -100,15 +101,17 @@ fn run_one<D: Disk, G: LineGate>(
     requires tied { IsTied cell.old.log.mark (view cell.old.pass).seat.marks }
     requires reaches { Reaches D.tells cell.old.bank cell.old.log.journal }
     requires up { cell.old.end.failed ≡ is_some cell.old.log.journal.down }
-    requires arrays { AllByRecursion (IsOnArray (view cell.old.pass).layout.decls) ops.now }
+    requires fitting { AllByRecursion (λ op. IsTrue (fits (view cell.old.pass).layout.decls op)) ops.now }
     requires few { length ops.now ≤ 16 }
     requires tries { 1 ≤ tries }
     requires room { 1 ≤ cell.old.outcomes.left }
+    requires space { most_words ops.now ≤ cell.old.outcomes.space }
     requires calls { IsTold is_run cell.old.worker count (IsOpen cell.old.end) cell.old.outcomes.told
         (calls_in calls.old) }
     ensures of { IsPassOf engine.now cell.new.pass }
     ensures worker { cell.new.worker ≡ cell.old.worker }
     ensures left { cell.new.outcomes.left ≡ cell.old.outcomes.left - 1 }
+    ensures space { cell.old.outcomes.space ≤ cell.new.outcomes.space + most_words ops.now }
     ensures calls { IsTold is_run cell.new.worker (count + 1) (IsOpen cell.new.end) cell.new.outcomes.told
         (calls_in calls.new) }
     ensures steps { StepsOne D.tells D.clock D.image_at D.faults tries ops.now
@@ -178,18 +181,20 @@ fn run_logged<D: Disk>(
     requires over { IsOver (view cell.old.pass) }
     requires draws { 1 ≤ (view cell.old.pass).layout.first.draw }
     requires marked { IsMarkedBelow cell.old.log.mark (view cell.old.pass) }
-    requires arrays { AllByRecursion (IsOnArray (view cell.old.pass).layout.decls) ops.now }
+    requires fitting { AllByRecursion (λ op. IsTrue (fits (view cell.old.pass).layout.decls op)) ops.now }
     requires few { length ops.now ≤ 16 }
     requires tries { 1 ≤ tries }
     requires free { 400 ≤ free cell.old.log.journal }
     requires limit { end_of cell.old.log.journal + 400 ≤ cell.old.log.journal.limit }
     requires room { 1 ≤ cell.old.outcomes.left }
+    requires space { most_words ops.now ≤ cell.old.outcomes.space }
     requires begun { calls_in calls.now ≡ calls_of cell.old.worker (length cell.old.outcomes.told)
         ++ Before cell.old.worker (length cell.old.outcomes.told) ∷ [] }
     ensures of { IsPassOf engine.now cell.new.pass }
     ensures kept { (cell.new.worker ≡ cell.old.worker) × (cell.new.bank ≡ cell.old.bank)
         × (cell.new.end ≡ cell.old.end) }
     ensures left { cell.new.outcomes.left ≡ cell.old.outcomes.left - 1 }
+    ensures space { cell.old.outcomes.space ≤ cell.new.outcomes.space + most_words ops.now }
     ensures runs { RunsOne tries ops.now cell.old.outcomes.told cell.new.outcomes.told
         (view cell.old.pass) (view cell.new.pass) cell.old.log cell.new.log }
 {

@@ -53,4 +53,4 @@ returns-in-Ok-new-clause-begins g c =
     _ _ c.in-Ok-settle.settled c.in-Ok-new.runtime c.in-Ok-settle.ensures.leaves.crashes c.new.ensures.vault (rw c.decls-2.ensures at c.in-Ok-settle.ensures.settles) c.in-Ok-settle.ensures.snapshots c.in-Ok-settle.ensures.answers.0 c.in-Ok-settle.ensures.leaves.records c.in-Ok-settle.ensures.answers.1.fits
     c.in-Ok-settle.ensures.answers.1.left
     (rw (c.config_of-config.ensures.snap, c.config_of-config.ensures.first) at c.in-Ok-new.ensures.begins)
-    (λ shares. c.in-Ok-new.ensures.slots shares ∙ c.config_of-config.ensures.slots) c.pages_fit.ensures.whole c.pages_fit.ensures.fit c.in-Ok-new.ensures.stands c.in-Ok-new.ensures.logs c.in-Ok-new.ensures.counts
+    (c.in-Ok-new.ensures.slots ∙ c.config_of-config.ensures.slots) c.pages_fit.ensures.whole c.pages_fit.ensures.fit c.in-Ok-new.ensures.stands c.in-Ok-new.ensures.logs c.in-Ok-new.ensures.counts

@@ -31,7 +31,9 @@ drop_pages-requires-clause-pages g c = (c.requires.ready.can.snapshot.published 
 pub drop_pages-requires-clause-snapshot : goal.drop_pages-requires-clause-snapshot
 drop_pages-requires-clause-snapshot g c =
     let has = c.requires.ready.can.snapshot in
-    (has.contents, has.stands, sym has.decls ∙ sym c.requires.ready.decls)
+    let over = c.requires.ready.past c.requires.made in
+    let up_to = has.up_to in
+    (has.contents, has.stands, sym has.decls ∙ sym c.requires.ready.decls, omega (arith, up_to, over))
 
 pub drop_pages-requires-clause-room : goal.drop_pages-requires-clause-room
 drop_pages-requires-clause-room g c =

@@ -1,40 +1,31 @@
--- The phases are a round; after want of memory a front of it was run, or nothing was done.
-use Rattle.std.proofs.Common.{◌∙◌, ap, arith, inl, refl, subst, sym}
+-- The phases are a round; after want of memory nothing was done.
+use Rattle.std.proofs.Common.{◌∙◌, arith, refl, subst, sym}
 use Rattle.std.proofs.lemmas.Result.{err_from_is_err_and}
 use Rattle.tx_script.specs.Run.{CanRun}
 use Rattle.worker_logs.specs.Rows.{AreLogsUp}
 use Rattle.round_engine.specs.Keeping.{CanKeep}
-use Rattle.round_engine.specs.Phases.{RunsAll, RunsSome}
-use Rattle.round_engine.specs.LineEngines.{SharesWords}
+use Rattle.round_engine.specs.Phases.{RunsAll}
 use Rattle.round_engine.specs.Sides.{growing_in}
 use Rattle.round_engine.specs.Standing.{ArePassed, RuntimeState}
-use Rattle.round_engine.proofs.NothingRun.{all_in_room, room_none, some_in_room, stands_in_room}
-use Rattle.round_engine.proofs.RoundStops.{stopped}
+use Rattle.round_engine.proofs.NothingRun.{all_in_room, room_none, stands_in_room}
 use Rattle.round_engine.proofs.RoundWhole.{start_can, start_flushed, start_idle, start_passes, start_ups, whole}
 use Rattle.round_engine.proofs.WhoseLines.{idled_by}
 use Rattle.round_engine.proofs.rounds.round.Goals as goal
 
 -- ---- room
 
+pub make_rooms-requires : goal.make_rooms-requires
+make_rooms-requires g c = (c.args.runtime.now.stands.decls, c.requires.lines)
+
 pub returns-in_err-rooms-clause-rounds : goal.returns-in_err-rooms-clause-rounds
 returns-in_err-rooms-clause-rounds g c =
     let p = err_from_is_err_and c.from_residual.result c.from_residual.ensures.1 in
-    rw p.1 (inl (record { runtime = refl; devices = room_none c.args.vault.now }))
-
-pub returns-in_err-rooms-clause-unbegun : goal.returns-in_err-rooms-clause-unbegun
-returns-in_err-rooms-clause-unbegun g c =
-    let p = err_from_is_err_and c.from_residual.result c.from_residual.ensures.1 in
-    rw p.1 (λ shares. record { runtime = refl; devices = room_none c.args.vault.now })
+    rw p.1 (record { runtime = refl; devices = room_none c.args.vault.now })
 
 pub returns-in_err-answers-clause-rounds : goal.returns-in_err-answers-clause-rounds
 returns-in_err-answers-clause-rounds g c =
     let p = err_from_is_err_and c.from_residual-in_err-answers.result c.from_residual-in_err-answers.ensures.1 in
-    rw p.1 (inl (record { runtime = refl; devices = c.in_err-answers.ensures.alone }))
-
-pub returns-in_err-answers-clause-unbegun : goal.returns-in_err-answers-clause-unbegun
-returns-in_err-answers-clause-unbegun g c =
-    let p = err_from_is_err_and c.from_residual-in_err-answers.result c.from_residual-in_err-answers.ensures.1 in
-    rw p.1 (λ shares. record { runtime = refl; devices = c.in_err-answers.ensures.alone })
+    rw p.1 (record { runtime = refl; devices = c.in_err-answers.ensures.alone })
 
 -- ---- the round in it
 
@@ -90,41 +81,13 @@ run_round-requires-clause-idle g c κs within =
     start_idle c.args.round.now c.args.runtime.now.logs c.idle_logs.new.runtime.logs c.requires.stands.workers
     (c.idle_logs.ensures.length ∙ c.requires.stands.workers) idle
 
--- room was made just where words that threads share run the lines
-pub run_round-requires-clause-shares : goal.run_round-requires-clause-shares
-run_round-requires-clause-shares g c κs within shares =
-    c.in_ok-rooms.ensures.made (subst SharesWords (sym (ap (λ (r : RuntimeState). r.stands) c.runtime.view_is))
-    (subst (λ (r : RuntimeState). SharesWords r.stands) c.idle_logs.ensures.alone shares))
-
-pub run_round-requires-clause-apart : goal.run_round-requires-clause-apart
-run_round-requires-clause-apart g c κs within some =
-    subst (λ (r : RuntimeState). SharesWords r.stands) (sym c.idle_logs.ensures.alone)
-    (subst SharesWords (ap (λ (r : RuntimeState). r.stands) c.runtime.view_is) (c.in_ok-rooms.ensures.none some))
-
-pub returns-in-Ok-clause-rounds : goal.returns-in-Ok-clause-rounds
-returns-in-Ok-clause-rounds g c =
+pub returns-clause-rounds : goal.returns-clause-rounds
+returns-clause-rounds g c =
     let idled = c.idle_logs.ensures in
     let idle = idled_by c.args.round.now c.owners_of-owners.result c.args.runtime.now.logs c.idle_logs.new.runtime.logs
     c.owners_of-owners.ensures.owners c.requires.stands.workers c.idle_logs.ensures.idle in
     let all = subst (λ (o : RuntimeState). RunsAll g.D.Disk.tells g.D.Disk.clock g.D.Disk.image_at g.D.Disk.faults c.args.tries c.args.round.now
-    o c.run_round.new.runtime c.args.vault.now c.run_round.new.vault c.in-Ok.report) idled.alone
-    (all_in_room c.in_ok-answers.ensures.alone c.in-Ok.ensures.phases) in
+    o c.run_round.new.runtime c.args.vault.now c.run_round.new.vault c.run_round.result) idled.alone
+    (all_in_room c.in_ok-answers.ensures.alone c.run_round.ensures.all) in
     whole c.requires.stands (c.requires.stands.goes_on c.requires.goes_on) (omega (arith, c.requires.stands.above))
     (idled.length ∙ c.requires.stands.workers) idle all c.reads_are_images.ensures
-
-pub returns-in-Err-clause-rounds : goal.returns-in-Err-clause-rounds
-returns-in-Err-clause-rounds g c =
-    let idled = c.idle_logs.ensures in
-    let idle = idled_by c.args.round.now c.owners_of-owners.result c.args.runtime.now.logs c.idle_logs.new.runtime.logs
-    c.owners_of-owners.ensures.owners c.requires.stands.workers c.idle_logs.ensures.idle in
-    let some = subst (λ (o : RuntimeState). RunsSome g.D.Disk.tells g.D.Disk.clock g.D.Disk.image_at g.D.Disk.faults c.args.tries c.args.round.now
-    o c.run_round.new.runtime c.args.vault.now c.run_round.new.vault) idled.alone
-    (some_in_room c.in_ok-answers.ensures.alone c.in-Err.ensures.phases) in
-    rw c.end_with.ensures.runtime
-    (stopped c.requires.stands (c.requires.stands.goes_on c.requires.goes_on) (omega (arith, c.requires.stands.above))
-    (idled.length ∙ c.requires.stands.workers) idle some c.reads_are_images.ensures c.in-Err.field-0)
-
-pub returns-in-Err-clause-unbegun : goal.returns-in-Err-clause-unbegun
-returns-in-Err-clause-unbegun g c = λ shares.
-    absurd (c.in-Err.ensures.enough
-    (subst (λ (r : RuntimeState). SharesWords r.stands) (sym c.idle_logs.ensures.alone) shares))

@@ -3,8 +3,8 @@ use Rattle.std.proofs.Common.{ap, refl, rules, sym}
 use Rattle.round_engine.proofs.LentParts.{lent_told}
 use Rattle.round_engine.proofs.rounds.run_apart.Goals as goal
 
-pub run_shared-ran-requires-clause-beside : goal.run_shared-ran-requires-clause-beside
-run_shared-ran-requires-clause-beside g c κs within v may = (
+pub run_lines-ran-requires-clause-beside : goal.run_lines-ran-requires-clause-beside
+run_lines-ran-requires-clause-beside g c κs within v may = (
   c.requires.beside v may _
       (record { saves = refl; stores = refl; counts = refl; most = refl; grows = refl; shut_at = refl }) _
       c.none.ensures.refusal c.none.ensures.limited c.none.ensures.calls,
@@ -15,7 +15,7 @@ run_shared-ran-requires-clause-beside g c κs within v may = (
 
 pub returns-clause-runs : goal.returns-clause-runs
 returns-clause-runs g c =
-    let told = c.run_shared-ran.ensures.runs in
+    let told = c.run_lines-ran.ensures.runs in
     let did = told.beside.did_so in
     let still = did.0.runs.runs.leaves in
     lent_told _ told (λ v w d. d.0)

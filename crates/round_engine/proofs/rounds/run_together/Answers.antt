@@ -78,7 +78,7 @@ returns-clause-runs g c =
     (together_ran was new told.0 told.1 c.args.vault.now c.lend-growing.new.vault ran.new.vault c.give_back.new.vault
     ran.new.answers.items ran.result.1 ran.result.0 (λ decls w. lent_bare was told.0 told.2 decls w)
     (λ decls w. lent_bare new told.1 told.3 decls w) refl c.lend-growing.ensures.vault c.give_back.ensures.vault
-    ran.ensures.arrays ran.ensures.history
+    ran.ensures.history
     (over_banks c.lend-growing.ensures.growing c.give_back.ensures.growing told.4))
 
 pub returns-clause-limited : goal.returns-clause-limited

@@ -28,9 +28,9 @@ loop-count-init g c =
       logs_room = search rules;
       banks_room = search rules;
       seated = subst (λ l. SeatedSoFar g.D.Disk.tells c.args.engine.now
-          (view c.args.keeper.now) c.args.counts.now 8 l c.args.logs.now.items
+          (view c.args.keeper.now) c.args.counts.now c.args.spaces.now 8 l c.args.logs.now.items
           c.args.logs.now.items c.args.growing.now.items c.args.growing.now.items) (sym none)
-          (none_seated g.D.Disk.tells c.args.engine.now (view c.args.keeper.now) c.args.counts.now 8
+          (none_seated g.D.Disk.tells c.args.engine.now (view c.args.keeper.now) c.args.counts.now c.args.spaces.now 8
           c.args.logs.now.items c.args.growing.now.items);
     }
   where
@@ -73,8 +73,8 @@ loop-count-preserved g c =
     rules in
     let room_is : c.loop-count.rooms.items ≡ c.pop-in-loop-count-2.new.self.items ++ c.in-Some-pop-2.outcomes ∷ [] =
     search rules in
-    let rooms = last_room c.args.counts.now c.pop-in-loop-count-2.new.self.items c.in-Some-pop-2.outcomes
-    (subst (AreRooms c.args.counts.now) room_is inv.rooms_are) in
+    let rooms = last_room c.args.counts.now c.args.spaces.now c.pop-in-loop-count-2.new.self.items c.in-Some-pop-2.outcomes
+    (subst (AreRooms c.args.counts.now c.args.spaces.now) room_is inv.rooms_are) in
     record {
       of = search rules;
       keeper = c.seat-pass.ensures.keeper ∙ ap (seated (7 - c.loop-count.count)) inv.keeper
@@ -87,15 +87,15 @@ loop-count-preserved g c =
       rooms_len = omega (arith, inv.rooms_len, rooms_less);
       desks_len = omega (arith, inv.desks_len, desks_less);
       desks_room = search rules;
-      rooms_are = rooms.2;
+      rooms_are = rooms.3;
       room = search rules;
       logs_room = search rules;
       banks_room = search rules;
       seated = subst (λ l. SeatedSoFar g.D.Disk.tells c.args.engine.now (view c.args.keeper.now) c.args.counts.now
-          (8 - (c.loop-count.count + 1)) l c.args.logs.now.items c.pop.new.self.items c.args.growing.now.items
+          c.args.spaces.now (8 - (c.loop-count.count + 1)) l c.args.logs.now.items c.pop.new.self.items c.args.growing.now.items
           c.pop-in-loop-count.new.self.items) (sym c.push_reserved.ensures.items)
           (seats_one g.D.Disk.tells c.args.engine.now (view c.args.keeper.now) c.args.counts.now
-          (8 - (c.loop-count.count + 1)) c.loop-count.cells.items c.args.logs.now.items c.loop-count.logs.items
+          c.args.spaces.now (8 - (c.loop-count.count + 1)) c.loop-count.cells.items c.args.logs.now.items c.loop-count.logs.items
           c.pop.new.self.items c.args.growing.now.items c.loop-count.growing.items c.pop-in-loop-count.new.self.items _
           c.requires.keeper c.requires.up c.requires.flushed (omega arith) (logs_place ∙ logs_count)
           (banks_place ∙ banks_count) log_is bank_is c.seat-pass.ensures.of.1 number
@@ -106,7 +106,8 @@ loop-count-preserved g c =
           (seat_over (view c.args.keeper.now) (7 - c.loop-count.count) c.requires.keeper.decls
           (c.requires.keeper.parked (7 - c.loop-count.count) (omega (arith, less))))) rooms.0
           (rooms.1 ∙ ap (λ n. get_or c.args.counts.now n 0) (rooms_place ∙ rooms_count))
-          (subst (λ w. SeatedSoFar g.D.Disk.tells c.args.engine.now (view c.args.keeper.now) c.args.counts.now w
+          (rooms.2 ∙ ap (λ n. get_or c.args.spaces.now n 0) (rooms_place ∙ rooms_count))
+          (subst (λ w. SeatedSoFar g.D.Disk.tells c.args.engine.now (view c.args.keeper.now) c.args.counts.now c.args.spaces.now w
           c.loop-count.cells.items c.args.logs.now.items c.loop-count.logs.items c.args.growing.now.items
           c.loop-count.growing.items) worker inv.seated));
     }

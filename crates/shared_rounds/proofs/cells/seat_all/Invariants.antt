@@ -15,10 +15,10 @@ invariant-loop-count g l = record {
   rooms_len : vec_len l.rooms + l.count ≡ 8;
   desks_len : vec_len l.desks + l.count ≡ 8;
   desks_room : 8 ≤ vec_capacity l.desks;
-  rooms_are : AreRooms l.counts l.rooms.items;
+  rooms_are : AreRooms l.counts l.spaces l.rooms.items;
   room : 8 ≤ vec_capacity l.cells;
   logs_room : 8 ≤ vec_capacity l.logs;
   banks_room : 8 ≤ vec_capacity l.growing;
-  seated : SeatedSoFar g.D.Disk.tells l.engine (view l.initial.keeper) l.counts (8 - l.count) l.cells.items
+  seated : SeatedSoFar g.D.Disk.tells l.engine (view l.initial.keeper) l.counts l.spaces (8 - l.count) l.cells.items
       l.initial.logs.items l.logs.items l.initial.growing.items l.growing.items;
 }

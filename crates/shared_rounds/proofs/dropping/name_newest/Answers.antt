@@ -50,4 +50,4 @@ pub returns-clause-names : goal.returns-clause-names
 returns-clause-names c =
     let snap = c.requires.snapshot in
     knows_newest c.args.store.now.pages snap.0 (drop c.count.result (words_of c.args.store.now.pages))
-    (view c.args.keeper.now) (view c.publish_pages.new.pass) snap.1 snap.2 c.publish_pages.ensures.publishes
+    (view c.args.keeper.now) (view c.publish_pages.new.pass) snap.1 snap.2 snap.3 c.publish_pages.ensures.publishes

@@ -14,9 +14,11 @@ loop-worker-preserved c =
     record {
       len = search rules;
       room = search rules;
-      rooms = subst (AreRooms c.args.counts.now) (sym c.push_reserved.ensures.items)
-          (rooms_push c.args.counts.now c.loop-worker.rooms.items room inv.rooms
+      rooms = subst (AreRooms c.args.counts.now c.args.spaces.now) (sym c.push_reserved.ensures.items)
+          (rooms_push c.args.counts.now c.args.spaces.now c.loop-worker.rooms.items room inv.rooms
           (ap (λ (r : RoomState). r.told) c.in_ok-new.ensures)
           (ap (λ (r : RoomState). r.left) c.in_ok-new.ensures
-          ∙ ap (λ n. get_or c.args.counts.now n 0) (sym (many ∙ inv.len))));
+          ∙ ap (λ n. get_or c.args.counts.now n 0) (sym (many ∙ inv.len)))
+          (ap (λ (r : RoomState). r.space) c.in_ok-new.ensures
+          ∙ ap (λ n. get_or c.args.spaces.now n 0) (sym (many ∙ inv.len))));
     }

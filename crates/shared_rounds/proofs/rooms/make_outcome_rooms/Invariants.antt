@@ -7,5 +7,5 @@ abbrev pub invariant-loop-worker : goal.invariant-loop-worker
 invariant-loop-worker l = record {
   len : vec_len l.rooms ≡ l.worker;
   room : 8 ≤ vec_capacity l.rooms;
-  rooms : AreRooms l.counts l.rooms.items;
+  rooms : AreRooms l.counts l.spaces l.rooms.items;
 }

@@ -4,7 +4,6 @@ use Rattle.std.specs.List.{AllByRecursion}
 use Rattle.engine_pages.specs.Passes.{view}
 use Rattle.engine_pages.specs.declared.layout.Layout.{Layout}
 use Rattle.engine_pages.specs.declared.view.View.{View}
-use Rattle.serial_bridge.specs.WriteSets.{HasNoTree}
 use Rattle.tx_script.specs.Run.{CanRun}
 use Rattle.shared_rounds.specs.Seated.{IsReady}
 use Rattle.shared_rounds.proofs.Backward.{cells_end, cells_ready}
@@ -71,10 +70,10 @@ run_beside-requires-clause-ready g c κs within =
     subst (AllByRecursion (IsReady g.D.Disk.tells c.args.words.now c.args.round.now))
     (sym c.as_mut_slice.ensures.value)
     (cells_ready g.D.Disk.tells g.D.Disk.clock g.D.Disk.image_at g.D.Disk.faults c.args.words.now
-    (view c.args.keeper.now) (view c.show_marks.new.keeper) c.args.rooms.counts c.args.round.now
+    (view c.args.keeper.now) (view c.show_marks.new.keeper) c.args.rooms.counts c.args.rooms.spaces c.args.round.now
     c.seat_all.new.cells.items c.show_marks.new.logs.items c.show_marks.new.growing.items
     (subst (λ (l : Layout). CanRun l.decls c.args.round.now) (sym layout) c.requires.lines)
-    (subst (λ (l : Layout). HasNoTree l.decls) (sym layout) c.requires.kept.arrays) c.requires.rooms.counts
+    c.requires.rooms.counts c.requires.rooms.spaces
     (begun_all c.args.round.now c.args.rooms.counts (view c.args.keeper.now) (view c.show_marks.new.keeper)
     c.args.logs.now.items c.show_marks.new.logs.items c.args.growing.now.items c.show_marks.new.growing.items
     c.requires.rooms.counts c.requires.logs.0 c.requires.logs.1 shows) c.seat_all.ensures.seated)
@@ -94,7 +93,7 @@ end_all-requires-clause-cells g c =
     c.requires.rooms.counts c.requires.logs.0 c.requires.logs.1 shows in
     let ran = lent_ran g.D.Disk.tells g.D.Disk.clock g.D.Disk.image_at g.D.Disk.faults c.args.tries
     c.args.round.now c.args.words.now (view c.args.keeper.now) (view c.show_marks.new.keeper) c.args.rooms.counts
-    c.seat_all.new.cells.items c.run_beside.new.cells c.as_mut_slice.result.now c.seat_all.new.cells.len
+    c.args.rooms.spaces c.seat_all.new.cells.items c.run_beside.new.cells c.as_mut_slice.result.now c.seat_all.new.cells.len
     c.show_marks.new.logs.items c.show_marks.new.growing.items begun same len c.as_mut_slice.ensures.value
     c.seat_all.ensures.seated c.run_beside.ensures.ran in (
       c.seat_all.ensures.len,
@@ -114,7 +113,7 @@ returns-clause-ran g c =
     c.requires.rooms.counts c.requires.logs.0 c.requires.logs.1 shows in
     let ran = lent_ran g.D.Disk.tells g.D.Disk.clock g.D.Disk.image_at g.D.Disk.faults c.args.tries
     c.args.round.now c.args.words.now (view c.args.keeper.now) (view c.show_marks.new.keeper) c.args.rooms.counts
-    c.seat_all.new.cells.items c.run_beside.new.cells c.as_mut_slice.result.now c.seat_all.new.cells.len
+    c.args.rooms.spaces c.seat_all.new.cells.items c.run_beside.new.cells c.as_mut_slice.result.now c.seat_all.new.cells.len
     c.show_marks.new.logs.items c.show_marks.new.growing.items begun same len c.as_mut_slice.ensures.value
     c.seat_all.ensures.seated c.run_beside.ensures.ran in
     let stands = stand_for (view c.args.keeper.now) (view c.show_marks.new.keeper) (view c.seat_all.new.keeper)

@@ -1,5 +1,4 @@
-use Rattle.std.proofs.Common.{◌∙◌, Ok, map, subst, sym, arith}
-use Rattle.serial_bridge.specs.WriteSets.{HasNoTree}
+use Rattle.std.proofs.Common.{◌∙◌, map, subst, sym, arith}
 use Rattle.engine_pages.specs.Passes.{view}
 use Rattle.engine_pages.specs.Views.{IsActive}
 use Rattle.tx_script.specs.Run.{CanRun}
@@ -12,7 +11,6 @@ use Rattle.shared_rounds.proofs.Besides.{begins_beside, beside_ran}
 use Rattle.shared_rounds.proofs.Gathering.{gathered_so}
 use Rattle.shared_rounds.proofs.Joined.{shares_of}
 use Rattle.shared_rounds.proofs.Rounded.{clock_so, round_comes, round_kept, round_marks}
-use Rattle.shared_rounds.proofs.StillArrays.{still_arrays}
 use Rattle.shared_rounds.proofs.workers.run_workers.Goals as goal
 
 pub run_seated-ran-requires-clause-kept : goal.run_seated-ran-requires-clause-kept
@@ -53,10 +51,6 @@ invariant_of-engine g c =
       c.run_seated-ran.ensures.desks,
     )
 
-pub returns-clause-arrays : goal.returns-clause-arrays
-returns-clause-arrays g c =
-    subst (λ (s : SharedState). HasNoTree s.decls) c.engine.view_is c.engine.invariant.0.kept.arrays
-
 pub returns-clause-history : goal.returns-clause-history
 returns-clause-history g c =
     let inv = c.engine.invariant.0 in
@@ -69,20 +63,6 @@ returns-clause-history g c =
     c.args.logs.now.items c.run_seated-ran.new.logs.items c.args.growing.now.items c.run_seated-ran.new.growing.items
     c.run_seated-ran.result ran.ended inv.kept c.audit-word.result.0 c.audit-word.result.1 c.audit-word.ensures.counts)
 
-pub returns-clause-stays : goal.returns-clause-stays
-returns-clause-stays g c =
-    let inv = c.engine.invariant.0 in
-    let ran = c.run_seated-ran.ensures.ran in
-    still_arrays (view c.audit-word.new.pass) (round_kept g.D.Disk.tells g.D.Disk.clock g.D.Disk.image_at
-    g.D.Disk.faults c.args.tries c.args.round.now
-    c.engine.inside.words (view c.engine.inside.keeper) ran.behind (view c.run_seated-ran.new.keeper)
-    c.audit-word.new.pass c.engine.inside.decls c.args.logs.now.items c.run_seated-ran.new.logs.items
-    c.args.growing.now.items c.run_seated-ran.new.growing.items c.run_seated-ran.result.outcomes
-    c.run_seated-ran.result.ends.items ran.ended inv.kept
-    c.audit-word.result.0 c.audit-word.result.1 c.audit-word.ensures.counts c.audit-word.ensures.of inv.decls_are
-    c.engine.inside.clock inv.number inv.epoch c.run_seated-ran.ensures.behind
-    (ran.went.layout ∙ ran.begins.layout) (ran.went.claimed ran.begins.claimed) (ran.went.free ran.begins.free)).kept
-
 pub returns-clause-runs : goal.returns-clause-runs
 returns-clause-runs g c =
     let inv = c.engine.invariant.0 in
@@ -92,12 +72,12 @@ returns-clause-runs g c =
     c.args.tries c.args.round.now
     s (shared_by c.audit-word.new.pass c.number_at-engine-inside.result)
     c.args.logs.now.items c.run_seated-ran.new.logs.items c.args.growing.now.items c.run_seated-ran.new.growing.items
-    (Ok c.run_seated-ran.result)) c.engine.view_is
+    c.run_seated-ran.result) c.engine.view_is
     (subst (λ n. RunsBeside g.D.Disk.tells g.D.Disk.clock g.D.Disk.image_at g.D.Disk.faults did c.args.tries
     c.args.round.now
     (shared_by c.engine.inside.keeper c.engine.inside.clock) (shared_by c.audit-word.new.pass n)
     c.args.logs.now.items c.run_seated-ran.new.logs.items c.args.growing.now.items c.run_seated-ran.new.growing.items
-    (Ok c.run_seated-ran.result)) (sym c.number_at-engine-inside.ensures)
+    c.run_seated-ran.result) (sym c.number_at-engine-inside.ensures)
     (record {
       marks = map (λ (share : Share). share.marks) (shares_of ran.ended.parts);
       readied = map (λ (share : Share). share.readied) (shares_of ran.ended.parts);

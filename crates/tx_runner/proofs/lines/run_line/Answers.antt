@@ -1,8 +1,8 @@
-use Rattle.std.proofs.Common.{sym, ◌∙◌, arith, length}
+use Rattle.std.proofs.Common.{sym, ◌∙◌, arith}
 use Rattle.engine_pages.specs.Passes.{view}
 use Rattle.tx_runner.specs.Lines.{try_steps}
 use Rattle.tx_runner.proofs.Commits.{line_committed}
-use Rattle.tx_runner.proofs.Refusals.{none_tried, conflicted_more, line_ended, all_tried, tried_arrays}
+use Rattle.tx_runner.proofs.Refusals.{none_tried, conflicted_more, line_ended, all_tried, tried_fits}
 use Rattle.tx_runner.proofs.Refusals.{line_took, more_took}
 use Rattle.tx_runner.proofs.Sums.{steps_within}
 use Rattle.tx_runner.proofs.lines.run_line.Goals as goal
@@ -18,9 +18,9 @@ loop-tried-init c = record {
 pub try_line-requires-clause-over : goal.try_line-requires-clause-over
 try_line-requires-clause-over c = c.loop-tried.invariant.conflicted.tried.over
 
-pub try_line-requires-clause-arrays : goal.try_line-requires-clause-arrays
-try_line-requires-clause-arrays c = tried_arrays c.args.ops.now c.loop-tried.tried (view c.args.pass.now)
-    (view c.loop-tried.pass) c.loop-tried.invariant.conflicted c.requires.arrays
+pub try_line-requires-clause-fitting : goal.try_line-requires-clause-fitting
+try_line-requires-clause-fitting c = tried_fits c.args.ops.now c.loop-tried.tried (view c.args.pass.now)
+    (view c.loop-tried.pass) c.loop-tried.invariant.conflicted c.requires.fitting
 
 pub returns-in-Ok-clause-runs : goal.returns-in-Ok-clause-runs
 returns-in-Ok-clause-runs c =
@@ -62,5 +62,6 @@ returns-in-Some-clause-steps c = line_took c.args.ops.now c.loop-tried.tried c.a
 
 pub returns-clause-steps : goal.returns-clause-steps
 returns-clause-steps c = steps_within c.loop-tried.tried c.args.tries
-    (try_steps (view c.args.pass.now).layout.slots (length c.args.ops.now)) (view c.args.pass.now).steps
-    (view c.loop-tried.pass).steps c.loop-tried.invariant.within c.loop-tried.invariant.steps
+    (try_steps (view c.args.pass.now).layout.decls (view c.args.pass.now).layout.slots c.args.ops.now)
+    (view c.args.pass.now).steps (view c.loop-tried.pass).steps c.loop-tried.invariant.within
+    c.loop-tried.invariant.steps

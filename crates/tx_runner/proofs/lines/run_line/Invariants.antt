@@ -1,4 +1,4 @@
-use Rattle.std.proofs.Common.{ℕ, ◌+◌, ◌*◌, ◌≤◌, ◌-◌, List, length}
+use Rattle.std.proofs.Common.{ℕ, ◌+◌, ◌*◌, ◌≤◌, ◌-◌, List}
 use Rattle.serial_model.specs.declared.op.Op.{Op}
 use Rattle.engine_pages.specs.declared.engine.Engine.{Engine}
 use Rattle.engine_pages.specs.Passes.{Pass, view, IsPassOf}
@@ -11,7 +11,8 @@ pub record IsTryingAgain (engine : Engine) (old new : Pass) (ops : List Op) (tri
   pub of : IsPassOf engine new
   pub within : tried ≤ tries
   pub conflicted : HasConflicted ops tried (view old) (view new)
-  pub steps : (view new).steps ≤ (view old).steps + tried * try_steps (view old).layout.slots (length ops)
+  pub steps : (view new).steps
+      ≤ (view old).steps + tried * try_steps (view old).layout.decls (view old).layout.slots ops
 
 abbrev pub invariant-loop-tried : goal.invariant-loop-tried
 invariant-loop-tried l = IsTryingAgain l.engine l.fn.pass l.pass l.ops l.tries l.tried

@@ -1,16 +1,17 @@
 -- One line after another, and the mark behind the last one.
 use Rattle.std.proofs.Common.{◌∙◌, ◌≡◌, ◌<◌, ◌≤◌, Some, None, ap, sym, subst, refl, arith, length}
-use Rattle.std.specs.Prelude.{is_some}
+use Rattle.std.specs.Prelude.{IsTrue, is_some}
 use Rattle.std.specs.List.{AllByRecursion}
+use Rattle.serial_model.specs.Keys.{fits}
 use Rattle.script_grammar.specs.Script.{lines_of_worker}
 use Rattle.engine_pages.specs.declared.view.Role.TheVariants.{Worker}
 use Rattle.engine_pages.specs.Passes.{view}
-use Rattle.tx_runner.specs.Lines.{IsOnArray}
+use Rattle.tx_script.specs.Room.{all_words}
 use Rattle.worker_cells.specs.GateLaws.{told_none}
 use Rattle.worker_cells.specs.Gates.{IsOpen, calls_for, calls_in, is_run}
 use Rattle.worker_cells.proofs.CellLoop.{so_begin, so_layout, so_marked, so_noted, so_other, so_role, so_room}
 use Rattle.worker_cells.proofs.CellLoop.{so_step, so_tied, so_within}
-use Rattle.worker_cells.proofs.LinesOf.{HasOps, on_arrays, runnable_at}
+use Rattle.worker_cells.proofs.LinesOf.{HasOps, runnable_at, take_other, words_more, words_within}
 use Rattle.worker_cells.proofs.lines.run_cell.Goals as goal
 use Rattle.worker_cells.proofs.lines.run_cell.Goals.{in-Some, in_default}
 
@@ -21,6 +22,7 @@ loop-count-init g c = (
       (c.default-cell.ensures.0 ∙ sym (ap is_some c.requires.cell.up.up)),
   c.requires.of,
   refl,
+  omega arith,
   omega arith,
   told_none is_run c.args.cell.now.worker (IsOpen c.default-cell.result) c.args.cell.now.outcomes.told
       (calls_in c.none-calls.result) c.requires.told c.none-calls.ensures,
@@ -47,13 +49,13 @@ run_one-requires-clause-tied g c =
     let tied = c.requires.tied (λ none. omega (arith, c.loop-count-test.true, c.requires.count, ap length none)) in
     so_tied c.loop-count.invariant.0 tied.0 tied.1
 
-pub run_one-requires-clause-arrays : goal.run_one-requires-clause-arrays
-run_one-requires-clause-arrays g c =
+pub run_one-requires-clause-fitting : goal.run_one-requires-clause-fitting
+run_one-requires-clause-fitting g c =
     let decls = (view c.args.cell.now.pass).layout.decls in
-    subst (λ l. AllByRecursion (IsOnArray l.decls) c.in-Some.ops.now) (sym (so_layout c.loop-count.invariant.0))
-    (on_arrays decls c.loop-count.cell.worker c.in-Some.ops.now c.requires.arrays
+    subst (λ l. AllByRecursion (λ op. IsTrue (fits l.decls op)) c.in-Some.ops.now)
+    (sym (so_layout c.loop-count.invariant.0))
     (runnable_at decls c.loop-count.cell.worker c.args.round.now c.loop-count.index c.in-Some.ops.now c.requires.lines
-    c.in-Some.ensures))
+    c.in-Some.ensures).fitting
 
 pub run_one-requires-clause-few : goal.run_one-requires-clause-few
 run_one-requires-clause-few g c =
@@ -67,6 +69,18 @@ run_one-requires-clause-room g c =
     subst (λ n. HasOps n c.args.round.now.lines c.loop-count.index (Some c.in-Some.ops.now)) so.2 c.in-Some.ensures in
     so_room so.0 c.in-Some.ops.now c.args.cell.now.outcomes.left c.loop-count.cell.outcomes.left has c.requires.room
     so.3
+
+pub run_one-requires-clause-space : goal.run_one-requires-clause-space
+run_one-requires-clause-space g c =
+    let so = c.loop-count.invariant in
+    let has : HasOps c.args.cell.now.worker c.args.round.now.lines c.loop-count.index (Some c.in-Some.ops.now) =
+    subst (λ n. HasOps n c.args.round.now.lines c.loop-count.index (Some c.in-Some.ops.now)) so.2 c.in-Some.ensures in
+    omega (
+      arith,
+      so.4,
+      c.requires.space,
+      words_within c.args.cell.now.worker c.loop-count.index c.args.round.now.lines c.in-Some.ops.now has,
+    )
 
 pub loop-count-preserved : goal.loop-count-preserved
 loop-count-preserved g c =
@@ -87,6 +101,12 @@ loop-count-preserved g c =
               so_room so.0 w.in-Some.ops.now c.args.cell.now.outcomes.left
                   c.loop-count.cell.outcomes.left has c.requires.room so.3,
             ),
+            omega (
+              arith,
+              so.4,
+              w.run_one.ensures.space,
+              words_more c.args.cell.now.worker c.loop-count.index c.args.round.now.lines w.in-Some.ops.now has,
+            ),
             w.run_one.ensures.calls,
           )
       | in_default w ↦
@@ -96,7 +116,13 @@ loop-count-preserved g c =
             so.1,
             so.2,
             so.3,
-            so.4,
+            omega (
+              arith,
+              so.4,
+              ap all_words (take_other c.args.cell.now.worker c.args.round.now.lines c.loop-count.index
+                  (subst (λ n. HasOps n c.args.round.now.lines c.loop-count.index None) so.2 w.in_default.ensures)),
+            ),
+            so.5,
           )
     ]
 
@@ -119,4 +145,4 @@ pub returns-then-count-gt0-clause-calls : goal.returns-then-count-gt0-clause-cal
 returns-then-count-gt0-clause-calls g c =
     let so = c.loop-count.invariant in
     subst (λ n. calls_in c.loop-count.calls ≡ calls_for is_run n 0 c.loop-count.cell.outcomes.told) so.2
-    so.4.calls_are
+    so.5.calls_are

@@ -2,7 +2,8 @@
 use Rattle.std.proofs.Common.{◌∙◌, ◌+◌, ◌++◌, ◌∷◌, [], ap, refl, subst, sym, inl, inr, arith, Err}
 use Rattle.std.specs.List.{AllByRecursion}
 use Rattle.engine_pages.specs.Passes.{view}
-use Rattle.tx_runner.specs.Lines.{IsOnArray}
+use Rattle.std.specs.Prelude.{IsTrue}
+use Rattle.serial_model.specs.Keys.{fits}
 use Rattle.tx_script.specs.declared.outcome.Outcome.TheVariants.{Unrun}
 use Rattle.tx_script.specs.Room.{RoomState}
 use Rattle.worker_cells.proofs.Moves.{down_by}
@@ -36,10 +37,10 @@ returns-in-Err-clause-calls g c =
     (ap (λ (r : RoomState). r.told) c.push_refused-in-Err.ensures) refl
     (fault_shut c.in-Err.fault c.end_by-cell.result c.end_by-cell.ensures.full c.end_by-cell.ensures.failed)
 
-pub run_logged-requires-clause-arrays : goal.run_logged-requires-clause-arrays
-run_logged-requires-clause-arrays g c =
-    subst (λ l. AllByRecursion (IsOnArray l.decls) c.args.ops.now) (sym c.in-Ok.ensures.readies.goes.layout)
-    c.requires.arrays
+pub run_logged-requires-clause-fitting : goal.run_logged-requires-clause-fitting
+run_logged-requires-clause-fitting g c =
+    subst (λ l. AllByRecursion (λ op. IsTrue (fits l.decls op)) c.args.ops.now)
+    (sym c.in-Ok.ensures.readies.goes.layout) c.requires.fitting
 
 pub returns-then-is_refused-clause-calls : goal.returns-then-is_refused-clause-calls
 returns-then-is_refused-clause-calls g c =
@@ -61,3 +62,9 @@ returns-in-Ok-clause-calls g c =
     (calls_both c.args.cell.now.worker c.args.count (calls_in c.args.calls.now) (calls_in c.enter.new.calls)
     (calls_in c.leave.new.calls) c.enter.ensures.noted
     (c.leave.ensures.noted ∙ ap (λ n. calls_in c.enter.new.calls ++ After n c.args.count ∷ []) same)))
+
+pub returns-in-Err-clause-space : goal.returns-in-Err-clause-space
+returns-in-Err-clause-space g c = omega (arith, ap (λ (r : RoomState). r.space) c.push_refused-in-Err.ensures)
+
+pub returns-then-is_refused-clause-space : goal.returns-then-is_refused-clause-space
+returns-then-is_refused-clause-space g c = omega (arith, ap (λ (r : RoomState). r.space) c.push_refused.ensures)

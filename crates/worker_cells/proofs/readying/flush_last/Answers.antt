@@ -20,7 +20,8 @@ pub returns-clause-readies : goal.returns-clause-readies
 returns-clause-readies g c = record {
   fault = refusal c.flush_and_mark-marked.result;
   readies = readies_so c.load_epoch-clock.result (view c.args.pass.now) (view c.load_epoch-clock.new.pass)
-      (view c.show_mark.new.pass) c.mark-shown.result c.flush_and_mark-marked.new.self.mark (refusal c.flush_and_mark-marked.result)
+      (view c.show_mark.new.pass) c.mark-shown.result c.flush_and_mark-marked.new.self.mark
+      (refusal c.flush_and_mark-marked.result)
       c.load_epoch-clock.ensures.seen c.show_mark.ensures.goes c.show_mark.ensures.over c.show_mark.ensures.epoch
       c.flush_and_mark-marked.ensures.moves c.mark-shown.ensures.mark refl c.show_mark.ensures.shows
       c.show_mark.ensures.last c.show_mark.ensures.steps;

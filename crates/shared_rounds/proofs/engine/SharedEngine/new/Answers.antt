@@ -14,7 +14,7 @@ invariant_of-result c =
     let first-is = ap (λ (v : View). v.layout.first.draw) made.1 in (
       record {
         of = made.0;
-        kept = first_kept c.args.start _ c.requires.can c.requires.arrays
+        kept = first_kept c.args.start _ c.requires.can
             (opens_declared c.args.start c.requires.can c.first-clock.ensures.read) made.1 made.2;
         decls_are = c.requires.decls ∙ ap (λ (v : View). v.layout.decls) (sym made.1);
         number = subst IsNumber (sym c.first-clock.ensures.value) c.requires.can.opens.number;

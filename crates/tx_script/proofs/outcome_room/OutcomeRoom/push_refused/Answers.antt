@@ -9,13 +9,14 @@ use Rattle.tx_script.proofs.outcome_room.OutcomeRoom.push_refused.Goals as goal
 pub invariant_of-self : goal.invariant_of-self
 invariant_of-self c = (
   rw (c.push_reserved.ensures.items, c.head_of_refused.ensures) (refused_are _ _ _ c.self.invariant.0 refl),
-  omega (arith, c.push_reserved.ensures.len, c.push_reserved.ensures.capacity, c.self.invariant.1),
+  c.self.invariant.1,
 )
 
 pub returns : goal.returns
 returns c =
     let left = ap (λ (r : RoomState). r.left) c.self.view_is in
-    one_more c.args.self.now (outcome_refused c.args.refused) _ _
+    one_more c.args.self.now (outcome_refused c.args.refused) 0 _ _ _
     (rw (c.push_reserved.ensures.items, c.head_of_refused.ensures)
     (refused_in _ _ _ _ c.args.refused c.self.invariant.0 refl refl (ap (λ (r : RoomState). r.told) c.self.view_is)))
     (omega (arith, c.push_reserved.ensures.len, c.push_reserved.ensures.capacity, left))
+    (omega (arith, ap (λ (r : RoomState). r.space) c.self.view_is))

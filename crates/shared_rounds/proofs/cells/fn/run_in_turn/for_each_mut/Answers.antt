@@ -7,9 +7,9 @@ run_cell-requires g c = record {
   tied = c.requires.1.tied;
   worker = (c.requires.1.role, c.requires.1.small);
   lines = c.requires.1.lines;
-  arrays = c.requires.1.arrays;
   told = c.requires.1.none;
   count = c.requires.1.count;
   room = c.requires.1.room;
+  space = c.requires.1.space;
   tries = c.requires.0;
 }

@@ -1,4 +1,0 @@
-pub mod Plainly
-pub mod Parts
-pub mod Steps
-pub mod InTurn

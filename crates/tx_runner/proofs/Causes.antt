@@ -1,0 +1,388 @@
+-- Why an operation is refused.
+use Rattle.std.proofs.Common.{◌≡◌, ◌≢◌, ◌⊎◌, inl, inr, ℕ, ◌+◌, ◌/◌, ◌%◌, ◌^◌, ◌≤◌, true, false, [], ◌∷◌}
+use Rattle.std.proofs.Common.{◌++◌, length, Option, Some, None, Result, Ok, Err, sym, ap, ◌∙◌, subst, arith}
+use Rattle.std.specs.Prelude.{IfErr, nat_lt, ⊤}
+use Rattle.std.proofs.lemmas.List.{append-nil}
+use Rattle.std.proofs.lemmas.Bool.Decides.{nat_tests}
+use Rattle.serial_model.specs.declared.key.Key.{Key}
+use Rattle.serial_model.specs.declared.op.Op.{Op}
+use Rattle.serial_model.specs.declared.op.Op.TheVariants.{Scan}
+use Rattle.serial_model.specs.declared.reply.Verdict.{Verdict}
+use Rattle.serial_model.specs.Decls.{AreDecls}
+use Rattle.serial_model.specs.State.{is_within}
+use Rattle.homes.specs.declared.places.At.{At}
+use Rattle.homes.specs.declared.places.At.TheVariants.{Root, In}
+use Rattle.homes.specs.declared.places.Span.{Span}
+use Rattle.wire_form.specs.Leaves.{tree_leaf, word_in}
+use Rattle.tx_sets.specs.declared.sets.Sets.{Sets}
+use Rattle.tx_sets.specs.Gathered.{has_read_room}
+use Rattle.engine_pages.specs.declared.layout.Layout.{Layout}
+use Rattle.engine_pages.specs.declared.view.RefusalCause.{RefusalCause}
+use Rattle.engine_pages.specs.declared.view.RefusalCause.TheVariants as refusals
+use Rattle.engine_pages.specs.declared.view.View.{View}
+use Rattle.engine_pages.specs.Pages.{is_array, is_tree}
+use Rattle.engine_pages.specs.Pointers.{IsPointerAt}
+use Rattle.engine_pages.specs.Views.{seat_number}
+use Rattle.page_commit.specs.Calls.{op_holds, IsFullOf, IsSlotConflict, RefusesAlter, RefusesRead, RefusesWrite}
+use Rattle.page_commit.specs.Places.{ground, slot_of, tree_spot, IsTreeKeyIn}
+use Rattle.page_commit.specs.Turning.{IsHeaderOver, IsTreePointerOver, MayWrite, OnlyWalked}
+use Rattle.tree_calls.specs.Causes.{IsWordConflict, RefusesTreeRead}
+use Rattle.tree_ranges.specs.Causes.{RefusesScan}
+use Rattle.tree_writes.specs.Causes.{IsGrowConflict, RefusesTreeAlter, RefusesTreeWrite}
+use Rattle.tx_runner.specs.Lines.{IsOfKey, IsOnTree}
+use Rattle.tx_runner.specs.Steps.{IsOpCause, IsOpConflict, IsOpFull, IsOpWhy}
+use Rattle.tx_runner.specs.Tries.{IsBesideRecords, IsChangedAt, IsOfArray, IsPageWord, TouchesOnly, blame_at}
+use Rattle.tx_runner.proofs.Arrays.{written_at}
+use Rattle.tx_runner.proofs.Touched.{touches_then, trees_locked, untouched}
+
+-- ---- on arrays
+
+some_none : (k : Key) → Some k ≡ None → ⊥
+some_none k same = absurd cc
+
+-- records and headers fill their set
+no_room : (sets : Sets) → has_read_room sets ≡ false → 256 ≤ length sets.reads + length sets.headers
+no_room sets none =
+    let is : nat_lt (length sets.reads + length sets.headers) 256 ≡ false = none in grind (arith, nat_tests)
+
+pub read_cause : (op : Op) (sets new : Sets) (k : Key) (why : RefusalCause) (v w : View) → IsOfKey op k
+    → is_array v.layout.decls k.storage ≡ true → length new.holds ≤ length sets.holds + op_holds
+    → RefusesRead sets new k why v w → IsOpCause op sets why v w
+read_cause op sets new k (refusals.Conflict at expected seen) v w of array grows r = record {
+  draws = r.2;
+  touched = untouched (op ∷ []) v w r.4;
+  cause = elim r.3 [
+    | inl here ↦ record {
+      met = Some k;
+      key = λ q is. let same : k ≡ q = cc in subst (IsOfKey op) same of;
+      array = array;
+      place = λ none. absurd (some_none k none);
+      cause = here.0.conflict.cause;
+      blamed = here.0.blamed;
+    }
+    | inr pointer ↦ record {
+      met = None;
+      key = λ q is. absurd cc;
+      array = tt;
+      place = λ none. inr (k, of, inl pointer.2);
+      cause = pointer.0.cause;
+      blamed = pointer.1 ∙ sym (append-nil v.blamed);
+    }
+  ];
+}
+read_cause op sets new k (refusals.Full told) v w of array grows r = absurd r
+read_cause op sets new k (refusals.Wide set) v w of array grows r = record {
+  draws = r.2;
+  touched = untouched (op ∷ []) v w r.4;
+  cause = inr (λ few. elim r.3 [
+    | inl reads ↦ let full = no_room sets reads.1 in absurd (omega (arith, full, few.reads, few.headers))
+    | inr other ↦ elim other [
+      | inl holds ↦
+          let most : length sets.holds ≤ 90 = few.holds in
+          let more : length new.holds ≤ length sets.holds + 6 = grows in
+          absurd (omega (arith, holds.1, most, more))
+      | inr pointers ↦ absurd (omega (arith, pointers.1, few.pointers))
+    ]
+  ]);
+}
+read_cause op sets new k (refusals.NumberLimit clock) v w of array grows r = absurd r
+
+-- at a slot, or beside the record of a key
+slot_conflict : (op : Op) (at expected seen : ℕ) (v w : View) → IsSlotConflict at expected seen v w
+    → w.blamed ≡ v.blamed → IsOpConflict op at expected seen v w
+slot_conflict op at expected seen v w slot blamed = record {
+  met = None;
+  key = λ q is. absurd cc;
+  array = tt;
+  place = λ none. inl (slot.slot, slot.within, slot.place);
+  cause = inr slot.other;
+  blamed = blamed ∙ sym (append-nil v.blamed);
+}
+
+-- no slot was usable
+full_of : (op : Op) (k : Key) (told : Option (ℕ × ℕ)) (v w : View) → MayWrite op k → IsFullOf told v w
+    → IsOpFull op told v w
+full_of op k told v w may full = record {
+  key = k;
+  writes = may;
+  words = full.words;
+  all = record {
+    count = full.count;
+    taken = full.taken;
+    step = full.step;
+    since = full.since;
+    looked = full.looked;
+  };
+  told_is = full.held;
+}
+
+pub write_cause : (op : Op) (sets new : Sets) (k : Key) (why : RefusalCause) (v w : View) → MayWrite op k
+    → length new.holds ≤ length sets.holds + op_holds → RefusesWrite sets new k why v w → IsOpCause op sets why v w
+write_cause op sets new k (refusals.Conflict at expected seen) v w may grows r = record {
+  draws = r.2;
+  touched = untouched (op ∷ []) v w r.5;
+  cause = elim r.3 [
+    | inl pointer ↦ record {
+      met = None;
+      key = λ q is. absurd cc;
+      array = tt;
+      place = λ none. inr (k, written_at op k may, inl pointer.1);
+      cause = pointer.0.cause;
+      blamed = r.4 ∙ sym (append-nil v.blamed);
+    }
+    | inr slot ↦ slot_conflict op at expected seen v w slot r.4
+  ];
+}
+write_cause op sets new k (refusals.Full told) v w may grows r = record {
+  draws = r.2;
+  touched = untouched (op ∷ []) v w r.4;
+  cause = full_of op k told v w may r.3;
+}
+write_cause op sets new k (refusals.Wide set) v w may grows r = record {
+  draws = r.1;
+  touched = untouched (op ∷ []) v w r.3;
+  cause = inr (λ few. elim r.2 [
+    | inl writes ↦ absurd (omega (arith, writes.1, few.writes))
+    | inr holds ↦
+        let most : length sets.holds ≤ 90 = few.holds in
+        let more : length new.holds ≤ length sets.holds + 6 = grows in
+        absurd (omega (arith, holds.2, most, more))
+  ]);
+}
+write_cause op sets new k (refusals.NumberLimit clock) v w may grows r = absurd r
+
+-- an addition or a subtraction may write its key
+alter_cause : (op : Op) (sets new : Sets) (k : Key) (why : RefusalCause) (v w : View) → IsOfKey op k → MayWrite op k
+    → is_array v.layout.decls k.storage ≡ true → length new.holds ≤ length sets.holds + op_holds
+    → RefusesAlter sets new k why v w → IsOpCause op sets why v w
+alter_cause op sets new k why v w of may array grows (inl r) = write_cause op sets new k why v w may grows r
+alter_cause op sets new k why v w of may array grows (inr r) = read_cause op sets new k why v w of array grows r.1
+
+pub alters_caused : (r : Result Verdict RefusalCause) (op : Op) (sets new : Sets) (k : Key) (v w : View) → IsOfKey op k
+    → MayWrite op k → is_array v.layout.decls k.storage ≡ true → length new.holds ≤ length sets.holds + op_holds
+    → IfErr r (λ why. RefusesAlter sets new k why v w) → IfErr r (λ why. IsOpCause op sets why v w)
+alters_caused (Ok verdict) op sets new k v w of may array grows a = tt
+alters_caused (Err why) op sets new k v w of may array grows a =
+    alter_cause op sets new k why v w of may array grows a
+
+-- ---- words of trees
+
+pub pointer_word : (v : View) (x : At) (sp : Span) (at : ℕ) → AreDecls v.layout.decls → IsPointerAt v x sp at
+    → IsPageWord v.layout at
+pointer_word v (Root r) sp at are is =
+    let few = are.few in let less = is.0 in let place = is.2 in inl (omega (arith, few, less, place))
+pointer_word v (In y) sp at are (inl child) = inr (y.slot, y.index, child.word)
+pointer_word v (In y) sp at are (inr branch) = inr (y.slot, 4 + y.index, branch.word)
+
+pub met_word : (v : View) (k : Key) (at : ℕ) → AreDecls v.layout.decls → IsTreePointerOver v k at
+    → IsPageWord v.layout at
+met_word v k at are over = pointer_word v over.place over.span at are over.is
+
+pub header_word : (v : View) (k : Key) (at : ℕ) → IsHeaderOver v k at → IsPageWord v.layout at
+header_word v k at over = inr (over.way.slot, 0, over.word)
+
+pub record_word : (v : View) (k : Key) (at : ℕ) → IsTreeKeyIn (ground v) k at → IsPageWord v.layout at
+record_word v k at here =
+    inr (slot_of v.layout.slots at, word_in tree_leaf (tree_spot v.layout.slots at).index, here.word)
+
+-- a record's word with the lock bit is a great number
+pub locked_high : (seen expected : ℕ) → ((seen / 2 ^ 60) % 2 ≡ 1) ⊎ (seen ≢ expected)
+    → (2 ^ 60 ≤ seen) ⊎ (seen ≢ expected)
+locked_high seen expected (inl locked) = inl (omega (arith, locked))
+locked_high seen expected (inr other) = inr other
+
+-- a conflict at such a word, for a key of a tree
+page_conflict : (op : Op) (k : Key) (at expected seen : ℕ) (v w : View) → IsOfKey op k
+    → is_tree v.layout.decls k.storage ≡ true → IsPageWord v.layout at → IsChangedAt None expected seen
+    → w.blamed ≡ v.blamed → IsOpConflict op at expected seen v w
+page_conflict op k at expected seen v w of tree word changed blamed = record {
+  met = None;
+  key = λ q is. absurd cc;
+  array = tt;
+  place = λ none. inr (k, of, inr (tree, word));
+  cause = changed;
+  blamed = blamed ∙ sym (append-nil v.blamed);
+}
+
+walked_layout : (v u : View) → OnlyWalked v u → u.layout ≡ v.layout
+walked_layout v u only = ap (λ (x : View). x.layout) only.is
+
+-- as the pass knew pages by then
+word_before : (v u : View) (at : ℕ) → OnlyWalked v u → IsPageWord u.layout at → IsPageWord v.layout at
+word_before v u at only word = subst (λ (l : Layout). IsPageWord l at) (walked_layout v u only) word
+
+decls_then : (v u : View) → OnlyWalked v u → AreDecls v.layout.decls → AreDecls u.layout.decls
+decls_then v u only are = subst (λ (l : Layout). AreDecls l.decls) (sym (walked_layout v u only)) are
+
+word_conflict : (op : Op) (sets : Sets) (k : Key) (at expected seen : ℕ) (v w : View) → IsOfKey op k
+    → AreDecls v.layout.decls → is_tree v.layout.decls k.storage ≡ true → IsWordConflict sets k at expected seen v w
+    → w.blamed ≡ v.blamed → IsOpConflict op at expected seen v w
+word_conflict op sets k at expected seen v w of are tree (u, only, met) blamed = elim met [
+  | inl pointer ↦ page_conflict op k at expected seen v w of tree
+      (word_before v u at only (met_word u k at (decls_then v u only are) pointer.1)) pointer.0.cause blamed
+  | inr other ↦ elim other [
+    | inl header ↦ page_conflict op k at expected seen v w of tree
+        (word_before v u at only (header_word u k at header.1)) header.0.cause blamed
+    | inr here ↦ page_conflict op k at expected seen v w of tree
+        (word_before v u at only (record_word u k at here.1)) (locked_high seen expected here.0.cause) blamed
+  ]
+]
+
+grow_conflict : (op : Op) (sets : Sets) (k : Key) (at expected seen : ℕ) (v w : View) → IsOfKey op k
+    → AreDecls v.layout.decls → is_tree v.layout.decls k.storage ≡ true → IsGrowConflict sets k at expected seen v w
+    → w.blamed ≡ v.blamed → IsOpConflict op at expected seen v w
+grow_conflict op sets k at expected seen v w of are tree (u, only, met) blamed = elim met [
+  | inl pointer ↦ page_conflict op k at expected seen v w of tree
+      (word_before v u at only (met_word u k at (decls_then v u only are) pointer.1)) pointer.0.cause blamed
+  | inr other ↦ elim other [
+    | inl header ↦ page_conflict op k at expected seen v w of tree
+        (word_before v u at only (header_word u k at header.1)) header.0.cause blamed
+    | inr here ↦ page_conflict op k at expected seen v w of tree
+        (word_before v u at only (record_word u here.key at here.place)) (locked_high seen expected here.cause) blamed
+  ]
+]
+
+-- ---- on trees
+
+pub tree_read_cause : (op : Op) (sets new : Sets) (k : Key) (why : RefusalCause) (v w : View) → IsOfKey op k
+    → AreDecls v.layout.decls → is_tree v.layout.decls k.storage ≡ true → IsOnTree v.layout.decls op
+    → RefusesTreeRead sets new k why v w → IsOpCause op sets why v w
+tree_read_cause op sets new k (refusals.Conflict at expected seen) v w of are tree on r = record {
+  draws = r.2;
+  touched = untouched (op ∷ []) v w r.5;
+  cause = word_conflict op sets k at expected seen v w of are tree r.3 r.4;
+}
+tree_read_cause op sets new k (refusals.Full told) v w of are tree on r = absurd r
+tree_read_cause op sets new k (refusals.Wide set) v w of are tree on r = record {
+  draws = r.2;
+  touched = untouched (op ∷ []) v w r.4;
+  cause = inl on;
+}
+tree_read_cause op sets new k (refusals.NumberLimit clock) v w of are tree on r = absurd r
+
+pub tree_write_cause : (op : Op) (first sets new : Sets) (k : Key) (why : RefusalCause) (v w : View) → MayWrite op k
+    → AreDecls v.layout.decls → is_tree v.layout.decls k.storage ≡ true → IsOnTree v.layout.decls op
+    → RefusesTreeWrite sets new k why v w → IsOpCause op first why v w
+tree_write_cause op first sets new k (refusals.Conflict at expected seen) v w may are tree on r = record {
+  draws = r.2;
+  touched = trees_locked op k v w may tree r.5;
+  cause = elim r.3 [
+    | inl grow ↦ grow_conflict op sets k at expected seen v w (written_at op k may) are tree grow r.4
+    | inr slot ↦ slot_conflict op at expected seen v w slot r.4
+  ];
+}
+tree_write_cause op first sets new k (refusals.Full told) v w may are tree on r = record {
+  draws = r.2;
+  touched = trees_locked op k v w may tree r.5;
+  cause = full_of op k told v w may r.3;
+}
+tree_write_cause op first sets new k (refusals.Wide set) v w may are tree on r = record {
+  draws = r.1;
+  touched = trees_locked op k v w may tree r.4;
+  cause = inl on;
+}
+tree_write_cause op first sets new k (refusals.NumberLimit clock) v w may are tree on r = absurd r
+
+-- ---- behind walks
+
+-- the same conflict since before
+pub conflict_since : (op : Op) (at expected seen : ℕ) (v u w : View) → OnlyWalked v u
+    → IsOpConflict op at expected seen u w → IsOpConflict op at expected seen v w
+conflict_since op at expected seen v u w only c = record {
+  met = c.met;
+  key = c.key;
+  array = subst (λ (l : Layout). IsOfArray l.decls c.met) (walked_layout v u only) c.array;
+  place = λ none. subst (λ (l : Layout). IsBesideRecords l (IsOfKey op) at) (walked_layout v u only) (c.place none);
+  cause = c.cause;
+  blamed = c.blamed ∙ ap (λ (x : View). x.blamed ++ blame_at (seat_number x.role) c.met) only.is;
+}
+
+pub full_since : (op : Op) (told : Option (ℕ × ℕ)) (v u w : View) → OnlyWalked v u → IsOpFull op told u w
+    → IsOpFull op told v w
+full_since op told v u w only c = record {
+  key = c.key;
+  writes = c.writes;
+  words = c.words;
+  all = record {
+    count = c.all.count ∙ ap (λ (l : Layout). l.slots) (walked_layout v u only);
+    taken = c.all.taken;
+    step = c.all.step;
+    since = let first = only.since in let later = c.all.since in omega (arith, first, later);
+    looked = c.all.looked;
+  };
+  told_is = c.told_is;
+}
+
+-- an operation on a tree was refused behind walks of its own
+pub cause_since : (op : Op) (sets : Sets) (why : RefusalCause) (v u w : View) → OnlyWalked v u
+    → TouchesOnly (op ∷ []) v u → IsOnTree v.layout.decls op → IsOpCause op sets why u w → IsOpCause op sets why v w
+cause_since op sets why v u w only touches on c = record {
+  draws = c.draws ∙ ap (λ (x : View). x.draws) only.is;
+  touched = touches_then (op ∷ []) v u w (walked_layout v u only) (ap (λ (x : View). x.role) only.is) touches c.touched;
+  cause = by_why why c.cause;
+}
+  where
+    by_why : (y : RefusalCause) → IsOpWhy op sets y u w → IsOpWhy op sets y v w
+    by_why (refusals.Conflict at expected seen) c = conflict_since op at expected seen v u w only c
+    by_why (refusals.Full told) c = full_since op told v u w only c
+    by_why (refusals.Wide set) c = inl on
+    by_why (refusals.NumberLimit clock) c = absurd c
+
+-- an addition, a subtraction or a removal in a tree
+pub tree_alter_cause : (op : Op) (sets new : Sets) (k : Key) (why : RefusalCause) (v w : View) → IsOfKey op k
+    → MayWrite op k → AreDecls v.layout.decls → is_tree v.layout.decls k.storage ≡ true → IsOnTree v.layout.decls op
+    → RefusesTreeAlter sets new k why v w → IsOpCause op sets why v w
+tree_alter_cause op sets new k why v w of may are tree on (inl r) =
+    tree_write_cause op sets sets new k why v w may are tree on r
+tree_alter_cause op sets new k why v w of may are tree on (inr (inl r)) =
+    tree_read_cause op sets new k why v w of are tree on r.1
+tree_alter_cause op sets new k why v w of may are tree on (inr (inr r)) =
+    let b = r.1 in
+    let same = walked_layout v b.then b.walked in
+    cause_since op sets why v b.then w b.walked (trees_locked op k v b.then may tree b.walked.touches) on
+    (tree_write_cause op sets b.sets new k why b.then w may (decls_then v b.then b.walked are)
+    (subst (λ (l : Layout). is_tree l.decls k.storage ≡ true) (sym same) tree)
+    (subst (λ (l : Layout). IsOnTree l.decls op) (sym same) on) b.cause)
+
+pub tree_writes_caused : (r : Result ⊤ RefusalCause) (op : Op) (sets new : Sets) (k : Key) (v w : View)
+    → MayWrite op k → AreDecls v.layout.decls → is_tree v.layout.decls k.storage ≡ true → IsOnTree v.layout.decls op
+    → IfErr r (λ why. RefusesTreeWrite sets new k why v w) → IfErr r (λ why. IsOpCause op sets why v w)
+tree_writes_caused (Ok x) op sets new k v w may are tree on a = tt
+tree_writes_caused (Err why) op sets new k v w may are tree on a =
+    tree_write_cause op sets sets new k why v w may are tree on a
+
+pub tree_alters_caused : (r : Result Verdict RefusalCause) (op : Op) (sets new : Sets) (k : Key) (v w : View)
+    → IsOfKey op k → MayWrite op k → AreDecls v.layout.decls → is_tree v.layout.decls k.storage ≡ true
+    → IsOnTree v.layout.decls op → IfErr r (λ why. RefusesTreeAlter sets new k why v w)
+    → IfErr r (λ why. IsOpCause op sets why v w)
+tree_alters_caused (Ok verdict) op sets new k v w of may are tree on a = tt
+tree_alters_caused (Err why) op sets new k v w of may are tree on a =
+    tree_alter_cause op sets new k why v w of may are tree on a
+
+-- ---- scans
+
+-- the key of the storage with this number
+abbrev key_in : ℕ → ℕ → Key
+key_in storage n = record { storage = storage; key = n }
+
+-- if it is from the low to the high one it is in the range
+in_range : (storage low high n : ℕ) → low ≤ n → n ≤ high → is_within storage low high (key_in storage n) ≡ true
+in_range storage low high n from to = grind (arith, nat_tests)
+
+pub scan_cause : (storage low high : ℕ) (sets new : Sets) (why : RefusalCause) (v w : View) → AreDecls v.layout.decls
+    → is_tree v.layout.decls storage ≡ true → IsOnTree v.layout.decls (Scan storage low high)
+    → RefusesScan sets new storage low high why v w → IsOpCause (Scan storage low high) sets why v w
+scan_cause storage low high sets new (refusals.Conflict at expected seen) v w are tree on r = record {
+  draws = r.draws;
+  touched = untouched (Scan storage low high ∷ []) v w r.touched;
+  cause = let c = r.cause in
+      word_conflict (Scan storage low high) new (key_in storage r.key) at expected seen v w
+      (in_range storage low high r.key r.from r.to) are tree c.0 c.1;
+}
+scan_cause storage low high sets new (refusals.Full told) v w are tree on r = absurd r.cause
+scan_cause storage low high sets new (refusals.Wide set) v w are tree on r = record {
+  draws = r.draws;
+  touched = untouched (Scan storage low high ∷ []) v w r.touched;
+  cause = inl on;
+}
+scan_cause storage low high sets new (refusals.NumberLimit clock) v w are tree on r = absurd r.cause

@@ -12,7 +12,7 @@ const TYPED: &[u8] =
     b"foedus: reading the script from the terminal; it ends with Ctrl-D on a line of its own, and is run then\n";
 
 // Where there is no memory for it, or it can't be written, nothing else is missing.
-fn put<N: Sink>(notes: &mut N, text: Result<String, AllocError>) {
+pub(crate) fn put<N: Sink>(notes: &mut N, text: Result<String, AllocError>) {
     if let Ok(text) = text {
         let _ = notes.write(text.as_bytes());
     }

@@ -18,6 +18,9 @@ pub trait Remembers {
     /// Whether the front is all that was read.
     fn is_whole(&self) -> bool;
 
+    /// How many of the lines are those of transactions, which begin with a digit.
+    fn lines(&self) -> u64;
+
     /// Whether a person types the bytes, as far as is known.
     fn is_typed(&self) -> bool;
 }
@@ -31,6 +34,28 @@ pub struct ScriptSource<S: Source + Drop> {
     is_typed: bool,
     // The bytes that were read.
     count: u64,
+    lines: LineStarts,
+}
+
+// How many lines began with a digit so far, and whether the next byte begins a line.
+#[derive(Clone, Copy)]
+struct LineStarts {
+    count: u64,
+    is_start: bool,
+}
+
+impl LineStarts {
+    // With bytes that go on where those before them ended.
+    fn with(self, bytes: &[u8]) -> Self {
+        let mut lines = self;
+        for byte in bytes {
+            if lines.is_start && byte.is_ascii_digit() {
+                lines.count = lines.count.saturating_add(1);
+            }
+            lines.is_start = *byte == b'\n';
+        }
+        lines
+    }
 }
 
 impl<S: Source + Drop> ScriptSource<S> {
@@ -44,6 +69,10 @@ impl<S: Source + Drop> ScriptSource<S> {
             is_whole: true,
             is_typed,
             count: 0,
+            lines: LineStarts {
+                count: 0,
+                is_start: true,
+            },
         }
     }
 }
@@ -79,6 +108,10 @@ impl<S: Source + Drop> Remembers for ScriptSource<S> {
         self.is_whole
     }
 
+    fn lines(&self) -> u64 {
+        self.lines.count
+    }
+
     fn is_typed(&self) -> bool {
         self.is_typed
     }
@@ -96,6 +129,7 @@ impl<S: Source + Drop> Source for ScriptSource<S> {
     fn read(&mut self, buf: &mut [u8]) -> Result<usize, Failed> {
         let count = self.source.read(buf)?;
         self.count = self.count.saturating_add(count as u64);
+        self.lines = self.lines.with(&buf[..count]);
         if self.is_whole {
             self.is_whole = keep(&mut self.front, &buf[..count]);
         }

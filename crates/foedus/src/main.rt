@@ -2,7 +2,7 @@
 //! and which snapshots it has, or makes a script. What it promises, `program_calls::top` states.
 #![tactic(auto)]
 
-use call_notes::ScriptSource;
+use call_notes::{CountingSink, ScriptSource};
 use outside::{StdSink, StdSource};
 use program_entry::{Cleared, Progress, read_args, run_program};
 use std::io::IsTerminal;
@@ -17,7 +17,7 @@ fn main(rt: HostRuntime) -> ExitCode {
         read_args(&rt),
         "vault",
         &mut ScriptSource::new(rt.alloc(), StdSource::new(&rt), is_typed),
-        &mut Cleared::new(&progress, StdSink::new(&rt)),
+        &mut CountingSink::new(Cleared::new(&progress, StdSink::new(&rt))),
         &mut Cleared::new(&progress, StdSink::new(&errors)),
         &mut Cleared::new(&progress, StdSink::new(&errors)),
         &progress,

@@ -2,7 +2,7 @@
 use super::folders::check_file;
 use super::*;
 use call_fixtures::{Ending, run_program};
-use call_notes::{ScriptSource, explanation};
+use call_notes::{CountingSink, ScriptSource, explanation};
 use std::fs::{self, File, Files};
 use std::process::ExitCode;
 
@@ -18,7 +18,7 @@ fn owned_words(alloc: Global, asked: &str) -> Result<Vec<String>, Fail> {
 // What is printed, what is explained, and what is told beside it.
 #[derive(Drop)]
 struct Texts {
-    told: MemSink,
+    told: CountingSink<MemSink>,
     explained: MemSink,
     noted: MemSink,
 }
@@ -26,7 +26,7 @@ struct Texts {
 impl Texts {
     fn new(alloc: Global) -> Texts {
         Texts {
-            told: MemSink::new(alloc, Vec::new(alloc)),
+            told: CountingSink::new(MemSink::new(alloc, Vec::new(alloc))),
             explained: MemSink::new(alloc, Vec::new(alloc)),
             noted: MemSink::new(alloc, Vec::new(alloc)),
         }
@@ -79,7 +79,7 @@ fn check_program<R: Threads + Wait + Sync + Files<File = File> + AllocGlobal>(
 ) -> Result<(), Fail> {
     let (code, texts) = program_in(rt, folder, asked, script)?;
     is_so(text, code == ExitCode::from(status))?;
-    is_same(asked, texts.told.bytes(), text.as_bytes())
+    is_same(asked, texts.told.sink().bytes(), text.as_bytes())
 }
 
 fn take_name<R: Threads + Wait + Sync + Files<File = File> + AllocGlobal>(
@@ -235,7 +235,7 @@ fn check_taken<R: Threads + Wait + Sync + Files<File = File> + AllocGlobal>(
 ) -> Result<(), Fail> {
     let (code, texts) = program(rt, word, taken)?;
     is_so(text, code == ExitCode::from(status))?;
-    is_same(text, texts.told.bytes(), text.as_bytes())?;
+    is_same(text, texts.told.sink().bytes(), text.as_bytes())?;
     check_explained(texts.explained.bytes(), status, text)
 }
 
@@ -264,19 +264,19 @@ fn check_no_words<R: Threads + Wait + Sync + Files<File = File> + AllocGlobal>(
     let mut texts = Texts::new(rt.alloc());
     let code = program_without_words(rt, &mut texts);
     is_so("no words", code == ExitCode::from(8))?;
-    is_same("no words", texts.told.bytes(), b"memory\n")?;
+    is_same("no words", texts.told.sink().bytes(), b"memory\n")?;
     check_explained(texts.explained.bytes(), 8, "memory")
 }
 
 // The words after the name, the script, and what is told beside the explanation.
-const NOTED: [(&str, &str, &str); 8] = [
+const NOTED: [(&str, &str, &str); 13] = [
     (
         "dump",
         "",
         "foedus: there was no database in the folder foedus_noted, so an empty one was made there\n",
     ),
     ("dump", "", ""),
-    ("run", "array 1 4\n0 w 1 2 7\n", ""),
+    ("run", "array 1 200\n0 w 1 2 7\n", ""),
     (
         "run",
         "array 1 4\n0 d 1 2\n",
@@ -296,7 +296,35 @@ const NOTED: [(&str, &str, &str); 8] = [
     ),
     ("walk", "", "foedus: `walk` is no command\n\n"),
     ("--help", "", ""),
+    ("run --slots 4", FOUR_PAGES, ""),
+    ("run --slots 4", SIX_PAGES, FULL),
+    ("run --slots 4 --brief", SIX_PAGES, BRIEF),
+    (
+        "run --tries 1 --brief",
+        "array 1 200\n0 r 1 0; w 1 0 1\n",
+        ONE_OF_ONE,
+    ),
+    ("run --brief", "array 1 200\n0 t 1 9 1\n1 r 1 9\n", ""),
 ];
+
+// Three leaves and the page above them take four slots, and a leaf that is read takes none.
+const FOUR_PAGES: &str = "array 1 200\n0 w 1 0 1; w 1 32 1; w 1 64 1\n0 r 1 96\n";
+
+const SIX_PAGES: &str =
+    "array 1 200\n0 w 1 0 1; w 1 32 1; w 1 64 1\n0 w 1 96 1\n0 w 1 128 1\n0 r 1 128\n";
+
+const FULL: &str = "\
+foedus: full: 2 of the transactions found no free slot. Run with more --slots, or put k glean and k drop, in this order, \
+into rounds between; and the next run begins with all slots free
+";
+
+const BRIEF: &str = "\
+foedus: 2 of the 4 transactions didn't commit: they were in conflict, full or wide. Without --brief a line tells of each
+";
+
+const ONE_OF_ONE: &str = "\
+foedus: 1 of the 1 transactions didn't commit: they were in conflict, full or wide. Without --brief a line tells of each
+";
 
 fn check_noted<R: Threads + Wait + Sync + Files<File = File> + AllocGlobal>(
     rt: &R,

@@ -12,8 +12,8 @@ ghost use Rattle.program_entry.specs.Endings.{ending_unopened};
 ghost use Rattle.program_entry.specs.Entry.{AnsweredAlone, AnsweredOver, InOneOf, OrEarly};
 
 use call_notes::{
-    Asked, Remembers, USAGE, explanation, tell_causes, tell_faulty_line, tell_no_text,
-    tell_not_opened, tell_opened, tell_refused,
+    Asked, Counts, Remembers, USAGE, explanation, tell_causes, tell_faulty_line, tell_no_text,
+    tell_not_opened, tell_opened, tell_refused, tell_refused_lines,
 };
 use command_line::{Command, read_words};
 use database_files::{Access, NotOpened, fill_places, no_vault, open_vault};
@@ -47,10 +47,11 @@ pub fn read_args(rt: &(impl Env + AllocGlobal)) -> Result<Vec<String>, Ending>
 
 /// Answers the words over the database in a folder, and explains a status other than 0 on `errors`. What a person may
 /// want to know beside it, whatever the status is, stands on `notes`: why the system refused a device, which line is
-/// faulty, which word was refused, that a database was made or a script is typed.
+/// faulty, which word was refused, that a database was made or a script is typed, what to do about transactions that were
+/// full or wide.
 ///
 /// While it runs, a standard stream that is closed fails, and no file of the database has its place.
-pub fn run_program<R, S: Source + Remembers, K: Sink, E: Sink, N: Sink, G: Watcher + Sync>(
+pub fn run_program<R, S: Source + Remembers, K: Sink + Counts, E: Sink, N: Sink, G: Watcher + Sync>(
     rt: &R,
     words: Result<Vec<String>, Ending>,
     folder: &str,
@@ -93,7 +94,7 @@ where
 }
 
 /// Answers the words, or tells why they can't be had.
-fn answer<R, S: Source + Remembers, K: Sink, N: Sink, G: Watcher + Sync>(
+fn answer<R, S: Source + Remembers, K: Sink + Counts, N: Sink, G: Watcher + Sync>(
     rt: &R,
     words: Result<Vec<String>, Ending>,
     folder: &str,
@@ -140,7 +141,7 @@ fn answer_none<K: Sink, N: Sink>(sink: &mut K, notes: &mut N, ending: Ending) ->
 }
 
 /// Answers the words over the database in a folder, or over none, where they leave the database alone.
-fn answer_words<R, S: Source + Remembers, K: Sink, N: Sink, G: Watcher + Sync>(
+fn answer_words<R, S: Source + Remembers, K: Sink + Counts, N: Sink, G: Watcher + Sync>(
     rt: &R,
     words: &[String],
     folder: &str,
@@ -171,7 +172,7 @@ where
 }
 
 /// The same of texts.
-fn answer_texts<R, S: Source + Remembers, K: Sink, N: Sink, G: Watcher + Sync>(
+fn answer_texts<R, S: Source + Remembers, K: Sink + Counts, N: Sink, G: Watcher + Sync>(
     rt: &R,
     words: &[&str],
     folder: &str,
@@ -208,7 +209,7 @@ where
 }
 
 /// Runs a script on the database in a folder.
-fn answer_run<R, S: Source + Remembers, K: Sink, N: Sink, G: Watcher + Sync>(
+fn answer_run<R, S: Source + Remembers, K: Sink + Counts, N: Sink, G: Watcher + Sync>(
     rt: &R,
     words: &[&str],
     folder: &str,
@@ -237,6 +238,13 @@ where
     if status == 1 {
         tell_faulty_line(rt.alloc(), notes, source);
     }
+    tell_refused_lines(
+        rt.alloc(),
+        notes,
+        sink.printed(),
+        source.lines(),
+        status == 0,
+    );
     status
 }
 

@@ -236,6 +236,19 @@ class Loading(Folder):
             foedus(folder, "run", "--brief", "--slots", "4096", text=script)
         self.assertEqual(rows_of(foedus(folder, "dump")).splitlines(), rows)
 
+    def test_pages_of_trees(self):
+        """Keys in ascending order, which come in another one, in as many scripts as have slots for their pages."""
+        rows = [f"2 {key} 1" for key in range(20_000)]
+        storages = {2: load.Storage(2, None)}
+        writes = load.ordered([f"w {row}" for row in rows], storages)
+        scripts = list(load.scripts_of("tree 2\n", load.lines_of(writes)))
+        self.assertEqual(len(scripts), 2)
+        folder = self.new("pages")
+        for script in scripts:
+            told = foedus(folder, "run", "--brief", "--slots", "4096", text=script)
+            self.assertEqual(told.split()[1], str(script.count(";") // 15))
+        self.assertEqual(rows_of(foedus(folder, "dump")).splitlines(), rows)
+
     def test_files(self):
         self.assertEqual(tool(self.folder, "load.py", "--vault", "vault", "--out", "part", "kept.txt"), (0, "", ""))
         self.assertEqual([name for name in os.listdir(self.folder) if "part" in name], ["part1.txt"])

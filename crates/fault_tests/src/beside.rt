@@ -28,9 +28,12 @@ fn add_lines(alloc: Global, script: &mut String, count: u32) -> Result<(), Alloc
     Ok(())
 }
 
-// So many rounds, of so many lines of each worker.
-fn script_of(alloc: Global, rounds: u32, count: u32) -> Result<String, AllocError> {
-    let mut script = String::from_str(alloc, "array 1 4\n")?;
+// What the values that are added to are of.
+const STORAGES: [&str; 2] = ["array 1 4\n", "tree 1\n"];
+
+// So many rounds, of so many lines of each worker, on this storage.
+fn script_of(alloc: Global, storage: &str, rounds: u32, count: u32) -> Result<String, AllocError> {
+    let mut script = String::from_str(alloc, storage)?;
     for _ in 0..rounds {
         add_lines(alloc, &mut script, count)?;
         script.push_str(KEPT)?;
@@ -198,17 +201,29 @@ fn check_device<R: Threads + Wait + Sync + AllocGlobal>(
     Err(Fail::from("more calls than a device has"))
 }
 
+// Stops each device, where the values are of this storage.
+fn check_storage<R: Threads + Wait + Sync + AllocGlobal>(
+    rt: &R,
+    first: &Vault<MemDisk>,
+    storage: &str,
+) -> Result<(), Fail> {
+    let script = script_of(rt.alloc(), storage, 3, 2)?;
+    for device in &OTHERS {
+        check_device(rt, first, script.as_bytes(), device)?;
+    }
+    for device in &BANKS {
+        check_device(rt, first, script.as_bytes(), device)?;
+    }
+    Ok(())
+}
+
 // Wherever a device stops, what is recovered are the commits of an epoch and all before it, whatever was saved beside
 // running lines.
 #[test]
 fn a_device_stops_beside_running_lines(rt: HostRuntime) -> Result<(), Fail> {
     let first = fresh_vault(rt.alloc())?;
-    let script = script_of(rt.alloc(), 3, 2)?;
-    for device in &OTHERS {
-        check_device(&rt, &first, script.as_bytes(), device)?;
-    }
-    for device in &BANKS {
-        check_device(&rt, &first, script.as_bytes(), device)?;
+    for storage in &STORAGES {
+        check_storage(&rt, &first, storage)?;
     }
     Ok(())
 }

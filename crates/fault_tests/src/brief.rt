@@ -2,10 +2,10 @@
 use super::stops::fused_vault;
 use super::*;
 
-// One line, on threads and, where a tree is declared, on the plain map.
-pub(super) const SHARED: &[u8] = b"array 1 4\n0 w 1 2 7\n";
+// One line, on an array and on a tree.
+pub(super) const ON_AN_ARRAY: &[u8] = b"array 1 4\n0 w 1 2 7\n";
 
-pub(super) const PLAIN: &[u8] = b"array 1 4\ntree 2\n0 w 1 2 7\n";
+pub(super) const ON_A_TREE: &[u8] = b"array 1 4\ntree 2\n0 w 2 9 7\n";
 
 // The device, and the first and the last of its calls at whose failure the run ends so: its status and its text. The run
 // makes 15 calls of the save, three of the snapshots' file and three of bank 0; behind it what is kept is read by three
@@ -51,8 +51,8 @@ fn check_broken<R: Threads + Wait + Sync + AllocGlobal>(
 fn a_device_stays_broken_in_brief(rt: HostRuntime) -> Result<(), Fail> {
     let fresh = fresh_vault(rt.alloc())?;
     for row in BROKEN.lines() {
-        check_broken(&rt, &fresh, SHARED, row)?;
-        check_broken(&rt, &fresh, PLAIN, row)?;
+        check_broken(&rt, &fresh, ON_AN_ARRAY, row)?;
+        check_broken(&rt, &fresh, ON_A_TREE, row)?;
     }
     Ok(())
 }

@@ -11,22 +11,26 @@ run --brief --snap 1 # array 1 4| # 7 # limit snap|
 dump # # 0 # epoch 2|1 2 7|
 ";
 
-// Makes a long script, and runs it.
-fn make_and_run<R: Threads + Wait + Sync + AllocGlobal>(
+// Runs a script in brief, with lines of its workers at once.
+fn run_brief<R: Threads + Wait + Sync + AllocGlobal>(
     rt: &R,
-    vault: &mut Vault<MemDisk>,
+    script: &[u8],
+    text: &[u8],
 ) -> Result<(), Fail> {
-    let (made, script) = answer_anew(rt, vault, "make 7 8 65536", b"")?;
-    is_so("a script that is made", made == 0)?;
-    let text = b"commits 65536\ntotal 131072\ndurable 1\n";
-    check_answer(rt, vault, "run --brief", &script, (0, text.as_slice()))
+    let mut vault = fresh_vault(rt.alloc())?;
+    let asked = "run --brief --tries 1000000 --slots 512";
+    let (status, told) = answer_by(rt, &mut vault, asked, script, &OpenGate)?;
+    is_answer(asked, (status, &told), (0, text))
 }
 
 // The long script that everybody can make.
 #[test]
 fn a_long_script_in_brief(rt: HostRuntime) -> Result<(), Fail> {
     let mut vault = fresh_vault(rt.alloc())?;
-    make_and_run(&rt, &mut vault)
+    let (made, script) = answer_anew(&rt, &mut vault, "make 7 8 65536", b"")?;
+    is_so("a script that is made", made == 0)?;
+    let text = b"commits 65536\ntotal 131072\ndurable 1\n";
+    run_brief(&rt, &script, text.as_slice())
 }
 
 // The session of the README.

@@ -1,5 +1,5 @@
 // Whole calls: their words, scripts, statuses and texts.
-use super::{brief, drops, gleans, kept_runs, listings, slots, *};
+use super::{brief, drops, gleans, kept_runs, listings, slots, trees, *};
 
 // A save device of another length, with and without a script, and in brief.
 const A_SHORT_SAVE: &str = "\
@@ -11,7 +11,7 @@ run --brief # array 1 4|0 w 1 2 7| # 6 # damaged save 0|
 const LAST: u64 = (1 << 63) - 1;
 
 // Calls one after another over one vault: each begins where those before it ended.
-const CALLS: [(First, &str); 38] = [
+const CALLS: [(First, &str); 42] = [
     (First::Kept(0, 0, 0, 0), kept_runs::AFTER_RUNS_THAT_READ),
     (First::Kept(0, 0, 0, 0), kept_runs::AFTER_A_RUN_THAT_WROTE),
     (First::Kept(0, 0, 0, 0), kept_runs::AFTER_A_RUN_OVER_A_TREE),
@@ -68,6 +68,10 @@ const CALLS: [(First, &str); 38] = [
     (First::Fresh, drops::OF_SEVERAL_ARRAYS),
     (First::Fresh, drops::BESIDE_A_TREE),
     (First::Fresh, drops::GIVEN_AGAIN),
+    (First::Fresh, trees::A_LEAF_EACH),
+    (First::Fresh, trees::SPLIT),
+    (First::Fresh, trees::KEPT),
+    (First::Fresh, trees::ENDED_BY_ITS_OWN),
 ];
 
 fn check_first<R: Threads + Wait + Sync + AllocGlobal>(

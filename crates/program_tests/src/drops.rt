@@ -53,7 +53,7 @@ k.0 drop 0 kept 3|durable 3|0.0 ok 4:3 3 1|k.0 snap 3 new 4|k.1 drop 3 kept 0|du
 dump # # 0 # epoch 4|1 0 1|1 131071 3|
 ";
 
-// Arrays of each height, whose pages are met in one line; and a tree, beside which no page is in memory.
+// Arrays of each height, whose pages are met in one line; and one beside a tree.
 pub(super) const OF_SEVERAL_ARRAYS: &str = "\
 run # array 1 1|array 2 2|array 3 32|array 4 33|array 5 2048|array 6 2049|0 w 1 0 1; w 2 1 2; w 3 31 3; w 4 32 4; \
 w 5 2047 5; w 6 2048 6|join|k glean|k drop|0 a 3 0 9; a 6 0 9|join|k drop|0 r 1 0; r 2 1; r 3 31; r 4 32; r 5 2047; \
@@ -62,8 +62,8 @@ r 6 2048; r 6 0 # 0 # 0.0 ok 1:1|durable 1|0.0 ok 2:2|k.0 snap 1 new 11|k.1 drop
 ";
 
 pub(super) const BESIDE_A_TREE: &str = "\
-run # array 1 4|tree 2|0 w 1 2 7; w 2 9 1|k drop|join|k glean|k drop|0 r 1 2 # 0 # 0.0 ok 1:1|k.0 drop 0 kept 0|\
-durable 1|0.0 ok 2:2 7|k.0 snap 1 new 3|k.1 drop 0 kept 0|durable 2|
+run # array 1 4|tree 2|0 w 1 2 7; w 2 9 1|k drop|join|k glean|k drop|0 r 1 2 # 0 # 0.0 ok 1:1|k.0 drop 0 kept 2|\
+durable 1|0.0 ok 2:2 7|k.0 snap 1 new 3|k.1 drop 2 kept 0|durable 2|
 ";
 
 // Four slots are the page above the leaves and three of these; those of dropped pages are given again.

@@ -24,6 +24,8 @@ mod kept_runs;
 mod listings;
 #[cfg(test)]
 mod slots;
+#[cfg(test)]
+mod trees;
 
 #[cfg(test)]
 use call_fixtures::*;

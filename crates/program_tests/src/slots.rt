@@ -27,7 +27,7 @@ run # array 1 131072|0 r 1 131071; r 1 0; r 1 32; a 1 131071 1; r 1 131071|0 r 1
 dump # # 0 # epoch 4|1 0 2|1 32 3|1 131070 4|1 131071 2|
 ";
 
-// Each array has its own first page. A script with a tree takes no slots.
+// Each array has its own first page.
 pub(super) const SEVERAL_ARRAYS: &str = "\
 run --slots 4 # array 1 1|array 2 2|array 3 32|array 4 4|array 5 5|0 w 5 4 1; w 4 0 1|0 r 1 0; w 2 1 7; w 3 31 1|\
 0 a 1 0 1|0 r 1 0; r 2 1; r 3 31; r 4 0; r 5 4 # 0 # 0.0 ok 1:1|0.1 ok 1:2 0|0.2 full|0.3 ok 1:3 0 7 1 1 1|durable 1|

@@ -164,14 +164,14 @@ durable 3|",
 }
 
 // The next of some numbers.
-fn next(seed: &mut u64) -> u64 {
+pub(crate) fn next(seed: &mut u64) -> u64 {
     *seed = seed
         .wrapping_mul(6_364_136_223_846_793_005)
         .wrapping_add(1_442_695_040_888_963_407);
     *seed >> 33
 }
 
-const KEEPER_LINES: [&str; 8] = [
+pub(crate) const KEEPER_LINES: [&str; 8] = [
     "k epoch", "k save", "k glean", "k drop", "k drop", "k save", "k glean", "k drop",
 ];
 
@@ -222,12 +222,26 @@ fn mixed(alloc: Global, seed: u64, rounds: u32, count: u32) -> Result<String, Al
     Ok(script)
 }
 
-// Where the clock and the saves stand between two lines of the maintenance thread, and how many pages were dropped.
+// Where the clock and the saves stand between two lines of the maintenance thread, and how many pages were dropped, of at
+// most so many at a time.
 #[derive(Clone, Copy)]
-struct KeptSoFar {
-    epoch: u32,
-    saved: u32,
-    dropped: u32,
+pub(crate) struct KeptSoFar {
+    pub(crate) epoch: u32,
+    pub(crate) saved: u32,
+    pub(crate) dropped: u32,
+    pub(crate) pages: u32,
+}
+
+impl KeptSoFar {
+    // Of a fresh database.
+    pub(crate) fn fresh(pages: u32) -> KeptSoFar {
+        KeptSoFar {
+            epoch: 1,
+            saved: 0,
+            dropped: 0,
+            pages,
+        }
+    }
 }
 
 // Checks a line of the maintenance thread: the epoch rises by one, and a saved one is before the clock's, and never
@@ -248,7 +262,7 @@ fn check_keeper(line: &str, so_far: &mut KeptSoFar) -> Result<(), Fail> {
         }
         "drop" => {
             let kept = words.nth(1).unwrap_or("").parse::<u32>()?;
-            is_so(line, number.wrapping_add(kept) <= PAGES)?;
+            is_so(line, number.wrapping_add(kept) <= so_far.pages)?;
             so_far.dropped = so_far.dropped.wrapping_add(number);
         }
         "snap" | "none" => {}
@@ -276,35 +290,54 @@ fn check_mixed<R: AllocGlobal>(
     check_round(rt, plain, round, &workers)
 }
 
-// Runs such a script on threads in this way, and checks each round, and what the database keeps. Answers how many pages
-// were dropped.
+// Runs such a script on threads in this way over a fresh database, and checks each round, and what the database keeps.
+// Answers how many pages were dropped.
 fn run_mixed<R: Threads + Wait + Sync + AllocGlobal>(
     rt: &R,
     asked: &str,
     bytes: &[u8],
 ) -> Result<u32, Fail> {
-    let alloc = rt.alloc();
-    let Ok(script) = read_script(alloc, bytes) else {
+    let Ok(script) = read_script(rt.alloc(), bytes) else {
         return Err(Fail::from("no script"));
     };
-    let mut vault = fresh_vault(alloc)?;
-    let (status, told) = answer_by(rt, &mut vault, asked, bytes, &OpenGate)?;
-    let told = str::from_utf8(&told)?;
-    is_so(asked, status == 0 && may_tell(asked, told))?;
-    let (kept, dropped) = check_all(rt, &script, told)?;
-    check_answer(rt, &mut vault, "dump", b"", (0, kept.as_slice()))?;
-    Ok(dropped)
+    let mut vault = fresh_vault(rt.alloc())?;
+    let plain = Plain::new(rt.alloc(), script.decls())?;
+    let so_far = KeptSoFar::fresh(PAGES);
+    let (_plain, so_far) = run_next(rt, &mut vault, (asked, bytes), &script, plain, so_far)?;
+    Ok(so_far.dropped)
 }
 
-// Checks each round, and answers what the database is to keep, and how many pages were dropped.
-fn check_all<R: AllocGlobal>(rt: &R, script: &Script, told: &str) -> Result<(Vec<u8>, u32), Fail> {
+// The same over a database that keeps what the model has. Answers the model behind it.
+pub(crate) fn run_next<R: Threads + Wait + Sync + AllocGlobal>(
+    rt: &R,
+    vault: &mut Vault<MemDisk>,
+    (asked, bytes): (&str, &[u8]),
+    script: &Script,
+    plain: Plain,
+    so_far: KeptSoFar,
+) -> Result<(Plain, KeptSoFar), Fail> {
+    let mut next = anew(rt.alloc(), vault, &[])?;
+    let (status, told) = answer_by(rt, &mut next, asked, bytes, &OpenGate)?;
+    let told = str::from_utf8(&told)?;
+    is_so(asked, status == 0 && may_tell(asked, told))?;
+    let (plain, so_far) = check_all(rt, script, told, plain, so_far)?;
+    let kept = text_of(rt.alloc(), &plain, so_far.saved)?;
+    *vault = next;
+    check_answer(rt, vault, "dump", b"", (0, kept.as_slice()))?;
+    Ok((plain, so_far))
+}
+
+// Checks each round.
+fn check_all<R: AllocGlobal>(
+    rt: &R,
+    script: &Script,
+    told: &str,
+    plain: Plain,
+    so_far: KeptSoFar,
+) -> Result<(Plain, KeptSoFar), Fail> {
     let alloc = rt.alloc();
-    let mut plain = Plain::new(alloc, script.decls())?;
-    let mut so_far = KeptSoFar {
-        epoch: 1,
-        saved: 0,
-        dropped: 0,
-    };
+    let mut plain = plain;
+    let mut so_far = so_far;
     let mut lines = told.lines();
     for index in 0..script.rounds() {
         let round = script.round(index);
@@ -318,8 +351,7 @@ fn check_all<R: AllocGlobal>(rt: &R, script: &Script, told: &str) -> Result<(Vec
         so_far.saved = so_far.epoch;
         so_far.epoch = so_far.epoch.wrapping_add(1);
     }
-    let kept = text_of(alloc, &plain, so_far.saved)?;
-    Ok((kept, so_far.dropped))
+    Ok((plain, so_far))
 }
 
 // The scripts of the rows that are run to their end, and have lines of the maintenance thread's.

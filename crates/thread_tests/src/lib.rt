@@ -1,5 +1,5 @@
-//! Workers' lines on threads: they overlap and are serial, the maintenance thread's run beside them, the gate stands
-//! round each, and a round's lines are written before the next one begins.
+//! Workers' lines on threads: they overlap and are serial, on arrays and on trees, the maintenance thread's run beside
+//! them, the gate stands round each, and a round's lines are written before the next one begins.
 //!
 //! All of it is for tests alone: without them the crate is empty.
 #![tactic(auto)]
@@ -10,6 +10,8 @@ mod beside;
 mod gates;
 #[cfg(test)]
 mod threads;
+#[cfg(test)]
+mod trees;
 #[cfg(test)]
 mod written_rounds;
 

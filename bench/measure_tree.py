@@ -6,11 +6,13 @@ operations at the same keys, one operation a transaction: reads of one random ke
 1,000 and 100,000 keys. The C++ begins a tree anew where as many keys were added as it had; the others let it grow.
 
 The C++ runs them by 1, 2, 4 and 8 workers; and so do scripts, each worker's lines in a round. A script is run over a
-copy of a database whose snapshot has the tree's keys. The seconds of runs of an empty script over the same are taken
-away, the middle from the middle, the least from the least. What is left has all that a run does for a line: to read it,
-to log it, and to print its outcome; reads and scans are run in brief, writes aren't, since in brief their log entries
-are read again. SQLite and LMDB run one worker, each with Python's own time for a call, without files or syncs. The
-middle and the best are told, in transactions a second. A last table has seconds of whole runs of `make`'s scripts.
+copy of a database whose snapshot has the tree's keys: so its reads are of the snapshot's pages, and its writes put
+copies of them in. As a run has 4,096 slots, it adds at most 12,000 keys; and in the large tree updates are of keys in
+the lowest two fifths of its range, and adds in a twentieth. The seconds of runs of an empty script over the same are
+taken away, the middle from the middle, the least from the least. What is left has all that a run does for a line: to
+read it, to log it, and to print its outcome; reads and scans are run in brief, writes aren't, since in brief their log
+entries are read again. SQLite and LMDB run one worker, each with Python's own time for a call, without files or syncs.
+The middle and the best are told, in transactions a second. A last table has seconds of whole runs of `make`'s scripts.
 Between two measurements is a pause, so that other work of a busy machine isn't kept waiting for long.
 Usage: bench/measure_tree.py PROGRAM [FOLDER [LINES]], where PROGRAM is the built program. Without FOLDER in memory.
 LINES are those of each measurement, 40,000 if left out, at most 65,536; of scans a fourth.
@@ -33,11 +35,14 @@ except ImportError:
 
 TIMES = 5
 PAUSE = 0.7  # seconds
-SNAP = "8192"  # snapshot pages: some 6,500 for 100,000 keys
+SNAP = "65536"  # snapshot pages, with those of the runs that put the keys in
 SIZES = (1000, 100000)
 WORKERS = (1, 2, 4, 8)
 KINDS = ("reads", "updates", "scans", "adds")
 OPTIONS = ["--tries", "1000000", "--slots", "4096", "--snap", SNAP]
+PART = 12_500  # keys that one run puts in
+MOST_ADDED = 12_000  # by one run
+UPDATED, ADDED = 2**63 * 2 // 5, 2**63 // 20  # keys below are updated, and added, in the large tree
 MAKE = ("7", "8", "65536")
 LAST = 2**64 - 1
 
@@ -81,12 +86,31 @@ def by_hand(plain, lines):
     return {name: (statistics.median(runs), max(runs)) for name, runs in told.items()}
 
 
-def fill_script(size):
-    """A script that puts the tree's keys in, sixteen a line, and makes them a snapshot."""
-    text = ["tree 2"]
-    for at in range(0, size, 16):
-        text.append("0 " + "; ".join(f"w 2 {key_of(i)} 1" for i in range(at, min(at + 16, size))))
-    return "\n".join(text + ["join", "join", "k glean", "join"]) + "\n"
+def fill_scripts(size):
+    """Scripts that put the tree's keys in, four a line, each those of a part of its range; the last one makes them a
+    snapshot."""
+    keys = sorted(key_of(i) for i in range(size))
+    for first in range(0, size, PART):
+        part = sorted(keys[first : first + PART], key=mix)
+        lines = (part[at : at + 4] for at in range(0, len(part), 4))
+        yield "tree 2\n" + "".join("0 " + "; ".join(f"w 2 {key} 1" for key in line) + "\n" for line in lines)
+    yield "tree 2\n"
+
+
+def drawn_by_scripts(kind, size, lines):
+    """The same as `drawn`, of keys for whose pages there are slots."""
+    if kind == "adds":
+        keys, number = [], size
+        while len(keys) < min(lines, MOST_ADDED):
+            if size == SIZES[0] or key_of(number) < ADDED:
+                keys.append(key_of(number))
+            number += 1
+        return keys
+    keys = drawn(kind, size, lines)
+    if kind != "updates" or size == SIZES[0]:
+        return keys
+    low = [key_of(i) for i in range(size) if key_of(i) < UPDATED]
+    return [low[key % len(low)] for key in keys]
 
 
 def operation(kind, key):
@@ -96,9 +120,9 @@ def operation(kind, key):
 
 
 def script(kind, size, workers, lines):
-    keys = drawn(kind, size, lines)
-    text = [f"{i % workers} {operation(kind, keys[i])}" for i in range(lines)]
-    return "\n".join(["tree 2", *text]) + "\n"
+    keys = drawn_by_scripts(kind, size, lines)
+    text = [f"{i % workers} {operation(kind, key)}" for i, key in enumerate(keys)]
+    return "\n".join(["tree 2", *text]) + "\n", len(keys)
 
 
 def command_of(program, brief):
@@ -144,11 +168,12 @@ def by_scripts(program, folder, lines):
     for size in SIZES:
         with tempfile.TemporaryDirectory(dir=folder) as base:
             subprocess.run([program, "dump"], cwd=base, check=True, capture_output=True)
-            timed(command_of(program, True), base, written(base, "fill", fill_script(size)), f"{base}/told")
+            for text in fill_scripts(size):
+                timed(command_of(program, True), base, written(base, "fill", text), f"{base}/told")
             for kind in KINDS:
                 for workers in WORKERS:
-                    count = lines_of(kind, lines)
-                    source = written(base, "lines", script(kind, size, workers, count))
+                    text, count = script(kind, size, workers, lines_of(kind, lines))
+                    source = written(base, "lines", text)
                     runs, bare = one_script(program, base, kind, source, folder)
                     told[f"{kind}{size}x{workers}"] = without(runs, bare, count)
     return told

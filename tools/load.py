@@ -11,8 +11,9 @@ Usage: tools/load.py [--csv] (--vault FOLDER | --declare STORAGE ..) [--out NAME
   --out NAME         writes NAME1.txt and, since a script has at most 64 MiB, as many more as it takes, which are to be
                      run one after another; without it there is one script, on standard output
 
-A line has sixteen writes, a round 65,536 lines. Over arrays alone a script writes to at most 4,000 pages, and is to be
-run with `--slots 4096` where it has more than some 8,000 values. Nothing is written unless the whole input is well.
+A line has sixteen writes, a round 65,536 lines. A script writes to at most 4,000 pages, and is to be run with
+`--slots 4096` where it has more than some 8,000 values of arrays or 1,200 keys of trees. Keys of a tree come in an
+order in which ways stay short. Nothing is written unless the whole input is well.
 Status: 0; 1 where the input, the storages or the output can't be used, which standard error names; 2 for other words.
 """
 import argparse
@@ -27,7 +28,9 @@ WORKERS = 8
 STORAGES = 16
 MOST_VALUES = 131072
 BYTES = 64 << 20  # of a script
-PAGES = 4000  # that a script over arrays alone writes to, with room for what threads make in vain
+PAGES = 4000  # that a script writes to, with room for what threads make in vain
+KEYS = 4  # of a tree for which a page is counted
+PART = 12_000  # keys of a tree, one after another, whose lines are mixed
 ROUND = "join\n"
 
 
@@ -66,8 +69,33 @@ def writes_of(rows, storages, where, name):
         yield f"w {id} {key} {value}"
 
 
+def mixed(lines):
+    """The same in the order of their numbers' bits turned round: in the middle first, then in that of each half."""
+    bits = (len(lines) - 1).bit_length()
+    places = (int(f"{place:0{bits}b}"[::-1], 2) if bits else 0 for place in range(1 << bits))
+    return [lines[place] for place in places if place < len(lines)]
+
+
+def ordered(writes, storages):
+    """The operations: of arrays in their order, and then of each tree by parts, in each of which sixteen keys that come
+    one after another stay together, and these are mixed. Keys in ascending order would make one way ever longer."""
+    of_trees = {id: [] for id, storage in storages.items() if storage.size is None}
+    for op in writes:
+        _, id, key, _ = op.split()
+        if int(id) in of_trees:
+            of_trees[int(id)].append((int(key), op))
+        else:
+            yield op
+    for ops in of_trees.values():
+        ops = [op for _, op in sorted(ops)]
+        for first in range(0, len(ops), PART):
+            part = ops[first : first + PART]
+            for line in mixed([part[at : at + OPS] for at in range(0, len(part), OPS)]):
+                yield from line
+
+
 def lines_of(writes):
-    """The operations in lines of the workers by turns. Each key stands in one line, so no line is in another's way."""
+    """The operations in lines of the workers by turns. Each key stands in one line."""
     ops, count = [], 0
     for op in writes:
         ops.append(op)
@@ -78,21 +106,26 @@ def lines_of(writes):
         yield f"{count % WORKERS} {'; '.join(ops)}\n"
 
 
-def pages_of(line):
-    """The pages of arrays that a line writes to: leaves of 32 values, and those above them."""
-    ops = (op.split() for op in line[2:].split("; "))
-    return {(id, span, int(key) // span) for _, id, key, _ in ops for span in (32, 2048, MOST_VALUES)}
+def pages_of(line, trees):
+    """The pages of arrays that a line writes to, leaves of 32 values and those above, and how many keys of trees."""
+    ops = [op.split() for op in line[2:].split("; ")]
+    arrays = [(id, int(key)) for _, id, key, _ in ops if id not in trees]
+    pages = {(id, span, key // span) for id, key in arrays for span in (32, 2048, MOST_VALUES)}
+    return pages, len(ops) - len(arrays)
 
 
 def scripts_of(declared, lines):
     """The lines in scripts, each with the declarations, in rounds."""
-    parts, size, count, held = [declared], len(declared), 0, set()
+    trees = {line.split()[1] for line in declared.splitlines() if line.startswith("tree")}
+    parts, size, count, held, keys = [declared], len(declared), 0, set(), 0
     for line in lines:
-        pages = set() if "tree" in declared else pages_of(line)
-        if size + len(line) + len(ROUND) > BYTES or len(held) + len(pages - held) > PAGES:
+        pages, more = pages_of(line, trees)
+        is_full = len(held | pages) + (keys + more) // KEYS > PAGES
+        if size + len(line) + len(ROUND) > BYTES or is_full:
             yield "".join(parts)
-            parts, size, count, held = [declared], len(declared), 0, set()
+            parts, size, count, held, keys = [declared], len(declared), 0, set(), 0
         held |= pages
+        keys += more
         if count == LINES:
             parts.append(ROUND)
             size, count = size + len(ROUND), 0
@@ -106,11 +139,12 @@ def load(options):
     source, name = open_input(options.file)
     rows = each_once((csv_rows if options.csv else dump_rows)(iter(source), name), name)
     declared = "".join(f"{storage.declaration()}\n" for storage in storages.values())
-    scripts = list(scripts_of(declared, lines_of(writes_of(rows, storages, where, name))))
+    writes = ordered(list(writes_of(rows, storages, where, name)), storages)
+    scripts = list(scripts_of(declared, lines_of(writes)))
     if options.out is not None:
         write_files(scripts, [f"{options.out}{place}.txt" for place in range(1, len(scripts) + 1)])
     elif len(scripts) > 1:
-        raise Refused(f"{name}: too much for one script of 64 MiB, or {PAGES} pages of arrays: name files by --out")
+        raise Refused(f"{name}: too much for one script of 64 MiB, or {PAGES} pages: name files by --out")
     else:
         write_out(scripts[0])
 

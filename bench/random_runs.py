@@ -476,6 +476,8 @@ class Replay:
             if not has_room:
                 demand(told == f"{head}snap-full", told, self.kept.count, new)
                 return
+            if not self.kept.is_known and self.run.has_trees:
+                new = told.rpartition(" ")[2]  # how many pages of trees it has to have isn't known
             demand(told == f"{head}snap {self.closed_at} new {new}", told, self.closed_at, new)
             self.closed = None
 

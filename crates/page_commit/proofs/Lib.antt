@@ -25,6 +25,7 @@ pub mod KeepLaws
 pub mod WalkedLaws
 pub mod FoundLaws
 pub mod DueLaws
+pub mod WideLaws
 pub mod RefuseLaws
 pub mod WriteLaws
 pub mod TurnLaws

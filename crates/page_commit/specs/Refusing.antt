@@ -1,21 +1,42 @@
 -- Why a call of a transaction is refused, and what a refusal leaves.
 use Rattle.std.specs.Prelude.{◌≡◌, ◌≢◌, ◌⊎◌, ℕ, ◌+◌, ◌/◌, ◌%◌, ◌^◌, ◌≤◌, ◌<◌, List, ◌∷◌, ◌++◌, [], Option, Some}
-use Rattle.std.specs.Prelude.{None, length, Contains, unwrap_or, Bool, cond}
+use Rattle.std.specs.Prelude.{None, length, Contains, unwrap_or, Bool, cond, ⊤}
 use Rattle.serial_model.specs.declared.key.Key.{Key}
 use Rattle.serial_model.specs.Numbers.{draw_limit}
 use Rattle.tx_sets.specs.declared.reads.ReadEntry.{ReadEntry}
 use Rattle.tx_sets.specs.declared.seen.Seen.{Seen}
+use Rattle.tx_sets.specs.declared.sets.Sets.{Sets}
 use Rattle.tx_sets.specs.Entries.{word_at}
 use Rattle.engine_pages.specs.declared.view.RefusalCause.{RefusalCause}
 use Rattle.engine_pages.specs.declared.view.RefusalCause.TheVariants as refusals
+use Rattle.engine_pages.specs.declared.view.SetName.{SetName}
+use Rattle.engine_pages.specs.declared.view.SetName.TheVariants as names
 use Rattle.engine_pages.specs.declared.view.Touch.{Touch}
 use Rattle.engine_pages.specs.declared.view.View.{View}
 use Rattle.engine_pages.specs.Layout.{clock_at}
 use Rattle.engine_pages.specs.Steps.{glance}
 use Rattle.engine_pages.specs.Views.{seat_number}
 use Rattle.engine_pages.specs.Touches.{touch}
+use Rattle.tree_walks.specs.Ways.{IsLong}
 use Rattle.page_commit.specs.Between.{HasSeen}
 use Rattle.page_commit.specs.Live.{read_word, IsOver}
+
+-- ---- what a refusal for a full set needs
+
+-- The set has as many entries as there is room for: records and headers share one room. Of the holds it may also be that
+-- the way to a key, by what the pass knows just then, has led through as many pages, one below another.
+abbrev pub LacksRoom : SetName → Sets → View → Type 0
+LacksRoom names.Reads sets v = 256 ≤ length sets.reads + length sets.headers
+LacksRoom names.Writes sets v = length sets.writes ≡ 16
+LacksRoom names.Pointers sets v = length sets.pointers ≡ 128
+LacksRoom names.Holds sets v = (length sets.holds ≡ 128) ⊎ ((k : Key) × IsLong k v)
+
+-- where a set was full, it is when the refusal is noted
+abbrev pub IsWideDue : RefusalCause → Sets → View → Type 0
+IsWideDue (refusals.Conflict at expected seen) sets v = ⊤
+IsWideDue (refusals.Full held) sets v = ⊤
+IsWideDue (refusals.Wide set) sets v = LacksRoom set sets v
+IsWideDue (refusals.NumberLimit clock) sets v = ⊤
 
 -- ---- what a refusal leaves
 

@@ -88,11 +88,11 @@ fn bring_up(
         let why = RefusalCause::Wide {
             set: SetName::Writes,
         };
-        return Err(refuse(engine, pass, &sets.holds, why));
+        return Err(refuse(engine, pass, sets, why));
     }
     match make_volatile(engine, pass, key, &mut sets.holds, &sets.pointers) {
         Ok(at) => Ok(at),
-        Err(why) => Err(refuse(engine, pass, &sets.holds, why)),
+        Err(why) => Err(refuse(engine, pass, sets, why)),
     }
 }
 

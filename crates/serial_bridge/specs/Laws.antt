@@ -105,6 +105,7 @@ over_put first own w k v over = λ q.
     by_test q true = refl
     by_test q false = over q
 
+-- a state over its own changes stays so where a key is removed
 pub over_removed : (first : State) (own : List Change) (w : State) (k : Key) → IsOver first own w → IsOver first (wrote k None own) (remove w k)
 over_removed first own w k over = λ q.
     get-remove keys_total w k q ∙ ap (λ b. cond b None (get w q)) (key_test q k) ∙ by_test q (same_key k q)

@@ -8,6 +8,7 @@ use Rattle.page_commit.specs.Refusing.{HasRefused}
 use Rattle.page_commit.proofs.DueLaws.{find_cause, find_due, find_told, Walked}
 use Rattle.page_commit.proofs.FoundLaws.{meets_found, room_found, value_found, wide_cause}
 use Rattle.page_commit.proofs.RefuseLaws.{can_refuse, walked_refused}
+use Rattle.page_commit.proofs.WideLaws.{entry_wide_due, find_wide_due}
 use Rattle.page_commit.proofs.WalkedLaws.{can_walk, only_walked, walked_holds}
 use Rattle.page_commit.proofs.reading.read_anew.Goals as goal
 
@@ -43,6 +44,11 @@ refuse-requires-clause-can c =
     let w = view c.find.new.pass in
     can_refuse c.args.sets.now c.find.new.holds v w c.requires.live (only_walked v w c.find.ensures.walked)
     (walked_holds c.args.sets.now.holds c.find.new.holds v w c.requires.live.holds c.find.ensures.walked c.find.ensures.can)
+
+pub refuse-requires-clause-wide : goal.refuse-requires-clause-wide
+refuse-requires-clause-wide c =
+    entry_wide_due c.in-Ok.found c.is_wide.result (record c.args.sets.now { holds = c.find.new.holds })
+    (view c.find.new.pass) c.is_wide.ensures c.if-is_wide.true
 
 pub returns-then-is_wide-clause-cause : goal.returns-then-is_wide-clause-cause
 returns-then-is_wide-clause-cause c =
@@ -91,6 +97,11 @@ refuse-requires-in-Err-clause-due c =
       decls = c.find.ensures.can.declared;
     } in
     find_due c.in-Err.why c.args.sets.now c.find.new.holds c.args.key v w h c.requires.unread c.in-Err.ensures.cause
+
+pub refuse-requires-in-Err-clause-wide : goal.refuse-requires-in-Err-clause-wide
+refuse-requires-in-Err-clause-wide c =
+    find_wide_due c.in-Err.why (record c.args.sets.now { holds = c.find.new.holds }) c.args.key (view c.args.pass.now)
+    (view c.find.new.pass) c.in-Err.ensures.cause
 
 pub returns-in-Err-clause-cause : goal.returns-in-Err-clause-cause
 returns-in-Err-clause-cause c =

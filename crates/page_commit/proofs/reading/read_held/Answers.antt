@@ -10,6 +10,7 @@ use Rattle.page_commit.proofs.DueLaws.{find_cause, find_due, find_told, Walked}
 use Rattle.page_commit.proofs.FoundLaws.{meets_found, room_found, value_found, wide_cause}
 use Rattle.page_commit.proofs.PlaceLaws.{spot_here, spot_is}
 use Rattle.page_commit.proofs.RefuseLaws.{can_refuse, walked_refused}
+use Rattle.page_commit.proofs.WideLaws.{entry_wide_due, find_wide_due}
 use Rattle.page_commit.proofs.WalkedLaws.{can_walk, only_walked, walked_holds}
 use Rattle.page_commit.proofs.reading.read_held.Goals as goal
 
@@ -66,6 +67,11 @@ refuse-requires-clause-can c =
     let w = view c.read_at.new.pass in
     can_refuse c.args.sets.now c.args.sets.now.holds v w c.requires.live (only_walked v w f.walked)
     (walked_holds c.args.sets.now.holds c.args.sets.now.holds v w c.requires.live.holds f.walked f.can)
+
+pub refuse-requires-clause-wide : goal.refuse-requires-clause-wide
+refuse-requires-clause-wide c =
+    entry_wide_due c.in-Ok.found c.is_wide.result c.args.sets.now (view c.read_at.new.pass) c.is_wide.ensures
+    c.if-is_wide.true
 
 pub returns-then-is_wide-clause-cause : goal.returns-then-is_wide-clause-cause
 returns-then-is_wide-clause-cause c =
@@ -126,6 +132,12 @@ refuse-requires-in-Err-clause-due c =
       decls = f.can.declared;
     } in
     find_due c.in-Err.why c.args.sets.now c.args.sets.now.holds c.args.key v w h c.requires.unread err.cause
+
+pub refuse-requires-in-Err-clause-wide : goal.refuse-requires-in-Err-clause-wide
+refuse-requires-in-Err-clause-wide c =
+    let err = c.in-Err.ensures.finds c.args.sets.now.holds
+    (can_walk c.args.sets.now (view c.args.pass.now) c.requires.live) c.args.sets.now.pointers in
+    find_wide_due c.in-Err.why c.args.sets.now c.args.key (view c.args.pass.now) (view c.read_at.new.pass) err.cause
 
 pub returns-in-Err-clause-cause : goal.returns-in-Err-clause-cause
 returns-in-Err-clause-cause c =

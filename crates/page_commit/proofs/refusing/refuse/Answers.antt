@@ -25,7 +25,7 @@ leave_all-requires-clause-pass c =
 pub leave_all-requires-clause-holds : goal.leave_all-requires-clause-holds
 leave_all-requires-clause-holds c =
     subst (λ l. HasHolds l (view c.forget.new.pass)) (sym c.as_slice.ensures.value)
-    (holds_stay c.args.holds.now (view c.args.pass.now) (view c.forget.new.pass)
+    (holds_stay c.args.sets.now.holds (view c.args.pass.now) (view c.forget.new.pass)
     (forgotten_pages (Some c.args.why) (view c.args.pass.now) (view c.forget.new.pass) c.forget.ensures.forgets)
     c.requires.can.holds)
 
@@ -38,7 +38,7 @@ leave_all-requires-clause-kept c =
 
 pub returns-clause-gives_up : goal.returns-clause-gives_up
 returns-clause-gives_up c =
-    refused_now c.args.holds.now c.args.why (view c.args.pass.now) (view c.forget.new.pass) (view c.leave_all.new.pass)
+    refused_now c.args.sets.now.holds c.args.why (view c.args.pass.now) (view c.forget.new.pass) (view c.leave_all.new.pass)
     c.requires.can c.forget.ensures.forgets c.leave_all.ensures.left
     (let all = forgot_steps (Some c.args.why) (view c.args.pass.now) (view c.args.pass.now) (view c.forget.new.pass)
     (view c.leave_all.new.pass) 0 (length c.as_slice.result.now) (omega arith) c.forget.ensures.forgets

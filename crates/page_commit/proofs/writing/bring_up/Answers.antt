@@ -10,6 +10,7 @@ use Rattle.page_commit.specs.Refusing.{HasRefused}
 use Rattle.page_commit.proofs.BroughtLaws.{brought}
 use Rattle.page_commit.proofs.DueLaws.{make_cause, make_due, make_told, writes_cause, Walked}
 use Rattle.page_commit.proofs.RefuseLaws.{can_refuse, walked_refused}
+use Rattle.page_commit.proofs.WideLaws.{make_wide_due}
 use Rattle.page_commit.proofs.WalkedLaws.{can_make, only_walked, walked_holds}
 use Rattle.page_commit.proofs.WriteLaws.{writes_full, writes_room}
 use Rattle.page_commit.proofs.writing.bring_up.Goals as goal
@@ -21,6 +22,9 @@ refuse-requires-clause-can c =
     let v = view c.args.pass.now in
     can_refuse c.args.sets.now c.args.sets.now.holds v v c.requires.live (only_walked v v (walked_self v))
     c.requires.live.holds
+
+pub refuse-requires-clause-wide : goal.refuse-requires-clause-wide
+refuse-requires-clause-wide c = writes_full c.is_full.result _ c.is_full.ensures.value c.if-is_full.true
 
 pub returns-then-is_full-clause-cause : goal.returns-then-is_full-clause-cause
 returns-then-is_full-clause-cause c =
@@ -79,6 +83,11 @@ refuse-requires-in-Err-clause-due c =
       decls = c.make_volatile.ensures.can.walks.declared;
     } in
     make_due c.in-Err.why c.args.sets.now c.make_volatile.new.holds c.args.key v w h c.in-Err.ensures.cause
+
+pub refuse-requires-in-Err-clause-wide : goal.refuse-requires-in-Err-clause-wide
+refuse-requires-in-Err-clause-wide c =
+    make_wide_due c.in-Err.why (record c.args.sets.now { holds = c.make_volatile.new.holds }) c.args.key
+    (view c.args.pass.now) (view c.make_volatile.new.pass) c.in-Err.ensures.cause
 
 pub returns-in-Err-clause-cause : goal.returns-in-Err-clause-cause
 returns-in-Err-clause-cause c =

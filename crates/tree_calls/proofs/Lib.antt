@@ -7,6 +7,7 @@ pub mod OpLaws
 pub mod DoneLaws
 pub mod DueLaws
 pub mod CauseLaws
+pub mod WideLaws
 pub mod SinceLaws
 pub mod SetLaws
 pub mod ValueLaws

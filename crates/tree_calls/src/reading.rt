@@ -107,11 +107,11 @@ fn read_anew(
                 let why = RefusalCause::Wide {
                     set: SetName::Reads,
                 };
-                return Err(refuse(engine, pass, &sets.holds, why));
+                return Err(refuse(engine, pass, sets, why));
             }
             Ok(keep(sets, key, found))
         }
-        Err(why) => Err(refuse(engine, pass, &sets.holds, why)),
+        Err(why) => Err(refuse(engine, pass, sets, why)),
     }
 }
 

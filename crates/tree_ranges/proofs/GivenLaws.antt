@@ -322,3 +322,18 @@ module _ (storage low high : ℕ) where
           value_is n (λ from to. record { within = within_by n from to; reached = inr reach })
           (nat_le low n && nat_le n high) refl) in
           front ∙ ap (λ (n : ℕ). take n (pairs_of (entries s))) full
+
+-- ---- wider ranges
+
+pub within_more : (storage low high from to : ℕ) (k : Key) → low ≤ from → to ≤ high
+    → is_within storage from to k ≡ true → is_within storage low high k ≡ true
+within_more storage low high from to k first last test =
+    let a = within_low storage from to k test in
+    let b = within_high storage from to k test in
+    let lower : low ≤ k.key = omega (arith, first, a) in
+    let upper : k.key ≤ high = omega (arith, last, b) in
+    and_from (k.storage == storage) (nat_le low k.key && nat_le k.key high)
+    (and_parts (k.storage == storage) (nat_le from k.key && nat_le k.key to) test).0
+    (and_from (nat_le low k.key) (nat_le k.key high)
+    (let e : nat_le low k.key ≡ true = grind (arith, nat_tests, lower) in e)
+    (let e : nat_le k.key high ≡ true = grind (arith, nat_tests, upper) in e))

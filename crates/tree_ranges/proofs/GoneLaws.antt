@@ -39,9 +39,9 @@ use Rattle.tree_calls.specs.Causes.{IsWordConflict}
 use Rattle.tree_calls.proofs.OpLaws.{held_both, held_for, ways_both, ways_for}
 use Rattle.tree_calls.proofs.SinceLaws.{long_since, pointer_since, record_since}
 use Rattle.tree_calls.proofs.TreeWalkLaws.{tree_walked}
-use Rattle.tree_ranges.specs.Causes.{HasGrown, IsScanCause, RefusesScan}
-use Rattle.tree_ranges.specs.Going.{GoesIn, HasGone, HasJoined, HasRead, HasScanned, IsHeaderOf, Stops}
-use Rattle.tree_ranges.proofs.GivenLaws.{within_by}
+use Rattle.tree_ranges.specs.Causes.{HasGrown, HasJoined, IsInRange, IsScanCause, RefusesScan}
+use Rattle.tree_ranges.specs.Going.{GoesIn, HasGone, HasRead, HasScanned, IsHeaderOf, Stops}
+use Rattle.tree_ranges.proofs.GivenLaws.{within_by, within_more}
 use Rattle.tree_ranges.proofs.RowLaws.{rows_seen}
 
 -- ---- some more
@@ -263,11 +263,18 @@ module _ (storage low high : ℕ) (sets new : Sets) (rows : List (ℕ × ℕ)) (
 
 -- ---- refusals behind such steps
 
-grown_by : (any : Op) (sets mid new : Sets) (v u : View) → HasGone any sets mid v u → HasGrown mid new
-    → HasGrown sets new
-grown_by any sets mid new v u gone grown = record {
-  reads = front_then sets.reads mid.reads new.reads
-      (front_from sets.reads gone.reads.more mid.reads (sym gone.reads.is)) grown.reads;
+-- the records that were read are of the range
+in_range : (storage low high : ℕ) (decls : List Decl) (e : ReadEntry) → IsReadBy decls (Scan storage low high) e
+    → IsInRange storage low high e
+in_range storage low high decls e (inl may) = may
+in_range storage low high decls e (inr added) = absurd added.0
+
+grown_by : (storage low high : ℕ) (sets mid new : Sets) (v u : View) → HasGone (Scan storage low high) sets mid v u
+    → HasGrown storage low high mid new → HasGrown storage low high sets new
+grown_by storage low high sets mid new v u gone grown = record {
+  reads = joined_both ReadEntry (IsInRange storage low high) sets.reads mid.reads new.reads
+      (joined_as ReadEntry (IsReadBy v.layout.decls (Scan storage low high)) (IsInRange storage low high) sets.reads mid.reads
+      (λ e read. in_range storage low high v.layout.decls e read) gone.reads) grown.reads;
   pointers = front_then sets.pointers mid.pointers new.pointers
       (front_from sets.pointers gone.pointers.more mid.pointers (sym gone.pointers.is)) grown.pointers;
   headers = front_then sets.headers mid.headers new.headers
@@ -275,10 +282,22 @@ grown_by any sets mid new v u gone grown = record {
   writes = grown.writes ∙ gone.writes;
 }
 
+-- within a wider range
+grown_more : (storage low high from to : ℕ) (sets new : Sets) → low ≤ from → to ≤ high → HasGrown storage from to sets new
+    → HasGrown storage low high sets new
+grown_more storage low high from to sets new first last grown = record {
+  reads = joined_as ReadEntry (IsInRange storage from to) (IsInRange storage low high) sets.reads new.reads
+      (λ e within. within_more storage low high from to e.key first last within) grown.reads;
+  pointers = grown.pointers;
+  headers = grown.headers;
+  writes = grown.writes;
+}
+
 -- the sets are as they were, but for their holds
-pub grown_holds : (sets : Sets) (late : List ℕ) → HasGrown sets (record sets { holds = late })
-grown_holds sets late = record {
-  reads = front_refl sets.reads;
+pub grown_holds : (storage low high : ℕ) (sets : Sets) (late : List ℕ)
+    → HasGrown storage low high sets (record sets { holds = late })
+grown_holds storage low high sets late = record {
+  reads = joined_none ReadEntry (IsInRange storage low high) sets.reads sets.reads refl;
   pointers = front_refl sets.pointers;
   headers = front_refl sets.headers;
   writes = refl;
@@ -323,7 +342,8 @@ stops_then storage low high from to sets mid new why v u x goes first last s =
     let less = c.from in
     let more = c.to in record {
       cause = record {
-        grown = grown_by (Scan storage low high) sets mid new v u gone c.grown;
+        grown = grown_by storage low high sets mid new v u gone
+            (grown_more storage low high from to mid new first last c.grown);
         draws = c.draws ∙ ap (λ (y : View). y.draws) only.is;
         touched = c.touched ∙ ap (λ (y : View). y.touched) gone.walked.is;
         key = c.key;
@@ -342,7 +362,7 @@ stops_more storage low high from to sets new why v x first last s =
     let less = c.from in
     let more = c.to in record {
       cause = record {
-        grown = c.grown;
+        grown = grown_more storage low high from to sets new first last c.grown;
         draws = c.draws;
         touched = c.touched;
         key = c.key;

@@ -58,7 +58,7 @@ module _ (sets : Sets) (late : List ℕ) (k : Key) (v w x : View) (h : TreeWalke
       → Stops k.storage k.key k.key sets (record sets { holds = late }) why v x
   stop_by why told cause g = record {
     cause = record {
-      grown = grown_holds sets late;
+      grown = grown_holds k.storage k.key k.key sets late;
       draws = draws_same why sets late k v w x h g;
       touched = touches_same why sets late k v w x h g;
       key = k.key;

@@ -16,16 +16,10 @@ use Rattle.page_commit.specs.Live.{IsLive}
 use Rattle.page_commit.specs.Refusing.{HasRefused}
 use Rattle.page_commit.specs.Turning.{HoldsWaysOf, IsHeaderOver, IsPointerOf, IsReadBy, MayRead, OnlyWaysOf, PartsStay}
 use Rattle.tree_calls.specs.Keeping.{HasValue}
-use Rattle.tree_ranges.specs.Causes.{RefusesScan}
+use Rattle.tree_ranges.specs.Causes.{HasJoined, RefusesScan}
 use Rattle.tree_scans.specs.Rows.{key_in}
 use Rattle.tree_ranges.specs.Leaves.{IsLeafTaken}
 use Rattle.tree_ranges.specs.Rows.{with_row, AreRowsOf, RowsGoOn}
-
--- some more stand behind those of before, and each of them is such a one
-pub record HasJoined (A : Type 0) (P : A → Type 0) (old new : List A) : Type 0 where
-  pub more : List A
-  pub is : new ≡ old ++ more
-  pub each : (x : A) → Contains more x → P x
 
 -- the header is that of a leaf over a key that the operation may read
 abbrev pub IsHeaderOf : View → Op → Seen → Type 0

@@ -145,10 +145,10 @@ fn read_in(
                 let why = RefusalCause::Wide {
                     set: SetName::Reads,
                 };
-                return Err(refuse(engine, pass, &sets.holds, why));
+                return Err(refuse(engine, pass, sets, why));
             }
             Ok(keep(sets, key, found))
         }
-        Err(why) => Err(refuse(engine, pass, &sets.holds, why)),
+        Err(why) => Err(refuse(engine, pass, sets, why)),
     }
 }

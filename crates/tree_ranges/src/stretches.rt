@@ -48,7 +48,7 @@ pub(crate) fn scan_stretch(
         &sets.headers,
     ) {
         Ok(end) => scan_end(engine, pass, sets, key, end, last, rows),
-        Err(why) => Err(refuse(engine, pass, &sets.holds, why)),
+        Err(why) => Err(refuse(engine, pass, sets, why)),
     }
 }
 
@@ -127,7 +127,7 @@ fn take_head(
         let why = RefusalCause::Wide {
             set: SetName::Reads,
         };
-        return Err(refuse(engine, pass, &sets.holds, why));
+        return Err(refuse(engine, pass, sets, why));
     }
     match keep_head(
         engine,
@@ -142,7 +142,7 @@ fn take_head(
             keep_header(&mut sets.headers, Seen { at, word });
             Ok(())
         }
-        Err(why) => Err(refuse(engine, pass, &sets.holds, why)),
+        Err(why) => Err(refuse(engine, pass, sets, why)),
     }
 }
 
@@ -183,6 +183,6 @@ fn scan_below(
             keep_pointer(&mut sets.pointers, bare.pointer);
             Ok(add_rows(rows, &found, to))
         }
-        Err(why) => Err(refuse(engine, pass, &sets.holds, why)),
+        Err(why) => Err(refuse(engine, pass, sets, why)),
     }
 }

@@ -1,18 +1,21 @@
 -- Why an operation is refused that reads a key of a tree before it writes it.
-use Rattle.std.proofs.Common.{◌≡◌, inl, inr, ℕ, ◌+◌, ◌<◌, ◌≤◌, false, length, true, sym, ◌∙◌, subst, arith}
+use Rattle.std.proofs.Common.{◌≡◌, inl, inr, ℕ, ◌+◌, ◌<◌, ◌≤◌, false, List, [], ◌∷◌, ◌++◌, length, true, sym, ap, ◌∙◌, subst, arith}
+use Rattle.std.proofs.Common.{Option}
 use Rattle.serial_model.specs.declared.key.Key.{Key}
+use Rattle.tx_sets.specs.declared.reads.ReadEntry.{ReadEntry}
+use Rattle.tx_sets.specs.declared.seen.Seen.{Seen}
 use Rattle.tx_sets.specs.declared.sets.Sets.{Sets}
 use Rattle.tx_sets.specs.Entries.{has_write}
 use Rattle.engine_pages.specs.declared.layout.Layout.{Layout}
 use Rattle.engine_pages.specs.declared.view.RefusalCause.{RefusalCause}
 use Rattle.engine_pages.specs.declared.view.View.{View}
 use Rattle.engine_pages.specs.Pages.{is_tree}
-use Rattle.page_commit.specs.Live.{IsLive}
 use Rattle.page_commit.specs.Refusing.{HasRefused}
 use Rattle.page_commit.specs.Turning.{OnlyWalked}
 use Rattle.page_commit.proofs.RefuseLaws.{refused_since}
 use Rattle.page_commit.proofs.TurnLaws.{walks_layout, walks_then}
 use Rattle.tree_calls.specs.Causes.{RefusesTreeRead}
+use Rattle.tree_calls.specs.Keeping.{HasValue}
 use Rattle.tree_calls.proofs.SinceLaws.{tree_read_since}
 use Rattle.tree_walks.specs.Finds.{find_steps}
 use Rattle.page_commit.specs.Calls.{end_most}
@@ -35,13 +38,32 @@ read_cause why sets mid late k u v w m room r =
     ))
 
 -- the place of its record was, behind the read
-pub place_cause : (why : RefusalCause) (sets mid late last : Sets) (k : Key) (u v w x : View) → HasMade k sets mid u v
-    → OnlyWalked v w → IsLive late w → has_write k sets.writes ≡ false
+pub place_cause : {value : Option ℕ} (why : RefusalCause) (sets mid late last : Sets) (k : Key) (u v w x : View)
+    → HasMade k sets mid u v → HasValue k value mid late v w → has_write k sets.writes ≡ false
     → RefusesTreeWrite late last k why w x → RefusesTreeAlter sets last k why u x
-place_cause why sets mid late last k u v w x m only live none r =
+place_cause why sets mid late last k u v w x m h none r =
     inr (inr (
       none,
-      record { then = w; walked = walks_then u v w m.only only; sets = late; live = live; cause = r },
+      record {
+        then = w;
+        walked = walks_then u v w m.only h.only;
+        sets = late;
+        live = h.live;
+        reads = elim h.reads [
+          | inl same ↦ inl (same ∙ m.reads)
+          | inr e ↦ inr (e.0, e.1, e.2 ∙ ap (λ (l : List ReadEntry). l ++ e.0 ∷ []) m.reads)
+        ];
+        pointers = elim h.pointers [
+          | inl same ↦ inl (same ∙ m.pointers)
+          | inr p ↦ inr (p.0, p.1 ∙ ap (λ (l : List Seen). l ++ p.0 ∷ []) m.pointers)
+        ];
+        headers = elim h.headers [
+          | inl same ↦ inl (same ∙ m.headers)
+          | inr q ↦ inr (q.0, q.1 ∙ ap (λ (l : List Seen). l ++ q.0 ∷ []) m.headers)
+        ];
+        writes = h.writes ∙ m.writes;
+        cause = r;
+      },
     ))
 
 pub behind_two : (why : RefusalCause) (u v w x : View) → OnlyWalked u v → OnlyWalked v w → HasRefused why w x

@@ -260,24 +260,27 @@ module _ (sets mid new : Sets) (k : Key) (u v w : View) (m : HasMade k sets mid 
     draws_since r.1,
     elim r.2 [
       | inl full ↦ inl (full.0, subst (λ (l : List Write). length l ≡ 16) m.writes full.1)
-      | inr more ↦ inr (elim more [
-        | inl holds ↦ inl (
-          holds.0,
-          elim holds.1 [
-            | inl full ↦ inl full
-            | inr long ↦ inr (long_since k u v m.only long)
-          ],
-        )
-        | inr reads ↦ inr (
-          reads.0,
-          subst (λ (l : List Seen). 256 ≤ length sets.reads + length l) m.headers
-              (subst (λ (l : List ReadEntry). 256 ≤ length l + length mid.headers) m.reads reads.1),
-          header_since reads.2,
-        )
-      ])
+      | inr more ↦ inr (
+        room_since more.0,
+        elim more.1 [
+          | inl holds ↦ inl (
+            holds.0,
+            elim holds.1 [
+              | inl full ↦ inl full
+              | inr long ↦ inr (long_since k u v m.only long)
+            ],
+          )
+          | inr reads ↦ inr (
+            reads.0,
+            subst (λ (l : List Seen). 256 ≤ length sets.reads + length l) m.headers
+                (subst (λ (l : List ReadEntry). 256 ≤ length l + length mid.headers) m.reads reads.1),
+            header_since reads.2,
+          )
+        ],
+      )
     ],
     blamed_since r.3,
-    touches_since r.4,
+    r.4 ∙ m.touched,
   )
   write_since (refusals.NumberLimit clock) r = absurd r
 

@@ -160,17 +160,20 @@ room_falls sets k x v at live on is has full = record {
   stopped = record {
     due = tt;
     told = λ met t. t;
-    stops = inr (inr (
+    stops = (
+      inr (inr (
+        refl,
+        no_room (length sets.reads + length sets.headers) full,
+        record {
+          then = v;
+          walked = nothing_walked v;
+          header = h.0;
+          among = h.1;
+          over = subst (λ (n : ℕ). IsHeaderOver v k n) (sym (eqb-true (h.0).at at h.2)) over;
+        },
+      )),
       refl,
-      no_room (length sets.reads + length sets.headers) full,
-      record {
-        then = v;
-        walked = nothing_walked v;
-        header = h.0;
-        among = h.1;
-        over = subst (λ (n : ℕ). IsHeaderOver v k n) (sym (eqb-true (h.0).at at h.2)) over;
-      },
-    ));
+    );
   };
 }
   where
@@ -289,7 +292,11 @@ split_falls (refusals.Full held) sets k x v w live on full h =
     (full_falls (refusals.Full held) sets k x v w live on full h held h.cause)
 split_falls (refusals.Wide set) sets k x v w live on full h =
     split_falls_by (refusals.Wide set) sets k x v w live on full h
-    record { due = tt; told = λ met t. t; stops = inr (inl (h.cause.0, inl h.cause.1)) }
+    record {
+      due = tt;
+      told = λ met t. t;
+      stops = (inr (inl (h.cause.0, inl h.cause.1)), ap (λ (z : View). z.touched) h.cause.2);
+    }
 split_falls (refusals.NumberLimit clock) sets k x v w live on full h = absurd h.cause
 
 -- ---- the leaf was split, and the sets name a word of it
@@ -395,7 +402,7 @@ full_falls_here sets k v live full = record {
   holds = live.holds;
   agree = live.agree;
   trees = live.trees;
-  stopped = writes_full sets sets.holds k v v full;
+  stopped = writes_full sets sets.holds k v full;
 }
 
 -- ---- as the calls tell it

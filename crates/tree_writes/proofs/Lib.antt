@@ -9,6 +9,7 @@ pub mod AddedHere
 pub mod LeafStops
 pub mod SplitHere
 pub mod Falling
+pub mod WideLaws
 pub mod BroughtThen
 pub mod WriteTurns
 pub mod GrowCans

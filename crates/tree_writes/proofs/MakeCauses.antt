@@ -193,17 +193,20 @@ module _ (sets : Sets) (slots : List ℕ) (k : Key) (v w : View) (h : TreeWalked
   make_stops (refusals.Wide Holds) (inl held, led) = record {
     due = tt;
     told = λ met t. t;
-    stops = inr (inl (
-      refl,
-      elim held [
-        | inl full ↦ inl full.0
-        | inr long ↦ inr (record { then = w; walked = tree_walked v w h.walk; long = long })
-      ],
-    ));
+    stops = (
+      inr (inl (
+        refl,
+        elim held [
+          | inl full ↦ inl full.0
+          | inr long ↦ inr (record { then = w; walked = tree_walked v w h.walk; long = long })
+        ],
+      )),
+      ap (λ (z : View). z.touched) h.walk.is,
+    );
   }
   make_stops (refusals.Wide Holds) (inr page, led) = record {
     due = tt;
     told = λ met t. t;
-    stops = inr (inl (refl, inl page.0));
+    stops = (inr (inl (refl, inl page.0)), ap (λ (z : View). z.touched) h.walk.is);
   }
   make_stops (refusals.NumberLimit clock) r = absurd r

@@ -39,7 +39,7 @@ abbrev pub Stops : Sets → List ℕ → Key → RefusalCause → View → View 
 Stops sets slots k (refusals.Conflict at expected seen) v w =
     IsGrowConflict sets k at expected seen v w ⊎ IsSlotConflict at expected seen v w
 Stops sets slots k (refusals.Full held) v w = IsFullOf held v w
-Stops sets slots k (refusals.Wide set) v w = IsWide sets slots k set v
+Stops sets slots k (refusals.Wide set) v w = IsWide sets slots k set v × (w.touched ≡ v.touched)
 Stops sets slots k (refusals.NumberLimit clock) v w = ⊥
 
 -- The cause is due, and no key is told of it.
@@ -150,17 +150,17 @@ module _ (why : RefusalCause) (sets : Sets) (slots : List ℕ) (k : Key) (v w x 
       walked_refused why sets slots v w x live only holds agree trees
       (λ met tells. tells_none why met (s.told met tells)) g
 
--- of a full set it is so whatever room the write set has
-pub wide_end : (sets new : Sets) (slots : List ℕ) (k : Key) (set : SetName) (v w x : View) → OnlyWalked v w
-    → Stopped sets slots k (refusals.Wide set) v w → HasGivenUp [] (refusals.Wide set) w x → new.holds ≡ slots
-    → has_write k sets.writes ≡ false → RefusesTreeWrite sets new k (refusals.Wide set) v x
-wide_end sets new slots k set v w x only s g same none =
-    let why : RefusalCause = refusals.Wide set in (
+-- the write set was full
+pub wide_end : (sets new : Sets) (slots : List ℕ) (k : Key) (v w x : View) → OnlyWalked v w
+    → Stopped sets slots k (refusals.Wide Writes) v w → HasGivenUp [] (refusals.Wide Writes) w x
+    → length sets.writes ≡ 16 → has_write k sets.writes ≡ false → RefusesTreeWrite sets new k (refusals.Wide Writes) v x
+wide_end sets new slots k v w x only s g full none =
+    let why : RefusalCause = refusals.Wide Writes in (
       none,
       draws_end why sets slots k v w x only s g,
-      subst (λ (l : List ℕ). IsWide sets l k set v) (sym same) s.stops,
+      inl (refl, full),
       blamed_end why sets slots k v w x only s g,
-      touched_end why sets slots k v w x only s g,
+      touched_same [] why w x g ∙ s.stops.1,
     )
 
 -- the whole cause
@@ -189,10 +189,31 @@ write_end (refusals.Full held) sets new slots k v w x only s g same none room =
       touched_end why sets slots k v w x only s g,
     )
 write_end (refusals.Wide set) sets new slots k v w x only s g same none room =
-    wide_end sets new slots k set v w x only s g same none
+    let why : RefusalCause = refusals.Wide set in (
+      none,
+      draws_end why sets slots k v w x only s g,
+      elim s.stops.0 [
+        | inl full ↦ inl full
+        | inr more ↦ inr (
+          room,
+          elim more [
+            | inl held ↦ inl (
+              held.0,
+              elim held.1 [
+                | inl full ↦ inl (subst (λ (l : List ℕ). length l ≡ 128) (sym same) full)
+                | inr long ↦ inr long
+              ],
+            )
+            | inr reads ↦ inr reads
+          ],
+        )
+      ],
+      blamed_end why sets slots k v w x only s g,
+      touched_same [] why w x g ∙ s.stops.1,
+    )
 write_end (refusals.NumberLimit clock) sets new slots k v w x only s g same none room = absurd s.stops
 
 -- the write set is full
-pub writes_full : (sets : Sets) (slots : List ℕ) (k : Key) (v w : View) → length sets.writes ≡ 16
-    → Stopped sets slots k (refusals.Wide Writes) v w
-writes_full sets slots k v w full = record { due = tt; told = λ met tells. tells; stops = inl (refl, full) }
+pub writes_full : (sets : Sets) (slots : List ℕ) (k : Key) (v : View) → length sets.writes ≡ 16
+    → Stopped sets slots k (refusals.Wide Writes) v v
+writes_full sets slots k v full = record { due = tt; told = λ met tells. tells; stops = (inl (refl, full), refl) }

@@ -1,7 +1,8 @@
 -- Why a write, an addition or a subtraction at a key of a tree is refused, and how many steps they take.
-use Rattle.std.specs.Prelude.{◌≡◌, ◌≢◌, ◌⊎◌, ℕ, ◌+◌, ◌/◌, ◌%◌, ◌^◌, ◌<◌, ◌≤◌, true, false, length, Contains, Some, None}
+use Rattle.std.specs.Prelude.{◌≡◌, ◌≢◌, ◌⊎◌, ℕ, ◌+◌, ◌/◌, ◌%◌, ◌^◌, ◌<◌, ◌≤◌, true, false, [], ◌∷◌, ◌++◌, length, Contains, Some, None}
 use Rattle.serial_model.specs.declared.key.Key.{Key}
 use Rattle.homes.specs.Homes.{in_span}
+use Rattle.tx_sets.specs.declared.reads.ReadEntry.{ReadEntry}
 use Rattle.tx_sets.specs.declared.seen.Seen.{Seen}
 use Rattle.tx_sets.specs.declared.sets.Sets.{Sets}
 use Rattle.tx_sets.specs.Entries.{has_write}
@@ -81,7 +82,8 @@ pub record KeepsHeader (sets : Sets) (k : Key) (v : View) : Type 0 where
 
 -- A write of the key was refused, before any draw: a pointer, a header or a record in a leaf over the key was in
 -- conflict, or a slot's word; or no slot was usable; or it needed one entry more of a full set, first of all of the write
--- set. Nothing is locked any more: locks of records were taken where the leaf was to be split.
+-- set, and then nothing had been locked. Nothing is locked any more: else locks of records were taken where the leaf was
+-- to be split.
 abbrev pub RefusesTreeWrite : Sets → Sets → Key → RefusalCause → View → View → Type 0
 RefusesTreeWrite sets new k (refusals.Conflict at expected seen) v w =
     (has_write k sets.writes ≡ false) × (length sets.writes < 16) × (w.draws ≡ v.draws)
@@ -93,17 +95,22 @@ RefusesTreeWrite sets new k (refusals.Full held) v w =
 RefusesTreeWrite sets new k (refusals.Wide set) v w =
     (has_write k sets.writes ≡ false) × (w.draws ≡ v.draws)
     × (((set ≡ Writes) × (length sets.writes ≡ 16))
-    ⊎ (((set ≡ Holds) × ((length new.holds ≡ 128) ⊎ WasLong k v))
-    ⊎ ((set ≡ Reads) × (256 ≤ length sets.reads + length sets.headers) × KeepsHeader sets k v)))
-    × (w.blamed ≡ v.blamed) × TouchesTrees v w
+    ⊎ ((length sets.writes < 16) × (((set ≡ Holds) × ((length new.holds ≡ 128) ⊎ WasLong k v))
+    ⊎ ((set ≡ Reads) × (256 ≤ length sets.reads + length sets.headers) × KeepsHeader sets k v))))
+    × (w.blamed ≡ v.blamed) × (w.touched ≡ v.touched)
 RefusesTreeWrite sets new k (refusals.NumberLimit clock) v w = ⊥
 
--- The key was read first, and what that kept is among these sets then; the write was refused behind it.
-pub record RefusesBehindRead (new : Sets) (k : Key) (why : RefusalCause) (v w : View) : Type 0 where
+-- The key was read first, and the write was refused behind it. The sets of that moment had at most one record, of the
+-- key, one pointer and one header more.
+pub record RefusesBehindRead (old new : Sets) (k : Key) (why : RefusalCause) (v w : View) : Type 0 where
   pub then : View
   pub walked : OnlyWalked v then
   pub sets : Sets
   pub live : IsLive sets then
+  pub reads : (sets.reads ≡ old.reads) ⊎ ((e : ReadEntry) × (e.key ≡ k) × (sets.reads ≡ old.reads ++ e ∷ []))
+  pub pointers : (sets.pointers ≡ old.pointers) ⊎ ((p : Seen) × (sets.pointers ≡ old.pointers ++ p ∷ []))
+  pub headers : (sets.headers ≡ old.headers) ⊎ ((h : Seen) × (sets.headers ≡ old.headers ++ h ∷ []))
+  pub writes : sets.writes ≡ old.writes
   pub cause : RefusesTreeWrite sets new k why then w
 
 -- An addition or subtraction at the key was refused: as a write; as a read, where the write set has room; or as a write
@@ -112,4 +119,4 @@ abbrev pub RefusesTreeAlter : Sets → Sets → Key → RefusalCause → View �
 RefusesTreeAlter sets new k why v w =
     RefusesTreeWrite sets new k why v w
     ⊎ (((length sets.writes < 16) × RefusesTreeRead sets new k why v w)
-    ⊎ ((has_write k sets.writes ≡ false) × RefusesBehindRead new k why v w))
+    ⊎ ((has_write k sets.writes ≡ false) × RefusesBehindRead sets new k why v w))

@@ -81,6 +81,8 @@ pub record HasRenewed (k : Key) (at head word : ℕ) (sets new : Sets) : Type 0 
   pub writes : new.writes ≡ sets.writes
   pub holds : new.holds ≡ sets.holds
 
+-- what the sets keep of a key that was just added at that place: the header's new word and the new record, where the
+-- header was kept; and else nothing
 abbrev pub KeepsAdded : Key → ℕ → ℕ → ℕ → Sets → Sets → Type 0
 KeepsAdded k at head word sets new =
     ((has_word head sets.headers ≡ false) × (new ≡ sets)) ⊎ HasRenewed k at head word sets new

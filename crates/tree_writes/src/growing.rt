@@ -61,7 +61,7 @@ pub(crate) fn place_seen(
         let why = RefusalCause::Wide {
             set: SetName::Writes,
         };
-        return Err(refuse(engine, pass, &sets.holds, why));
+        return Err(refuse(engine, pass, sets, why));
     }
     Ok(entry.at)
 }
@@ -117,13 +117,13 @@ fn grow(
     if locked {
         let seen = load_header(engine, pass, leaf.slot, leaf.span, at);
         let why = conflict(at, leaf.header, seen);
-        return Err(refuse(engine, pass, &sets.holds, why));
+        return Err(refuse(engine, pass, sets, why));
     }
     if lacks_room(sets, at) {
         let why = RefusalCause::Wide {
             set: SetName::Reads,
         };
-        return Err(refuse(engine, pass, &sets.holds, why));
+        return Err(refuse(engine, pass, sets, why));
     }
     let full = leaf.header % 256 == FULL;
     if full {
@@ -171,7 +171,7 @@ fn add_to(
             keep_added(sets, key, at, head, leaf.header + 1);
             Ok(at)
         }
-        Err(why) => Err(refuse(engine, pass, &sets.holds, why)),
+        Err(why) => Err(refuse(engine, pass, sets, why)),
     }
 }
 
@@ -223,7 +223,7 @@ fn split_for(
         &mut sets.holds,
     ) {
         Ok(at) => end_split(engine, pass, sets, key, leaf, head, at),
-        Err(why) => Err(refuse(engine, pass, &sets.holds, why)),
+        Err(why) => Err(refuse(engine, pass, sets, why)),
     }
 }
 
@@ -249,7 +249,7 @@ fn end_split(
 {
     if names_page(sets, head) {
         let why = moved_record(engine, pass, leaf.slot, leaf.span);
-        return Err(refuse(engine, pass, &sets.holds, why));
+        return Err(refuse(engine, pass, sets, why));
     }
     let _ = key;
     Ok(at)

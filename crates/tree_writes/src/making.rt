@@ -43,7 +43,7 @@ pub(crate) fn bring(
         let why = RefusalCause::Wide {
             set: SetName::Writes,
         };
-        return Err(refuse(engine, pass, &sets.holds, why));
+        return Err(refuse(engine, pass, sets, why));
     }
     match make_volatile(
         engine,
@@ -54,6 +54,6 @@ pub(crate) fn bring(
         &sets.headers,
     ) {
         Ok(made) => Ok(made),
-        Err(why) => Err(refuse(engine, pass, &sets.holds, why)),
+        Err(why) => Err(refuse(engine, pass, sets, why)),
     }
 }

@@ -278,7 +278,7 @@ tree_write_cause op first sets new k (refusals.Full told) v w may are tree on r 
 }
 tree_write_cause op first sets new k (refusals.Wide set) v w may are tree on r = record {
   draws = r.1;
-  touched = trees_locked op k v w may tree r.4;
+  touched = untouched (op ∷ []) v w r.4;
   cause = inl on;
 }
 tree_write_cause op first sets new k (refusals.NumberLimit clock) v w may are tree on r = absurd r

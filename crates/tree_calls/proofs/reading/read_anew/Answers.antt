@@ -13,6 +13,7 @@ use Rattle.tree_calls.proofs.DueLaws.{find_due, TreeWalked}
 use Rattle.tree_calls.proofs.SetLaws.{room_found}
 use Rattle.tree_calls.proofs.TreeWalkLaws.{tree_walked}
 use Rattle.tree_calls.proofs.ValueLaws.{holds_after, value_found}
+use Rattle.tree_calls.proofs.WideLaws.{entry_wide_due, find_wide_due}
 use Rattle.tree_calls.proofs.reading.read_anew.Goals as goal
 
 pub find-requires-clause-can : goal.find-requires-clause-can
@@ -44,6 +45,11 @@ refuse-requires-clause-can c =
     let w = view c.find.new.pass in
     can_refuse c.args.sets.now c.find.new.holds v w c.requires.live (tree_walked v w c.find.ensures.walked)
     (holds_after c.args.sets.now c.find.new.holds v w c.requires.live c.find.ensures.walked c.find.ensures.can)
+
+pub refuse-requires-clause-wide : goal.refuse-requires-clause-wide
+refuse-requires-clause-wide c =
+    entry_wide_due c.in-Ok.found (record c.args.sets.now { holds = c.find.new.holds }) (view c.find.new.pass)
+    (sym c.lacks_room.ensures ∙ c.if-lacks_room.true)
 
 pub returns-then-lacks_room-clause-cause : goal.returns-then-lacks_room-clause-cause
 returns-then-lacks_room-clause-cause c =
@@ -90,6 +96,11 @@ refuse-requires-in-Err-clause-due c =
       can = c.find.ensures.can;
     } in
     find_due c.in-Err.why c.args.sets.now c.find.new.holds c.find.new.holds c.args.key v w h c.in-Err.ensures.cause
+
+pub refuse-requires-in-Err-clause-wide : goal.refuse-requires-in-Err-clause-wide
+refuse-requires-in-Err-clause-wide c =
+    find_wide_due c.in-Err.why (record c.args.sets.now { holds = c.find.new.holds }) c.args.key (view c.args.pass.now)
+    (view c.find.new.pass) c.in-Err.ensures.cause
 
 pub returns-in-Err-clause-cause : goal.returns-in-Err-clause-cause
 returns-in-Err-clause-cause c =

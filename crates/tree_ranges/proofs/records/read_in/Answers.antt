@@ -4,6 +4,7 @@ use Rattle.page_commit.proofs.WalkedLaws.{can_walk}
 use Rattle.tree_calls.proofs.CauseLaws.{find_told}
 use Rattle.tree_calls.proofs.DueLaws.{find_due}
 use Rattle.tree_calls.proofs.SetLaws.{room_found}
+use Rattle.tree_calls.proofs.WideLaws.{entry_wide_due, find_wide_due}
 use Rattle.tree_ranges.proofs.ReadInLaws.{read_done, read_full, read_refused, read_walked, refused_walked}
 use Rattle.tree_ranges.proofs.StopLaws.{stop_can}
 use Rattle.tree_ranges.proofs.records.read_in.Goals as goal
@@ -33,6 +34,11 @@ refuse-requires-clause-can c =
     stop_can c.args.sets.now c.args.sets.now.holds c.args.key v w w
     (read_walked c.args.sets.now c.args.key c.in-Ok.found v w c.requires.live c.in-Ok.ensures.keeps)
 
+pub refuse-requires-clause-wide : goal.refuse-requires-clause-wide
+refuse-requires-clause-wide c =
+    entry_wide_due c.in-Ok.found c.args.sets.now (view c.read_record.new.pass)
+    (sym c.lacks_room.ensures ∙ c.if-lacks_room.true)
+
 pub returns-then-lacks_room-clause-reads : goal.returns-then-lacks_room-clause-reads
 returns-then-lacks_room-clause-reads c =
     read_full c.in-Ok.found c.refuse.result c.args.sets.now c.args.key (view c.args.pass.now)
@@ -56,6 +62,11 @@ refuse-requires-in-Err-clause-due c =
     let w = view c.read_record.new.pass in
     find_due c.in-Err.why c.args.sets.now c.args.sets.now.holds c.args.sets.now.holds c.args.key v w
     (refused_walked c.args.sets.now c.args.key c.in-Err.why v w c.requires.live c.in-Err.ensures.keeps)
+    c.in-Err.ensures.keeps.cause
+
+pub refuse-requires-in-Err-clause-wide : goal.refuse-requires-in-Err-clause-wide
+refuse-requires-in-Err-clause-wide c =
+    find_wide_due c.in-Err.why c.args.sets.now c.args.key (view c.args.pass.now) (view c.read_record.new.pass)
     c.in-Err.ensures.keeps.cause
 
 pub returns-in-Err-clause-reads : goal.returns-in-Err-clause-reads

@@ -3,6 +3,7 @@ use Rattle.engine_pages.specs.Passes.{view}
 use Rattle.page_commit.proofs.WalkedLaws.{can_walk}
 use Rattle.tree_walks.proofs.HalfLaws.{bounds_of}
 use Rattle.tree_calls.proofs.DueLaws.{find_due}
+use Rattle.tree_calls.proofs.WideLaws.{find_wide_due}
 use Rattle.tree_ranges.proofs.StopLaws.{stop_can}
 use Rattle.tree_ranges.proofs.StretchLaws.{below_comes, below_place, free_less}
 use Rattle.tree_ranges.proofs.TakeLaws.{below_refused, below_walked}
@@ -50,6 +51,11 @@ refuse-requires-clause-due c =
     find_due c.in-Err.why c.args.sets.now c.args.sets.now.holds c.args.sets.now.holds c.args.key v w
     (below_walked c.args.sets.now c.args.key c.args.bare c.least_of-top.result c.in-Err.why c.read_below.new.rows v w
     c.requires.live c.in-Err.ensures.reads)
+    c.in-Err.ensures.reads.cause
+
+pub refuse-requires-clause-wide : goal.refuse-requires-clause-wide
+refuse-requires-clause-wide c =
+    find_wide_due c.in-Err.why c.args.sets.now c.args.key (view c.args.pass.now) (view c.read_below.new.pass)
     c.in-Err.ensures.reads.cause
 
 pub returns-in-Err-clause-comes : goal.returns-in-Err-clause-comes

@@ -3,6 +3,7 @@ use Rattle.engine_pages.specs.Passes.{view}
 use Rattle.tree_walks.proofs.FindLaws.{walk_finds}
 use Rattle.page_commit.proofs.WalkedLaws.{can_walk}
 use Rattle.tree_calls.proofs.DueLaws.{find_due}
+use Rattle.tree_calls.proofs.WideLaws.{find_wide_due}
 use Rattle.tree_ranges.proofs.StopLaws.{stop_can}
 use Rattle.tree_ranges.proofs.StretchLaws.{comes_behind}
 use Rattle.tree_ranges.proofs.TakeLaws.{walk_refused, walk_walked}
@@ -49,6 +50,14 @@ refuse-requires-clause-due c =
     let w = view c.go_down.new.pass in
     find_due c.in-Err.why c.args.sets.now c.go_down.new.holds c.go_down.new.holds c.args.key v w
     (walk_walked c.args.sets.now c.go_down.new.holds v w c.requires.live c.go_down.ensures.walked c.go_down.ensures.can)
+    (walk_finds c.args.key c.args.sets.now.pointers c.args.sets.now.headers c.go_down.new.holds c.in-Err.why v w
+    c.in-Err.ensures.cause)
+
+pub refuse-requires-clause-wide : goal.refuse-requires-clause-wide
+refuse-requires-clause-wide c =
+    let v = view c.args.pass.now in
+    let w = view c.go_down.new.pass in
+    find_wide_due c.in-Err.why (record c.args.sets.now { holds = c.go_down.new.holds }) c.args.key v w
     (walk_finds c.args.key c.args.sets.now.pointers c.args.sets.now.headers c.go_down.new.holds c.in-Err.why v w
     c.in-Err.ensures.cause)
 

@@ -4,8 +4,10 @@ use Rattle.engine_pages.specs.Layout.{page_at}
 use Rattle.engine_pages.specs.Passes.{view}
 use Rattle.page_commit.proofs.WalkedLaws.{can_walk}
 use Rattle.tx_sets.specs.declared.seen.Seen.{Seen}
+use Rattle.tree_walks.specs.declared.finding.Found.TheVariants as places
 use Rattle.tree_walks.specs.Ways.{IsMetSo}
 use Rattle.tree_calls.proofs.DueLaws.{find_due}
+use Rattle.tree_calls.proofs.WideLaws.{entry_wide_due, find_wide_due}
 use Rattle.tree_ranges.proofs.StopLaws.{stop_can}
 use Rattle.tree_ranges.proofs.StretchLaws.{head_room}
 use Rattle.tree_ranges.proofs.TakeLaws.{head_full, head_joined, head_refused, head_walked, not_walked}
@@ -21,6 +23,11 @@ pub refuse-requires-clause-can : goal.refuse-requires-clause-can
 refuse-requires-clause-can c =
     let v = view c.args.pass.now in
     stop_can c.args.sets.now c.args.sets.now.holds c.args.key v v v (not_walked c.args.sets.now v c.requires.live)
+
+pub refuse-requires-clause-wide : goal.refuse-requires-clause-wide
+refuse-requires-clause-wide c =
+    entry_wide_due (places.Absent c.word_at-at.result c.args.leaf.header) c.args.sets.now (view c.args.pass.now)
+    (sym c.lacks_room.ensures ∙ c.if-lacks_room.true)
 
 pub returns-then-lacks_room-clause-takes : goal.returns-then-lacks_room-clause-takes
 returns-then-lacks_room-clause-takes c =
@@ -67,6 +74,11 @@ refuse-requires-in-Err-clause-due c =
     let w = view c.keep_head.new.pass in
     find_due c.in-Err.why c.args.sets.now c.args.sets.now.holds c.args.sets.now.holds c.args.key v w
     (head_walked c.args.sets.now c.args.key c.args.leaf c.in-Err.why v w c.requires.live c.in-Err.ensures.keeps)
+    c.in-Err.ensures.keeps.cause
+
+pub refuse-requires-in-Err-clause-wide : goal.refuse-requires-in-Err-clause-wide
+refuse-requires-in-Err-clause-wide c =
+    find_wide_due c.in-Err.why c.args.sets.now c.args.key (view c.args.pass.now) (view c.keep_head.new.pass)
     c.in-Err.ensures.keeps.cause
 
 pub returns-in-Err-clause-takes : goal.returns-in-Err-clause-takes

@@ -3,6 +3,7 @@ use Rattle.engine_pages.specs.Passes.{view}
 use Rattle.tree_writes.proofs.Falling.{added_falls, falls_can, falls_so, Falls}
 use Rattle.tree_writes.proofs.GrowCans.{can_add_key}
 use Rattle.tree_writes.proofs.GrownSo.{added_grows, added_steps}
+use Rattle.tree_writes.proofs.WideLaws.{add_wide_due}
 use Rattle.tree_writes.proofs.growing.add_to.Goals as goal
 
 pub add_key-requires-clause-can : goal.add_key-requires-clause-can
@@ -32,6 +33,11 @@ refuse-requires-clause-due c =
     added_falls c.in-Err.why c.args.sets.now c.args.key c.args.leaf v w c.requires.live c.requires.lacking.0
     c.in-Err.ensures.cause in
     f.stopped.due
+
+pub refuse-requires-clause-wide : goal.refuse-requires-clause-wide
+refuse-requires-clause-wide c =
+    add_wide_due c.in-Err.why c.args.sets.now c.args.leaf.slot c.args.leaf.header (view c.args.pass.now)
+    (view c.add_key.new.pass) c.in-Err.ensures.cause
 
 pub returns-in-Err-clause-grows : goal.returns-in-Err-clause-grows
 returns-in-Err-clause-grows c =

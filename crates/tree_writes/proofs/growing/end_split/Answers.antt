@@ -3,6 +3,7 @@ use Rattle.engine_pages.specs.Passes.{view}
 use Rattle.tree_writes.proofs.Falling.{falls_can, falls_so, look_falls, look_steps, Falls}
 use Rattle.tree_writes.proofs.GrownSo.{split_grows}
 use Rattle.tree_writes.proofs.SplitHere.{old_full, old_moved}
+use Rattle.tree_writes.proofs.WideLaws.{look_wide_due}
 use Rattle.tree_writes.proofs.growing.end_split.Goals as goal
 
 pub moved_record-why-requires-clause-can : goal.moved_record-why-requires-clause-can
@@ -35,6 +36,11 @@ refuse-requires-clause-due c =
     c.requires.split.1 (view c.args.pass.now) (view c.moved_record-why.new.pass) c.requires.split.2
     c.moved_record-why.ensures.missed in
     f.stopped.due
+
+pub refuse-requires-clause-wide : goal.refuse-requires-clause-wide
+refuse-requires-clause-wide c =
+    look_wide_due c.moved_record-why.result c.args.sets.now c.args.leaf.slot (view c.args.pass.now)
+    (view c.moved_record-why.new.pass) c.moved_record-why.ensures.missed
 
 pub returns-then-names_page-clause-grows : goal.returns-then-names_page-clause-grows
 returns-then-names_page-clause-grows c old v s none room is =

@@ -6,8 +6,10 @@ use Rattle.engine_pages.specs.declared.view.SetName.TheVariants.{Reads}
 use Rattle.engine_pages.specs.Layout.{page_at}
 use Rattle.engine_pages.specs.Passes.{view}
 use Rattle.page_commit.specs.Steps.{HasGivenUp}
+use Rattle.page_commit.proofs.WideLaws.{no_entries}
 use Rattle.tree_writes.proofs.Falling.{falls_can, falls_so, headed_steps, locked_due, locked_falls, room_falls, Falls}
 use Rattle.tree_writes.proofs.GrowCans.{leaf_page, live_active}
+use Rattle.tree_writes.proofs.WideLaws.{conflict_wide_due}
 use Rattle.tree_writes.proofs.growing.grow.Goals as goal
 
 -- ---- the header is locked
@@ -48,6 +50,11 @@ refuse-requires-clause-due c =
     (locked_falls c.args.sets.now c.args.key c.args.leaf v w c.word_at-at.result c.load_header-seen.result c.requires.live
     c.requires.lacking.0 placed c.if-locked.true c.load_header-seen.ensures.loads)
 
+pub refuse-requires-clause-wide : goal.refuse-requires-clause-wide
+refuse-requires-clause-wide c =
+    conflict_wide_due c.conflict-why.result c.args.sets.now c.word_at-at.result c.args.leaf.header c.load_header-seen.result
+    (view c.load_header-seen.new.pass) c.conflict-why.ensures
+
 pub returns-then-locked-clause-grows : goal.returns-then-locked-clause-grows
 returns-then-locked-clause-grows c =
     let v = view c.args.pass.now in
@@ -78,6 +85,10 @@ refuse-requires-then-lacks_room-clause-can c =
     falls_can c.args.sets.now c.args.sets.now.holds c.args.key (refusals.Wide Reads) v v
     (room_falls c.args.sets.now c.args.key c.args.leaf v c.word_at-at.result c.requires.live c.requires.lacking.0 placed
     lacks.0 lacks.1)
+
+pub refuse-requires-then-lacks_room-clause-wide : goal.refuse-requires-then-lacks_room-clause-wide
+refuse-requires-then-lacks_room-clause-wide c =
+    no_entries c.args.sets.now (c.lacks_room.ensures.lacks c.if-lacks_room.true).1
 
 pub returns-then-lacks_room-clause-grows : goal.returns-then-lacks_room-clause-grows
 returns-then-lacks_room-clause-grows c =

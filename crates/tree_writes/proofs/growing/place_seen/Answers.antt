@@ -31,6 +31,9 @@ refuse-requires-clause-can c =
     (full_falls_here c.args.sets.now c.args.key v c.requires.live
     (writes_full c.is_full.result _ c.is_full.ensures.value c.if-is_full.true))
 
+pub refuse-requires-clause-wide : goal.refuse-requires-clause-wide
+refuse-requires-clause-wide c = writes_full c.is_full.result _ c.is_full.ensures.value c.if-is_full.true
+
 pub returns-then-is_full-clause-cause : goal.returns-then-is_full-clause-cause
 returns-then-is_full-clause-cause c =
     let v = view c.args.pass.now in
@@ -38,8 +41,9 @@ returns-then-is_full-clause-cause c =
     (writes_full c.is_full.result _ c.is_full.ensures.value c.if-is_full.true) in
     subst (λ (r : RefusalCause). RefusesTreeWrite c.args.sets.now c.args.sets.now c.args.key r v (view c.refuse.new.pass))
     (sym c.refuse.ensures.why)
-    (wide_end c.args.sets.now c.args.sets.now c.args.sets.now.holds c.args.key Writes v v (view c.refuse.new.pass) f.only
-    f.stopped c.refuse.ensures.gives_up refl c.requires.unwritten)
+    (wide_end c.args.sets.now c.args.sets.now c.args.sets.now.holds c.args.key v v (view c.refuse.new.pass) f.only
+    f.stopped c.refuse.ensures.gives_up (writes_full c.is_full.result _ c.is_full.ensures.value c.if-is_full.true)
+    c.requires.unwritten)
 
 pub returns-then-is_full-clause-refused : goal.returns-then-is_full-clause-refused
 returns-then-is_full-clause-refused c =

@@ -3,6 +3,7 @@ use Rattle.engine_pages.specs.Passes.{view}
 use Rattle.page_commit.specs.Steps.{CanRefuse}
 use Rattle.tree_writes.proofs.Falling.{falls_can, falls_so, split_falls, Falls}
 use Rattle.tree_writes.proofs.GrowCans.{can_split_leaf, full_keys}
+use Rattle.tree_writes.proofs.WideLaws.{split_wide_due}
 use Rattle.tree_writes.proofs.growing.split_for.Goals as goal
 
 pub split-requires-clause-can : goal.split-requires-clause-can
@@ -55,6 +56,11 @@ refuse-requires-clause-due c =
     split_falls c.in-Err.why c.args.sets.now c.args.key c.args.leaf v w c.requires.live c.requires.lacking.0
     (full_keys c.args.sets.now c.args.key c.args.leaf v c.requires.lacking.0 c.requires.full) c.in-Err.ensures.missed in
     f.stopped.due
+
+pub refuse-requires-clause-wide : goal.refuse-requires-clause-wide
+refuse-requires-clause-wide c =
+    split_wide_due c.in-Err.why (record c.args.sets.now { holds = c.split.new.holds }) c.args.sets.now.holds c.args.leaf.slot
+    c.args.leaf.header (view c.args.pass.now) (view c.split.new.pass) c.in-Err.ensures.kept c.in-Err.ensures.missed
 
 pub returns-in-Err-clause-grows : goal.returns-in-Err-clause-grows
 returns-in-Err-clause-grows c =

@@ -10,6 +10,7 @@ use Rattle.tree_writes.specs.Causes.{RefusesTreeWrite}
 use Rattle.tree_writes.proofs.Falling.{falls_can, full_falls_here, made_falls, Falls}
 use Rattle.tree_writes.proofs.MadeLaws.{can_make, has_made}
 use Rattle.tree_writes.proofs.Stopping.{refused_end, wide_end, write_end}
+use Rattle.tree_writes.proofs.WideLaws.{make_wide_due}
 use Rattle.tree_writes.proofs.making.bring.Goals as goal
 
 -- ---- the write set was full
@@ -21,6 +22,9 @@ refuse-requires-clause-can c =
     (full_falls_here c.args.sets.now c.args.key v c.requires.live
     (writes_full c.is_full.result _ c.is_full.ensures.value c.if-is_full.true))
 
+pub refuse-requires-clause-wide : goal.refuse-requires-clause-wide
+refuse-requires-clause-wide c = writes_full c.is_full.result _ c.is_full.ensures.value c.if-is_full.true
+
 pub returns-then-is_full-clause-cause : goal.returns-then-is_full-clause-cause
 returns-then-is_full-clause-cause c =
     let v = view c.args.pass.now in
@@ -28,8 +32,9 @@ returns-then-is_full-clause-cause c =
     (writes_full c.is_full.result _ c.is_full.ensures.value c.if-is_full.true) in
     subst (λ (r : RefusalCause). RefusesTreeWrite c.args.sets.now c.args.sets.now c.args.key r v (view c.refuse.new.pass))
     (sym c.refuse.ensures.why)
-    (wide_end c.args.sets.now c.args.sets.now c.args.sets.now.holds c.args.key Writes v v (view c.refuse.new.pass) f.only
-    f.stopped c.refuse.ensures.gives_up refl c.requires.unwritten)
+    (wide_end c.args.sets.now c.args.sets.now c.args.sets.now.holds c.args.key v v (view c.refuse.new.pass) f.only
+    f.stopped c.refuse.ensures.gives_up (writes_full c.is_full.result _ c.is_full.ensures.value c.if-is_full.true)
+    c.requires.unwritten)
 
 pub returns-then-is_full-clause-refused : goal.returns-then-is_full-clause-refused
 returns-then-is_full-clause-refused c =
@@ -76,6 +81,11 @@ refuse-requires-in-Err-clause-due c =
     made_falls c.in-Err.why c.args.sets.now c.make_volatile.new.holds c.args.key v w c.requires.live
     c.make_volatile.ensures.walked c.make_volatile.ensures.can c.in-Err.ensures.cause in
     f.stopped.due
+
+pub refuse-requires-in-Err-clause-wide : goal.refuse-requires-in-Err-clause-wide
+refuse-requires-in-Err-clause-wide c =
+    make_wide_due c.in-Err.why (record c.args.sets.now { holds = c.make_volatile.new.holds }) c.args.key
+    (view c.args.pass.now) (view c.make_volatile.new.pass) c.in-Err.ensures.cause
 
 pub returns-in-Err-clause-cause : goal.returns-in-Err-clause-cause
 returns-in-Err-clause-cause c =

@@ -80,8 +80,8 @@ returns-in_err-at-clause-cause c =
     let p = err_from_is_err_and c.from_residual-in_err-at.result c.from_residual-in_err-at.ensures.1 in
     rw (p.1, p.2) (place_cause c.in_err-at.field-0.0 c.args.sets.now c.bring.new.sets c.read_value.new.sets
     c.place_seen.new.sets c.args.key (view c.args.pass.now) (view c.bring.new.pass) (view c.read_value.new.pass)
-    (view c.place_seen.new.pass) c.in_ok-bring.ensures.makes.makes c.in_ok-before.ensures.value.only
-    c.in_ok-before.ensures.value.live c.requires.unwritten c.in_err-at.ensures.cause)
+    (view c.place_seen.new.pass) c.in_ok-bring.ensures.makes.makes c.in_ok-before.ensures.value
+    c.requires.unwritten c.in_err-at.ensures.cause)
 
 pub returns-in_err-at-clause-refused : goal.returns-in_err-at-clause-refused
 returns-in_err-at-clause-refused c =

@@ -1,6 +1,6 @@
 -- The step of a swing of a tree's interior page: the pass has shut each of its pointers.
-use Rattle.std.proofs.Common.{◌≡◌, inl, inr, ℕ, zero, suc, ◌+◌, ◌<◌, ◌≤◌, ◌^◌, Bool, true, false, eqb, eq-eqb, ltb}
-use Rattle.std.proofs.Common.{List, [], ◌∷◌, length, get_or, refl, sym, ap, ◌∙◌, subst, arith, Option, Some, None}
+use Rattle.std.proofs.Common.{◌≡◌, ℕ, zero, suc, ◌+◌, ◌<◌, ◌≤◌, ◌^◌, true, false, eqb, eq-eqb, ltb, List, [], ◌∷◌, length}
+use Rattle.std.proofs.Common.{get_or, refl, sym, ap, ◌∙◌, subst, arith, Option, Some, None}
 use Rattle.std.specs.Prelude.{◌&&◌, is_none, map}
 use Rattle.std.specs.List.{Contains, list_all, slice_get}
 use Rattle.std.specs.Option.{option_map_or}
@@ -11,14 +11,13 @@ use Rattle.serial_model.specs.declared.decl.Decl.{Decl}
 use Rattle.serial_model.specs.declared.decl.Decl.TheVariants.{Tree}
 use Rattle.serial_model.specs.Keys.{id_of}
 use Rattle.homes.specs.declared.places.At.{At}
-use Rattle.homes.specs.declared.places.Holder.TheVariants.{Free, Held, Dead}
+use Rattle.homes.specs.declared.places.Holder.TheVariants.{Free, Held}
 use Rattle.homes.specs.declared.places.Span.{Span}
 use Rattle.homes.specs.Homes.{holder_is, moves_to, same_span}
-use Rattle.wire_form.specs.Words.{at_bit, slot_field}
+use Rattle.wire_form.specs.Words.{slot_field}
 use Rattle.snapshot_store.specs.declared.place.PagePlace.{PagePlace}
 use Rattle.snapshot_store.specs.Places.{page as page_words}
 use Rattle.snapshot_store.specs.TreePages.{node_below, node_of}
-use Rattle.commit_core.specs.declared.seat.Seat.{Seat}
 use Rattle.commit_core.specs.declared.story.Story.{Story}
 use Rattle.commit_core.specs.CoreState.{can_begin}
 use Rattle.commit_core.specs.Event.{moved as moved_as}
@@ -29,15 +28,14 @@ use Rattle.drop_core.specs.declared.table.Page.TheVariants.{Inner, Split}
 use Rattle.drop_core.specs.declared.table.Pointer.{Pointer}
 use Rattle.drop_core.specs.declared.table.SnapPage.TheVariants.{Children}
 use Rattle.drop_core.specs.declared.table.Table.{Table}
-use Rattle.drop_core.specs.Event.{all_below, child, has_children, is_child_at, is_closed_to_others, is_like, is_right, is_right_child}
-use Rattle.drop_core.specs.Event.{is_same_at, is_same_child, is_stood_for, is_tile, keys_in, keys_pass, leaf_keys, moves, tile}
-use Rattle.drop_core.specs.Event.{is_allowed as page_allows}
-use Rattle.drop_core.specs.Table.{at_index, header_of, is_never, page_of, pointer_of, slot_of, snap_home, snap_of}
+use Rattle.drop_core.specs.Event.{all_below, child, has_children, is_child_at, is_closed_to_others, is_like, is_right}
+use Rattle.drop_core.specs.Event.{is_right_child, is_same_at, is_same_child, is_stood_for, is_tile, keys_in}
+use Rattle.drop_core.specs.Event.{keys_pass, leaf_keys, moves, tile, is_allowed as page_allows}
+use Rattle.drop_core.specs.Table.{at_index, is_never, page_of, pointer_of, slot_of, snap_home, snap_of}
 use Rattle.engine_rule.specs.declared.event.JointAct.TheVariants.{Turn as TurnPages}
 use Rattle.engine_rule.specs.Event.{absences_are_old, after_moves, commit_lets, holds_all, may_move}
 use Rattle.engine_rule.specs.Reading.{children_at, name_of, page_from, span_of}
 use Rattle.engine_pages.specs.declared.layout.Layout.{Layout}
-use Rattle.engine_pages.specs.declared.view.Inner.{Inner as InnerOf}
 use Rattle.engine_pages.specs.declared.view.View.{View}
 use Rattle.engine_pages.specs.Pages.{decl_of, is_tree, part_between, Fenced}
 use Rattle.engine_pages.specs.Resident.{IsNamed, place_for, tree_below}
@@ -55,10 +53,10 @@ use Rattle.dual_pointer.proofs.TreePages.{IsTreeEntry, tree_entry}
 use Rattle.pointer_swings.specs.Shuts.{shut_of}
 use Rattle.pointer_swings.specs.Swings.{CanSwing}
 use Rattle.pointer_swings.specs.TreeSwings.{IsTreeInnerAs}
-use Rattle.pointer_swings.proofs.SwingFacts.{IsClosed, Target, led, one_slot}
+use Rattle.pointer_swings.proofs.SwingFacts.{IsClosed, Target, aims, led, none_buried, one_slot}
 use Rattle.pointer_swings.proofs.SwingInner.{all_true, below_same, freed-look, open_table}
-use Rattle.pointer_swings.proofs.Swinging.{Point, begins, laid-out, leads-to, pages_allow, point, seat-is, stride_with, to as target_of}
-use Rattle.pointer_swings.proofs.Swinging.{w as swung_view}
+use Rattle.pointer_swings.proofs.Swinging.{Point, begins, laid-out, leads-to, pages_allow, point, seat-is}
+use Rattle.pointer_swings.proofs.Swinging.{stride_with, to as target_of, w as swung_view}
 
 -- a page that has places below it has children
 children_there : (places : List (Decl × PagePlace)) (decl : Decl) (words : List ℕ) (p : PagePlace) (below : List PagePlace)
@@ -94,7 +92,7 @@ module _ (laws : Laws) (l : Layout) (words : List ℕ) (views : List View) (s : 
   abbrev q : Pointer
   q = pointer_of d x
 
-  abbrev to : Target laws l words views s id v active b x sp at t number expected c n-is
+  abbrev to : Target laws l words views s id v active b x sp at t number expected (aims c) n-is
   to = target_of laws l words views s id v active b x sp at t number expected c n-is
 
   abbrev separators : List ℕ
@@ -126,7 +124,7 @@ module _ (laws : Laws) (l : Layout) (words : List ℕ) (views : List View) (s : 
 
   shows : ShowsTree s.resident.places words l.slots t fence.0 (IsOverwritten m) (place_of m.places) d (Inner count)
   shows =
-      let from = led laws l words views s id v active b x sp at t number expected c n-is in
+      let from = led laws l words views s id v active b x sp at t number expected (aims c) n-is in
       let known = known_shown d t (slot_of d t).state (slot_of d t).led (ap is_never from) (b.sound.joint.pages.table.holds_counted.led t) in
       subst (ShowsTree s.resident.places words l.slots t fence.0 (IsOverwritten m) (place_of m.places) d) page-is
       (b.sound.shown.treed t fence.0 (subst (λ u. u < l.slots) a.slot inner-is.within) known fence.1)
@@ -301,7 +299,7 @@ module _ (laws : Laws) (l : Layout) (words : List ℕ) (views : List View) (s : 
       let same : Inner k ≡ Inner count = sym is ∙ (ap (page_of d) (sym here) ∙ page-is) in
       let many : k ≡ count = cc in
       ap (λ i. lock_field (pointer_of d (at_index i j)).holder) (sym here) ∙ ap lock_field (shut-at j (omega (arith, less, many))))
-      (λ y left. refl) (λ y. refl) (λ y. refl) (λ y free. free)
+      (none_buried m (t ∷ []))
 
   moved-none : after_moves p m (s.seats p) (moves d (Swing x to.name))
       ≡ record { story = m; seat = record v.seat { locks = [] } }
@@ -331,5 +329,5 @@ module _ (laws : Laws) (l : Layout) (words : List ℕ) (views : List View) (s : 
       → tells v (get_or words at 0) (swung_view laws l words views s id v active b x sp at t number expected c n-is)
       → Stride l words views s p v at f tells
   branch_turns f tells f-is tells-so =
-      stride_with laws l words views s id v active b x sp at t number expected c n-is m.places m.homes m.horizon f tells
+      stride_with laws l words views s id v active b x sp at t number expected c n-is m.places m.homes m.horizon f tells closed
       branch-point f-is may-branch moved-none tells-so

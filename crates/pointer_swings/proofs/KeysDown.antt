@@ -1,6 +1,6 @@
 -- Keys of a list go down to a snapshot page: the moves of a swing of a tree's leaf.
-use Rattle.std.proofs.Common.{◌≡◌, inl, inr, ℕ, zero, suc, ◌+◌, ◌<◌, ◌≤◌, Bool, true, false, true≢false, eqb, eq-eqb, ltb, not}
-use Rattle.std.proofs.Common.{List, [], ◌∷◌, refl, sym, ap, ◌∙◌, subst, arith, Option, Some, None}
+use Rattle.std.proofs.Common.{◌≡◌, inl, inr, ℕ, suc, ◌+◌, ◌<◌, ◌≤◌, Bool, true, false, true≢false, eqb, ltb, not}
+use Rattle.std.proofs.Common.{List, [], ◌∷◌, refl, sym, ap, ◌∙◌, arith, Option, Some, None}
 use Rattle.std.specs.Prelude.{◌&&◌, ◌||◌, is_none, is_some}
 use Rattle.std.specs.List.{Contains, list_all, slice_get}
 use Rattle.std.proofs.lemmas.Bool.{and_from, or_left, or_right}
@@ -13,15 +13,15 @@ use Rattle.homes.specs.declared.places.Content.{Content}
 use Rattle.homes.specs.declared.places.Holder.TheVariants.{Free}
 use Rattle.homes.specs.declared.places.Home.{Home}
 use Rattle.homes.specs.declared.places.Spot.{Spot}
-use Rattle.homes.specs.Homes.{has_key, is_free, moves_to, same_content, same_spot}
+use Rattle.homes.specs.Homes.{is_free, moves_to, same_content, same_spot}
 use Rattle.homes.specs.Laws.{same_spot-true}
 use Rattle.commit_core.specs.declared.attempt.Attempt.{Attempt}
 use Rattle.commit_core.specs.declared.place.Place.{Place}
 use Rattle.commit_core.specs.declared.story.Story.{Story}
 use Rattle.commit_core.specs.CoreState.{is_in_progress}
 use Rattle.commit_core.specs.Keys.{nothing}
-use Rattle.commit_core.specs.Moves.{are_apart, can_move, can_rehome, is_below_all, is_left, is_movable, is_nobodys, is_spot}
-use Rattle.commit_core.specs.Moves.{may_go_for, moves_key, moves_to_spot}
+use Rattle.commit_core.specs.Moves.{are_apart, can_move, can_rehome, is_below_all, is_left, is_movable, is_nobodys}
+use Rattle.commit_core.specs.Moves.{is_spot, may_go_for, moves_key, moves_to_spot}
 use Rattle.commit_core.specs.Parts.{IsSameOrAbsent}
 use Rattle.commit_core.specs.Places.{holder_is, place_of, spot_at, spot_of, stands, stands_at}
 use Rattle.drop_core.specs.declared.table.Table.{Table}
@@ -78,6 +78,25 @@ left_keys to homes t j (x ∷ keys) y rows left =
         let found = rest (sym (ap (λ (c : Bool). c || is_left (moves_to to keys) homes y) miss) ∙ left) in
         (suc found.0, found.1, found.2, found.3 ∙ ap (spot t) (plus_next j found.0))
 
+-- and so it is where the places are in any slots
+pub left_by : (to : Key → Home) (homes : List (Key × Home)) (keys : List Key) (y : Spot)
+    → ((k : Key) → Contains keys k → (z : Spot) × (spot_at homes k ≡ Some z))
+    → is_left (moves_to to keys) homes y ≡ true → (k : Key) × Contains keys k × (spot_at homes k ≡ Some y)
+left_by to homes [] y at left = absurd (true≢false (sym left))
+left_by to homes (x ∷ keys) y at left =
+    by_first (is_spot y (spot_at homes x)) refl (λ more. left_by to homes keys y (λ k has. at k (in_tail k x keys has)) more)
+  where
+    by_first : (c : Bool) → is_spot y (spot_at homes x) ≡ c
+        → (is_left (moves_to to keys) homes y ≡ true → (k : Key) × Contains keys k × (spot_at homes k ≡ Some y))
+        → (k : Key) × Contains (x ∷ keys) k × (spot_at homes k ≡ Some y)
+    by_first true hit rest =
+        let here = at x (in_head x keys) in
+        let same : same_spot y here.0 ≡ true = sym (ap (is_spot y) here.1) ∙ hit in
+        (x, in_head x keys, here.1 ∙ ap Some (sym (same_spot-true y here.0 same)))
+    by_first false miss rest =
+        let found = rest (sym (ap (λ (c : Bool). c || is_left (moves_to to keys) homes y) miss) ∙ left) in
+        (found.0, in_tail found.0 x keys found.1, found.2)
+
 -- ---- an absence that is old
 
 -- the epoch is below that of each attempt in progress
@@ -130,38 +149,39 @@ below_all m epoch n over low = all m.history over
 
 -- ---- the moves may be made
 
--- what is known of the keys of a leaf that goes down to page n: an absence is no younger than this epoch
-pub record CanMoveKeys (p : ℕ) (m : Story) (d : Table) (t : ℕ) (keys : List Key) (n epoch : ℕ) : Type 0 where
+-- what is known of a key that goes down from this place to page n: an absence is no younger than this epoch
+pub record GoesDown (p : ℕ) (m : Story) (d : Table) (n epoch : ℕ) (k : Key) (y : Spot) : Type 0 where
+  pub at : stands m.places m.homes k ≡ place_of m.places y
+  pub held : holder_is p (place_of m.places y).holder ≡ true
+  pub says : IsSameOrAbsent (place_of m.places y).content (page_content (snap_home d n k))
+  pub empty : (page_content (snap_home d n k)).value ≡ None → page_content (snap_home d n k) ≡ nothing
+  pub old : (place_of m.places y).content.value ≡ None → (place_of m.places y).content.number.epoch ≤ epoch
+
+-- so it is of each of these keys
+pub record CanMoveKeys (p : ℕ) (m : Story) (d : Table) (keys : List Key) (n epoch : ℕ) : Type 0 where
   pub once : each_once keys ≡ true
   pub over : IsOver m epoch
-  pub at : (i : ℕ) (k : Key) → slice_get keys i ≡ Some k → stands m.places m.homes k ≡ place_of m.places (spot t i)
-  pub held : (i : ℕ) (k : Key) → slice_get keys i ≡ Some k → holder_is p (place_of m.places (spot t i)).holder ≡ true
-  pub says : (i : ℕ) (k : Key) → slice_get keys i ≡ Some k
-      → IsSameOrAbsent (place_of m.places (spot t i)).content (page_content (snap_home d n k))
-  pub empty : (i : ℕ) (k : Key) → slice_get keys i ≡ Some k → (page_content (snap_home d n k)).value ≡ None
-      → page_content (snap_home d n k) ≡ nothing
-  pub old : (i : ℕ) (k : Key) → slice_get keys i ≡ Some k → (place_of m.places (spot t i)).content.value ≡ None
-      → (place_of m.places (spot t i)).content.number.epoch ≤ epoch
+  pub each : (i : ℕ) (k : Key) → slice_get keys i ≡ Some k → (y : Spot) × GoesDown p m d n epoch k y
 
-module _ (p : ℕ) (m : Story) (d : Table) (t : ℕ) (keys : List Key) (n epoch : ℕ) (can : CanMoveKeys p m d t keys n epoch) where
+module _ (p : ℕ) (m : Story) (d : Table) (keys : List Key) (n epoch : ℕ) (can : CanMoveKeys p m d keys n epoch) where
   -- the page's content may go for the record's
-  goes : (i : ℕ) (k : Key) → slice_get keys i ≡ Some k
-      → may_go_for m (page_content (snap_home d n k)) (place_of m.places (spot t i)).content ≡ true
-  goes i k is = elim (can.says i k is) [
+  goes : (k : Key) (y : Spot) → GoesDown p m d n epoch k y
+      → may_go_for m (page_content (snap_home d n k)) (place_of m.places y).content ≡ true
+  goes k y g = elim g.says [
     | inl same ↦
         ap (λ (c : Content). may_go_for m (page_content (snap_home d n k)) c) same
         ∙ ap (λ (c : Bool). c || (same_content (page_content (snap_home d n k)) nothing && (is_none (page_content (snap_home d n k)).value && is_below_all m.history m.decided m.given_up (page_content (snap_home d n k)).number)))
         (content-self (page_content (snap_home d n k)))
     | inr both ↦
-        let c = (place_of m.places (spot t i)).content in
-        let none = can.empty i k is both.1 in
+        let c = (place_of m.places y).content in
+        let none = g.empty both.1 in
         or_right (same_content (page_content (snap_home d n k)) c)
         (same_content (page_content (snap_home d n k)) nothing && (is_none c.value && is_below_all m.history m.decided m.given_up c.number))
         (and_from (same_content (page_content (snap_home d n k)) nothing)
         (is_none c.value && is_below_all m.history m.decided m.given_up c.number)
         (ap (λ (z : Content). same_content z nothing) none ∙ content-self nothing)
         (and_from (is_none c.value) (is_below_all m.history m.decided m.given_up c.number) (ap is_none both.0)
-        (below_all m epoch c.number can.over (can.old i k is both.0))))
+        (below_all m epoch c.number can.over (g.old both.0))))
   ]
 
   pub may_move_keys : can_rehome p true m (moves_to (snap_home d n) keys) ≡ true
@@ -175,28 +195,33 @@ module _ (p : ℕ) (m : Story) (d : Table) (t : ℕ) (keys : List Key) (n epoch 
       one i k is =
           let h : Home = snap_home d n k in
           let none = snap_unspotted d n k in
-          let old = can.at i k is in
+          let y : Spot = (can.each i k is).0 in
+          let g = (can.each i k is).1 in
+          let old = g.at in
           let new : stands_at m.places h ≡ record { content = page_content h; holder = Free } = stands_free m.places h none in
           and_from (is_movable p true (stands m.places m.homes k).holder) _
           (ap (λ (q : Place). is_movable p true q.holder) old
-          ∙ or_right (is_free (place_of m.places (spot t i)).holder) (holder_is p (place_of m.places (spot t i)).holder && true)
-          (and_from (holder_is p (place_of m.places (spot t i)).holder) true (can.held i k is) refl))
+          ∙ or_right (is_free (place_of m.places y).holder) (holder_is p (place_of m.places y).holder && true)
+          (and_from (holder_is p (place_of m.places y).holder) true g.held refl))
           (and_from (is_free (stands_at m.places h).holder) _ (ap (λ (q : Place). is_free q.holder) new)
           (and_from (is_nobodys m.homes (spot_of h)) (may_go_for m (stands_at m.places h).content (stands m.places m.homes k).content)
           (ap (is_nobodys m.homes) none)
           (ap (λ (q : Place). may_go_for m q.content (stands m.places m.homes k).content) new
-          ∙ (ap (λ (q : Place). may_go_for m (page_content h) q.content) old ∙ goes i k is))))
+          ∙ (ap (λ (q : Place). may_go_for m (page_content h) q.content) old ∙ goes k y g))))
 
   pub holds_listed : holds_all p m keys ≡ true
   holds_listed =
       each_in (λ k. holder_is p (stands m.places m.homes k).holder) keys
-      (λ i k is. ap (λ (q : Place). holder_is p q.holder) (can.at i k is) ∙ can.held i k is)
+      (λ i k is. let g = (can.each i k is).1 in ap (λ (q : Place). holder_is p q.holder) g.at ∙ g.held)
 
   pub absences_listed : absences_are_old m keys ≡ true
   absences_listed =
       each_in (λ k. is_some (stands m.places m.homes k).content.value || is_before_all m (stands m.places m.homes k).content.number.epoch) keys
-      (λ i k is. ap (λ (q : Place). is_some q.content.value || is_before_all m q.content.number.epoch) (can.at i k is)
-      ∙ by_value (place_of m.places (spot t i)).content (place_of m.places (spot t i)).content.value refl (can.old i k is))
+      (λ i k is.
+      let y : Spot = (can.each i k is).0 in
+      let g = (can.each i k is).1 in
+      ap (λ (q : Place). is_some q.content.value || is_before_all m q.content.number.epoch) g.at
+      ∙ by_value (place_of m.places y).content (place_of m.places y).content.value refl g.old)
     where
       by_value : (c : Content) (o : Option ℕ) → c.value ≡ o → (c.value ≡ None → c.number.epoch ≤ epoch)
           → (is_some c.value || is_before_all m c.number.epoch) ≡ true

@@ -26,7 +26,7 @@ use Rattle.dual_pointer.proofs.Moves.{pass_all}
 use Rattle.dual_pointer.proofs.TreePages.{IsTreeLeaf, keys_of, keys_read}
 
 -- what the entries have for a key is the record with the key
-entry_found : (name id : ℕ) (records : List Record) (k : Key) → k.storage ≡ id
+pub entry_found : (name id : ℕ) (records : List Record) (k : Key) → k.storage ≡ id
     → page_content (entry_home name (tree_entries id records) k) ≡ found_content (record_for records k.key)
 entry_found name id [] k same = refl
 entry_found name id (r ∷ records) k same =

@@ -1,15 +1,12 @@
 -- The step of a swing of a tree's leaf: the pass has locked its header and each of its records.
-use Rattle.std.proofs.Common.{◌≡◌, inl, inr, ℕ, ◌+◌, ◌<◌, ◌≤◌, Bool, true, false, true≢false, eqb, eq-eqb, not, List, [], ◌∷◌}
-use Rattle.std.proofs.Common.{length, filter, get_or, refl, sym, ap, ◌∙◌, subst, arith, Option, Some, None}
+use Rattle.std.proofs.Common.{◌≡◌, ℕ, ◌+◌, ◌<◌, ◌≤◌, Bool, true, false, true≢false, eq-eqb, not, List, [], ◌∷◌, filter}
+use Rattle.std.proofs.Common.{get_or, refl, sym, ap, ◌∙◌, subst, arith, Some, None}
 use Rattle.std.specs.Prelude.{◌&&◌, ◌||◌}
-use Rattle.std.specs.List.{Contains, slice_get}
-use Rattle.std.proofs.lemmas.Bool.{and_from, cases_Bool}
+use Rattle.std.specs.List.{slice_get}
+use Rattle.std.proofs.lemmas.Bool.{and_from}
 use Rattle.serial_model.specs.declared.key.Key.{Key}
-use Rattle.serial_model.specs.declared.number.Number.{Number}
 use Rattle.homes.specs.declared.places.At.{At}
 use Rattle.homes.specs.declared.places.Content.{Content}
-use Rattle.homes.specs.declared.places.Holder.{Holder}
-use Rattle.homes.specs.declared.places.Holder.TheVariants.{Free, Held, Dead}
 use Rattle.homes.specs.declared.places.Home.{Home}
 use Rattle.homes.specs.declared.places.Home.TheVariants.{InSlot}
 use Rattle.homes.specs.declared.places.Move.{Move}
@@ -17,7 +14,6 @@ use Rattle.homes.specs.declared.places.Span.{Span}
 use Rattle.homes.specs.declared.places.Spot.{Spot}
 use Rattle.homes.specs.Homes.{has_key, holder_is, in_span, moves_to}
 use Rattle.homes.specs.Laws.{in_span-parts, same_key-self}
-use Rattle.wire_form.specs.Words.{at_bit}
 use Rattle.snapshot_store.specs.TreePages.{Record, node_below, node_of, record_for, records_of}
 use Rattle.commit_core.specs.declared.place.Place.{Place}
 use Rattle.commit_core.specs.declared.seat.Seat.{Seat}
@@ -25,31 +21,31 @@ use Rattle.commit_core.specs.declared.story.Story.{Story}
 use Rattle.commit_core.specs.CoreState.{can_begin, settled, settled_at}
 use Rattle.commit_core.specs.Event.{moved as moved_as}
 use Rattle.commit_core.specs.Keys.{nothing}
-use Rattle.commit_core.specs.Lemmas.Moves.{place-left, place-stays}
-use Rattle.commit_core.specs.Moves.{buried as buried_places, can_rehome, horizon_after, is_left, moves_key, rehomed, with_moves}
+use Rattle.commit_core.specs.Moves.{buried as buried_places, can_rehome, horizon_after, is_left, moves_key, rehomed}
+use Rattle.commit_core.specs.Moves.{with_moves}
 use Rattle.commit_core.specs.Parts.{IsSameOrAbsent}
-use Rattle.commit_core.specs.Places.{home_of, place_of, spot_of, stands_at}
+use Rattle.commit_core.specs.Places.{place_of, spot_of, stands_at}
 use Rattle.drop_core.specs.declared.event.Act.TheVariants.{Swing}
 use Rattle.drop_core.specs.declared.table.Page.{Page}
 use Rattle.drop_core.specs.declared.table.Page.TheVariants.{Leaf, Inner, Split}
 use Rattle.drop_core.specs.declared.table.Pointer.{Pointer}
 use Rattle.drop_core.specs.declared.table.Table.{Table}
-use Rattle.drop_core.specs.Event.{each_once, is_closed_to_others, is_in, is_like, is_stood_for, keys_in, leaf_keys, leaves_none_out, moves}
-use Rattle.drop_core.specs.Event.{is_allowed as page_allows}
-use Rattle.drop_core.specs.Table.{has_slot, header_of, is_never, page_of, pointer_of, slot_of, snap_home, snap_of}
+use Rattle.drop_core.specs.Event.{each_once, is_closed_to_others, is_like, is_stood_for, keys_in, leaf_keys}
+use Rattle.drop_core.specs.Event.{leaves_none_out, moves, is_allowed as page_allows}
+use Rattle.drop_core.specs.Table.{header_of, is_never, page_of, pointer_of, slot_of, snap_home, snap_of}
 use Rattle.engine_rule.specs.declared.event.JointAct.TheVariants.{Turn as TurnPages}
 use Rattle.engine_rule.specs.Event.{absences_are_old, after_moves, commit_lets, holds_all, may_move}
 use Rattle.engine_rule.specs.Pairs.{page_content}
 use Rattle.engine_pages.specs.declared.layout.Layout.{Layout}
 use Rattle.engine_pages.specs.declared.view.View.{View}
 use Rattle.engine_pages.specs.Pages.{decl_of, is_array, is_tree, Fenced}
-use Rattle.engine_pages.specs.Resident.{found_content, tree_below}
+use Rattle.engine_pages.specs.Resident.{tree_below}
 use Rattle.engine_pages.specs.Rule.{Shared, IsHead, IsHeld}
 use Rattle.engine_pages.specs.Views.{IsActive, seat_number}
-use Rattle.engine_pages.specs.Words.{IsOverwritten, lock_field, spot, ShowsTree}
+use Rattle.engine_pages.specs.Words.{IsOverwritten, spot, ShowsTree}
 use Rattle.engine_pages.proofs.Joint.{Laws, may_do}
 use Rattle.engine_pages.proofs.Named.{page_longer}
-use Rattle.engine_pages.proofs.PointerLaws.{known_shown, one_fence, tree_over}
+use Rattle.engine_pages.proofs.PointerLaws.{known_shown, tree_over}
 use Rattle.engine_pages.proofs.Seats.{is_at}
 use Rattle.engine_pages.proofs.Turns.{Stride, Begins}
 use Rattle.page_records.specs.Locks.{took_at}
@@ -59,28 +55,28 @@ use Rattle.page_records.proofs.TreeLeaves.{tree_no_array}
 use Rattle.page_records.proofs.Undecided.{begins_undecided, undecided}
 use Rattle.dual_pointer.specs.Installs.{tree_records}
 use Rattle.dual_pointer.proofs.Keyed.{has_at}
-use Rattle.dual_pointer.proofs.TreePages.{IsTreeLeaf, tree_leaf_is, within_of}
+use Rattle.dual_pointer.proofs.TreePages.{IsTreeLeaf, tree_leaf_is}
 use Rattle.pointer_swings.specs.Swings.{CanSwing}
 use Rattle.pointer_swings.specs.TreeSwings.{leaf_content, IsTreeLeafAs, IsTreeLockedAs}
 use Rattle.pointer_swings.proofs.KeysDown.{CanMoveKeys, absences_listed, holds_listed, left_keys, may_move_keys}
 use Rattle.pointer_swings.proofs.LeafPage.{found_empty, leaf_left, leaf_says}
 use Rattle.pointer_swings.proofs.MovesDown.{locks_gone}
-use Rattle.pointer_swings.proofs.SwingFacts.{IsClosed, Target, led, one_slot}
-use Rattle.pointer_swings.proofs.Swinging.{Point, begins, held_bit, idle, laid-out, leads-to, pages_allow, point, seat-is, span-is}
-use Rattle.pointer_swings.proofs.Swinging.{stride_with, to as target_of, w as swung_view}
+use Rattle.pointer_swings.proofs.SwingFacts.{IsClosed, Target, aims, led, moves_bury, one_slot}
+use Rattle.pointer_swings.proofs.Swinging.{Point, begins, idle, laid-out, leads-to, pages_allow, point, seat-is}
+use Rattle.pointer_swings.proofs.Swinging.{span-is, stride_with, to as target_of, w as swung_view}
 
 -- where nothing moves no place is left
-unburied : (homes : List (Key × Home)) (ps : List (Spot × Place)) → buried_places [] homes ps ≡ ps
+pub unburied : (homes : List (Key × Home)) (ps : List (Spot × Place)) → buried_places [] homes ps ≡ ps
 unburied homes [] = refl
 unburied homes (e ∷ ps) = ap (λ (l : List (Spot × Place)). e ∷ l) (unburied homes ps)
 
 -- and no lock is one of no key
-no_locks : (locks : List Key) → ((k : Key) → has_key locks k ≡ true → (let none : List Key = [] in has_key none k) ≡ true) → locks ≡ []
+pub no_locks : (locks : List Key) → ((k : Key) → has_key locks k ≡ true → (let none : List Key = [] in has_key none k) ≡ true) → locks ≡ []
 no_locks [] own = refl
 no_locks (k ∷ locks) own = absurd (true≢false (sym (own k (ap (λ (c : Bool). c || has_key locks k) (same_key-self k)))))
 
 -- a place in one slot is one place
-one_place : (x y : Spot) → InSlot x ≡ InSlot y → x ≡ y
+pub one_place : (x y : Spot) → InSlot x ≡ InSlot y → x ≡ y
 one_place x y same = cc
 
 module _ (laws : Laws) (l : Layout) (words : List ℕ) (views : List View) (s : Shared) (id : ℕ) (v : View)
@@ -98,7 +94,7 @@ module _ (laws : Laws) (l : Layout) (words : List ℕ) (views : List View) (s : 
   abbrev q : Pointer
   q = pointer_of d x
 
-  abbrev to : Target laws l words views s id v active b x sp at t number expected c n-is
+  abbrev to : Target laws l words views s id v active b x sp at t number expected (aims c) n-is
   to = target_of laws l words views s id v active b x sp at t number expected c n-is
 
   abbrev keys : List Key
@@ -132,7 +128,7 @@ module _ (laws : Laws) (l : Layout) (words : List ℕ) (views : List View) (s : 
 
   shows : ShowsTree s.resident.places words l.slots t fence.0 (IsOverwritten m) (place_of m.places) d (Leaf keys)
   shows =
-      let from = led laws l words views s id v active b x sp at t number expected c n-is in
+      let from = led laws l words views s id v active b x sp at t number expected (aims c) n-is in
       let known = known_shown d t (slot_of d t).state (slot_of d t).led (ap is_never from) (b.sound.joint.pages.table.holds_counted.led t) in
       subst (ShowsTree s.resident.places words l.slots t fence.0 (IsOverwritten m) (place_of m.places) d) page-is
       (b.sound.shown.treed t fence.0 (subst (λ u. u < l.slots) a.slot locked-head.within) known fence.1)
@@ -206,17 +202,22 @@ module _ (laws : Laws) (l : Layout) (words : List ℕ) (views : List View) (s : 
         subst (λ (z : Content). z.number.epoch ≤ v.past) (sym content-is)
         (r.old (ap (λ (z : Content). z.value) (sym content-is) ∙ none))
 
-  can : CanMoveKeys p m d t keys to.name v.past
+  can : CanMoveKeys p m d keys to.name v.past
   can = record {
     once = once;
     over = λ y has now. (b.fits.keepers c.keeper).past.tried y has now;
-    at = λ i k is. ap (stands_at m.places) (held i k is).home;
-    held = λ i k is. (held i k is).own;
-    says = record-says;
-    empty = λ i k is none.
-        let says = has-says k (storage i k is) in
-        says ∙ found_empty (record_for records k.key) (ap (λ (z : Content). z.value) (sym says) ∙ none);
-    old = record-old;
+    each = λ i k is. (
+      spot t i,
+      record {
+        at = ap (stands_at m.places) (held i k is).home;
+        held = (held i k is).own;
+        says = record-says i k is;
+        empty = λ none.
+            let says = has-says k (storage i k is) in
+            says ∙ found_empty (record_for records k.key) (ap (λ (z : Content). z.value) (sym says) ∙ none);
+        old = record-old i k is;
+      },
+    );
   }
 
   -- ---- the moves
@@ -252,32 +253,13 @@ module _ (laws : Laws) (l : Layout) (words : List ℕ) (views : List View) (s : 
       (λ u j k lost inner less.
       let here : t ≡ u = one_slot t u lost in
       let no : Leaf keys ≡ Inner k = sym page-is ∙ (ap (page_of d) here ∙ inner) in absurd (cc))
-      (λ y left. elim (cases_Bool (is_left leaf-moves m.homes y)) [
-        | inl lost ↦
-            let at-i = left_here y lost in
-            let slot : t ≡ y.slot = ap (λ (z : Spot). z.slot) (sym at-i.3) in
-            absurd (true≢false (sym (ap (λ (k : Bool). k || false) (eq-eqb t y.slot slot)) ∙ left))
-        | inr stays ↦ place-stays leaf-moves m.homes m.places y stays
-      ])
-      (λ y. elim (cases_Bool (is_left leaf-moves m.homes y)) [
-        | inl lost ↦ ap (λ (z : Place). z.content) (place-left leaf-moves m.homes m.places y lost)
-        | inr stays ↦ ap (λ (z : Place). z.content) (place-stays leaf-moves m.homes m.places y stays)
-      ])
-      (λ y. elim (cases_Bool (is_left leaf-moves m.homes y)) [
-        | inl lost ↦
-            let at-i = left_here y lost in
-            let here : y ≡ spot t at-i.0 = at-i.3 ∙ ap (spot t) (plus_zero at-i.0) in
-            ap (λ (z : Place). lock_field z.holder) (place-left leaf-moves m.homes m.places y lost)
-            ∙ sym (ap (λ z. lock_field (place_of m.places z).holder) here
-            ∙ held_bit p (place_of m.places (spot t at-i.0)).holder (held at-i.0 at-i.1 at-i.2).own)
-        | inr stays ↦ ap (λ (z : Place). lock_field z.holder) (place-stays leaf-moves m.homes m.places y stays)
-      ])
-      (λ y free. elim (cases_Bool (is_left leaf-moves m.homes y)) [
-        | inl lost ↦
-            let no : Dead ≡ Free =
-            sym (ap (λ (z : Place). z.holder) (place-left leaf-moves m.homes m.places y lost)) ∙ free in absurd (cc)
-        | inr stays ↦ ap (λ (z : Place). z.holder) (sym (place-stays leaf-moves m.homes m.places y stays)) ∙ free
-      ])
+      (moves_bury p m (t ∷ []) leaf-moves (λ y lost.
+      let at-i = left_here y lost in
+      let slot : t ≡ y.slot = ap (λ (z : Spot). z.slot) (sym at-i.3) in
+      let here : y ≡ spot t at-i.0 = at-i.3 ∙ ap (spot t) (plus_zero at-i.0) in (
+        ap (λ (k : Bool). k || false) (eq-eqb t y.slot slot),
+        ap (λ (z : Spot). holder_is p (place_of m.places z).holder) here ∙ (held at-i.0 at-i.1 at-i.2).own,
+      )))
     where
       plus_zero : (i : ℕ) → 0 + i ≡ i
       plus_zero i = omega arith
@@ -310,8 +292,8 @@ module _ (laws : Laws) (l : Layout) (words : List ℕ) (views : List View) (s : 
       let lets : commit_lets p m (s.seats p) d (Swing x to.name) ≡ true =
       and_from (can_begin (s.seats p).stage) _ to-begin
       (ap (λ ks. holds_all p m ks && absences_are_old m ks) keys-are
-      ∙ and_from (holds_all p m keys) (absences_are_old m keys) (holds_listed p m d t keys to.name v.past can)
-      (absences_listed p m d t keys to.name v.past can)) in
+      ∙ and_from (holds_all p m keys) (absences_are_old m keys) (holds_listed p m d keys to.name v.past can)
+      (absences_listed p m d keys to.name v.past can)) in
       and_from (page_allows p d (s.grips p) (Swing x to.name))
       (commit_lets p m (s.seats p) d (Swing x to.name) && may_move p m (s.seats p) (moves d (Swing x to.name)))
       (pages_allow laws l words views s id v active b x sp at t number expected c n-is closed
@@ -321,7 +303,7 @@ module _ (laws : Laws) (l : Layout) (words : List ℕ) (views : List View) (s : 
       ∙ leaf_left d to.name sp records snap keys a.there)))
       (and_from (commit_lets p m (s.seats p) d (Swing x to.name)) (may_move p m (s.seats p) (moves d (Swing x to.name))) lets
       (ap (may_move p m (s.seats p)) moves-are
-      ∙ (ap (λ k. can_rehome p k m leaf-moves) to-begin ∙ may_move_keys p m d t keys to.name v.past can)))
+      ∙ (ap (λ k. can_rehome p k m leaf-moves) to-begin ∙ may_move_keys p m d keys to.name v.past can)))
     where
       keys-are : keys_in d q.slot ≡ keys
       keys-are = ap (keys_in d) (leads-to laws l words views s id v active b x sp at t number expected c n-is) ∙ ap leaf_keys page-is
@@ -331,4 +313,4 @@ module _ (laws : Laws) (l : Layout) (words : List ℕ) (views : List View) (s : 
       → Stride l words views s p v at f tells
   leaf_turns f tells f-is tells-so =
       stride_with laws l words views s id v active b x sp at t number expected c n-is places (rehomed leaf-moves m.homes)
-      (horizon_after m.horizon m.places m.homes leaf-moves) f tells leaf-point f-is may-leaf moved-leaf tells-so
+      (horizon_after m.horizon m.places m.homes leaf-moves) f tells closed leaf-point f-is may-leaf moved-leaf tells-so

@@ -1,3 +1,4 @@
+pub mod Repoints
 pub mod Steps
 pub mod Misses
 pub mod Plain

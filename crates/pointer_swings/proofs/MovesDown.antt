@@ -116,7 +116,7 @@ filter_none f (x ∷ xs) none =
     ap (λ (c : Bool). cond c (x ∷ filter f xs) (filter f xs)) (none x (in_head x xs))
     ∙ filter_none f xs (λ y has. none y (in_tail y x xs has))
 
-listed : (keys : List Key) (k : Key) → Contains keys k → has_key keys k ≡ true
+pub listed : (keys : List Key) (k : Key) → Contains keys k → has_key keys k ≡ true
 listed [] k has = absurd (in_none k has)
 listed (x ∷ keys) k has = elim (in_cases k x keys has) [
   | inl is ↦ or_left (same_key x k) (has_key keys k) (subst (λ (z : Key). same_key x z ≡ true) is (same_key-self x))

@@ -17,7 +17,7 @@ use Rattle.engine_pages.specs.Words.{ShowsPointer}
 use Rattle.engine_pages.proofs.Joint.{Laws}
 use Rattle.engine_pages.proofs.Turns.{Begins}
 use Rattle.dual_pointer.proofs.Stands.{at_cases}
-use Rattle.pointer_swings.proofs.Steps.{Repointed}
+use Rattle.pointer_swings.proofs.Repoints.{Repointed}
 
 pub in_none_gone : (y : At) → is_in [] y ≡ false
 in_none_gone (Root r) = refl
@@ -53,7 +53,6 @@ module _ (laws : Laws) (l : Layout) (words : List ℕ) (views : List View) (s : 
     headers = λ u left. refl;
     closed = λ u. refl;
     buried = λ u dead. refl;
-    unsplit = λ u lost split. absurd (true≢false (sym lost));
     room = refl;
     named = let was = b.sound.named in record { count = was.count; none = was.none; says = was.says; stand = was.stand; below = was.below };
     there = pointer_new;
@@ -69,4 +68,5 @@ module _ (laws : Laws) (l : Layout) (words : List ℕ) (views : List View) (s : 
     contents = λ y. refl;
     locked = λ y. refl;
     freed = λ y free. free;
+    still-dead = λ y dead. dead;
   }

@@ -46,7 +46,8 @@ use Rattle.pointer_swings.specs.Renewals.{CanRenew, HasRenewed, renewed, renewed
 use Rattle.pointer_swings.proofs.Misses.{missed}
 use Rattle.pointer_swings.proofs.Plain.{e as now_with, in_none_gone, repointed}
 use Rattle.pointer_swings.proofs.Shutting.{keeper_active}
-use Rattle.pointer_swings.proofs.Steps.{Repointed, old_now, pointer_stride, shut_still}
+use Rattle.pointer_swings.proofs.Repoints.{Repointed}
+use Rattle.pointer_swings.proofs.Steps.{old_now, pointer_stride, shut_still}
 
 -- a range of some height is not empty, and above the leaves it is wider than a leaf's
 indexes_some : (height : ℕ) → 0 < indexes_at height
@@ -251,7 +252,7 @@ module _ (laws : Laws) (l : Layout) (words : List ℕ) (views : List View) (s : 
           known = old.known;
           heads = λ z has. old.heads z has refl;
           moved = old.moved;
-          sealed = old.sealed;
+          sealed = λ u has. old.sealed u has refl;
           inners = old.inners;
           new_leaves = old.new_leaves;
           new_inners = old.new_inners;

@@ -31,7 +31,8 @@ use Rattle.engine_pages.proofs.Turns.{Stride, Begins, allows_at}
 use Rattle.dual_pointer.proofs.Names.{number_same}
 use Rattle.pointer_swings.specs.Shuts.{CanReopen, reopened, shut_of}
 use Rattle.pointer_swings.proofs.Plain.{e as now_with, in_none_gone, repointed}
-use Rattle.pointer_swings.proofs.Steps.{Repointed, old_now, pointer_stride, shut_still}
+use Rattle.pointer_swings.proofs.Repoints.{Repointed}
+use Rattle.pointer_swings.proofs.Steps.{old_now, pointer_stride, shut_still}
 use Rattle.pointer_swings.proofs.Shutting.{keeper_active}
 
 module _ (laws : Laws) (l : Layout) (words : List ℕ) (views : List View) (s : Shared) (id : ℕ) (v : View)
@@ -126,7 +127,7 @@ module _ (laws : Laws) (l : Layout) (words : List ℕ) (views : List View) (s : 
           known = old.known;
           heads = λ z has. old.heads z has refl;
           moved = old.moved;
-          sealed = old.sealed;
+          sealed = λ u has. old.sealed u has refl;
           inners = old.inners;
           new_leaves = old.new_leaves;
           new_inners = old.new_inners;

@@ -41,7 +41,8 @@ use Rattle.pointer_swings.specs.Shuts.{CanShut, HasShut, shut_at, shut_of}
 use Rattle.pointer_swings.proofs.Misses.{missed}
 use Rattle.dual_pointer.proofs.Stands.{stands_at_place}
 use Rattle.pointer_swings.proofs.Plain.{e as now_with, in_none_gone, pointer_new, repointed}
-use Rattle.pointer_swings.proofs.Steps.{Repointed, old_now, pointer_stride, shut_still}
+use Rattle.pointer_swings.proofs.Repoints.{Repointed}
+use Rattle.pointer_swings.proofs.Steps.{old_now, pointer_stride, shut_still}
 use Rattle.drop_core.specs.Table.{has_pointer}
 use Rattle.drop_core.specs.declared.table.Page.{Page}
 use Rattle.std.proofs.lemmas.Bool.Decides.{nat_tests}
@@ -194,7 +195,7 @@ module _ (laws : Laws) (l : Layout) (words : List ℕ) (views : List View) (s : 
           known = old.known;
           heads = λ z has. old.heads z has refl;
           moved = old.moved;
-          sealed = old.sealed;
+          sealed = λ u has. old.sealed u has refl;
           inners = old.inners;
           new_leaves = old.new_leaves;
           new_inners = old.new_inners;

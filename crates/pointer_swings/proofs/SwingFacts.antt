@@ -1,31 +1,32 @@
 -- What a swing finds, and the table that it leaves.
-use Rattle.std.proofs.Common.{◌≡◌, inl, inr, ℕ, zero, suc, ◌+◌, ◌/◌, ◌^◌, ◌<◌, ◌≤◌, Bool, true, false, true≢false, cond, eqb}
-use Rattle.std.proofs.Common.{eqb-true, leb, List, [], ◌∷◌, length, get_or, refl, sym, ap, ◌∙◌, subst, arith}
-use Rattle.serial_model.specs.declared.decl.Decl.{Decl}
+use Rattle.std.proofs.Common.{◌≡◌, inl, inr, ℕ, zero, suc, ◌+◌, ◌/◌, ◌^◌, ◌<◌, ◌≤◌, Bool, true, false, true≢false}
+use Rattle.std.proofs.Common.{cond, eqb, eqb-true, leb, List, [], ◌∷◌, length, get_or, refl, sym, ap, ◌∙◌, subst, arith}
 use Rattle.std.proofs.Common.{Option, Some, None}
+use Rattle.serial_model.specs.declared.decl.Decl.{Decl}
 use Rattle.std.specs.Prelude.{◌||◌}
-use Rattle.std.proofs.lemmas.Bool.{and_from}
+use Rattle.std.proofs.lemmas.Bool.{and_from, cases_Bool}
 use Rattle.std.proofs.lemmas.Bool.Decides.{nat_tests}
 use Rattle.homes.specs.declared.places.At.{At}
 use Rattle.homes.specs.declared.places.Holder.{Holder}
 use Rattle.homes.specs.declared.places.Holder.TheVariants.{Free, Held, Dead}
 use Rattle.homes.specs.declared.places.Span.{Span}
-use Rattle.homes.specs.Homes.{is_free, same_span}
+use Rattle.homes.specs.Homes.{is_free, same_span, holder_is}
 use Rattle.homes.specs.Laws.{same_at-self}
 use Rattle.wire_form.specs.Words.{at_bit, slot_field}
 use Rattle.drop_core.specs.declared.table.Led.TheVariants.{Away, From}
-use Rattle.drop_core.specs.declared.table.Page.TheVariants.{Split}
+use Rattle.drop_core.specs.declared.table.Page.TheVariants.{Split, Inner}
 use Rattle.drop_core.specs.declared.table.Pointer.{Pointer}
 use Rattle.drop_core.specs.declared.table.Slot.{Slot}
 use Rattle.drop_core.specs.declared.table.Table.{Table}
 use Rattle.drop_core.specs.Event.{buried, bury, dropped, is_closed_to_others, is_in, is_open, is_target}
-use Rattle.drop_core.specs.Table.{has_slot, header_of, page_of, is_led, is_live, is_never, page_span, pointer_of, slot_of, snap_of}
+use Rattle.drop_core.specs.Table.{has_slot, header_of, page_of, is_led, is_live, is_never, page_span, pointer_of}
+use Rattle.drop_core.specs.Table.{slot_of, snap_of, at_index}
 use Rattle.drop_core.proofs.Buried.{away-other, away-same, buried-look}
 use Rattle.engine_pages.specs.declared.layout.Layout.{Layout}
 use Rattle.engine_pages.specs.declared.view.Lead.{Lead}
 use Rattle.engine_pages.specs.declared.view.View.{View}
 use Rattle.engine_pages.specs.Pages.{IsLaidOutFor}
-use Rattle.engine_pages.specs.Pointers.{half_of, is_open_word, slot_half}
+use Rattle.engine_pages.specs.Pointers.{half_of, is_open_word, slot_half, IsPointerAt}
 use Rattle.engine_rule.specs.Reading.{name_of}
 use Rattle.snapshot_store.specs.declared.place.PagePlace.{PagePlace}
 use Rattle.serial_model.specs.Keys.{id_of}
@@ -39,7 +40,31 @@ use Rattle.engine_pages.proofs.Turns.{Begins}
 use Rattle.pointer_swings.specs.Swings.{CanSwing}
 use Rattle.dual_pointer.proofs.Stands.{at_cases}
 use Rattle.pointer_swings.proofs.Renewing.{span_self, target_page}
-use Rattle.pointer_swings.proofs.Steps.{IsGone}
+use Rattle.pointer_swings.proofs.Repoints.{IsGone, Repointed}
+use Rattle.serial_model.specs.declared.key.Key.{Key}
+use Rattle.serial_model.specs.declared.number.Number.{Number}
+use Rattle.homes.specs.declared.places.Home.{Home}
+use Rattle.homes.specs.declared.places.Move.{Move}
+use Rattle.homes.specs.declared.places.Spot.{Spot}
+use Rattle.commit_core.specs.declared.place.Place.{Place}
+use Rattle.commit_core.specs.declared.story.Story.{Story}
+use Rattle.commit_core.specs.Lemmas.Moves.{place-left, place-stays}
+use Rattle.commit_core.specs.Moves.{buried as buried_places, is_left}
+use Rattle.commit_core.specs.Places.{place_of}
+use Rattle.drop_core.proofs.Headers.{buried-dead, buried-other, buried-stays}
+use Rattle.dual_pointer.specs.Copies.{IsLeadOf}
+use Rattle.engine_pages.specs.Stays.{IsKnown}
+
+-- what is asked of a pointer and of the page that it is led to, whatever stands below it
+pub record IsAimed (v : View) (x : At) (sp : Span) (at t number expected : ℕ) : Type 0 where
+  pub place : IsPointerAt v x sp at
+  pub leads : half_of expected ≡ Some t
+  pub lead : 0 < number → IsLeadOf v sp number
+
+-- so it is of a page alone
+abbrev pub aims : {v : View} {x : At} {sp : Span} {at t number expected : ℕ} → CanSwing v x sp at t number expected
+    → IsAimed v x sp at t number expected
+aims c = record { place = c.place; leads = c.leads; lead = c.lead }
 
 -- a word that leads to a slot is that of an open pointer
 half_open : (n t : ℕ) → half_of n ≡ Some t → (is_open_word n ≡ true) × (slot_half (n / 2 ^ 32) ≡ Some t)
@@ -77,6 +102,67 @@ pub record IsClosed (d : Table) (p t : ℕ) : Type 0 where
   pub closed : is_closed_to_others p (header_of d t) ≡ true
   pub unsplit : page_of d t ≡ Split → ⊥
 
+-- so it is of pages to which something has led
+pub record AreClosed (d : Table) (p : ℕ) (gone : List ℕ) : Type 0 where
+  pub known : (u : ℕ) → has_slot gone u ≡ true → IsKnown d u
+  pub closed : (u : ℕ) → has_slot gone u ≡ true → is_closed_to_others p (header_of d u) ≡ true
+
+-- Places in these slots may be dead that were locked; what stands there is the same.
+pub record AreBuried (m : Story) (places : List (Spot × Place)) (gone : List ℕ) : Type 0 where
+  pub kept : (y : Spot) → has_slot gone y.slot ≡ false → place_of places y ≡ place_of m.places y
+  pub contents : (y : Spot) → (place_of places y).content ≡ (place_of m.places y).content
+  pub locked : (y : Spot) → lock_field (place_of places y).holder ≡ lock_field (place_of m.places y).holder
+  pub freed : (y : Spot) → (place_of places y).holder ≡ Free → (place_of m.places y).holder ≡ Free
+  pub dead : (y : Spot) → (place_of m.places y).holder ≡ Dead → (place_of places y).holder ≡ Dead
+
+-- where nothing moves they are as they were
+pub none_buried : (m : Story) (gone : List ℕ) → AreBuried m m.places gone
+none_buried m gone = record {
+  kept = λ y left. refl;
+  contents = λ y. refl;
+  locked = λ y. refl;
+  freed = λ y free. free;
+  dead = λ y is. is;
+}
+
+-- a lock's bit is that of a dead record
+held_bit : (p : ℕ) (h : Holder) → holder_is p h ≡ true → lock_field h ≡ at_bit 60 1
+held_bit p Free is = absurd (true≢false (sym is))
+held_bit p (Held o) is = refl
+held_bit p Dead is = refl
+
+-- where keys leave places in these slots, whose records the seat has locked
+pub moves_bury : (p : ℕ) (m : Story) (gone : List ℕ) (moves : List Move)
+    → ((y : Spot) → is_left moves m.homes y ≡ true
+    → (has_slot gone y.slot ≡ true) × (holder_is p (place_of m.places y).holder ≡ true))
+    → AreBuried m (buried_places moves m.homes m.places) gone
+moves_bury p m gone moves leaves = record {
+  kept = λ y apart. elim (cases_Bool (is_left moves m.homes y)) [
+    | inl lost ↦ absurd (true≢false (sym (leaves y lost).0 ∙ apart))
+    | inr stays ↦ place-stays moves m.homes m.places y stays
+  ];
+  contents = λ y. elim (cases_Bool (is_left moves m.homes y)) [
+    | inl lost ↦ ap (λ (z : Place). z.content) (place-left moves m.homes m.places y lost)
+    | inr stays ↦ ap (λ (z : Place). z.content) (place-stays moves m.homes m.places y stays)
+  ];
+  locked = λ y. elim (cases_Bool (is_left moves m.homes y)) [
+    | inl lost ↦
+        ap (λ (z : Place). lock_field z.holder) (place-left moves m.homes m.places y lost)
+        ∙ sym (held_bit p (place_of m.places y).holder (leaves y lost).1)
+    | inr stays ↦ ap (λ (z : Place). lock_field z.holder) (place-stays moves m.homes m.places y stays)
+  ];
+  freed = λ y free. elim (cases_Bool (is_left moves m.homes y)) [
+    | inl lost ↦
+        let no : Dead ≡ Free = sym (ap (λ (z : Place). z.holder) (place-left moves m.homes m.places y lost)) ∙ free in
+        absurd (cc)
+    | inr stays ↦ ap (λ (z : Place). z.holder) (sym (place-stays moves m.homes m.places y stays)) ∙ free
+  ];
+  dead = λ y is. elim (cases_Bool (is_left moves m.homes y)) [
+    | inl lost ↦ ap (λ (z : Place). z.holder) (place-left moves m.homes m.places y lost)
+    | inr stays ↦ ap (λ (z : Place). z.holder) (place-stays moves m.homes m.places y stays) ∙ is
+  ];
+}
+
 -- the bit of a header that is the seat's or dead
 pub closed_bit : (p : ℕ) (h : Holder) → is_closed_to_others p h ≡ true → lock_field h ≡ at_bit 60 1
 closed_bit p Free is = absurd (true≢false (sym is))
@@ -85,7 +171,7 @@ closed_bit p Dead is = refl
 
 module _ (laws : Laws) (l : Layout) (words : List ℕ) (views : List View) (s : Shared) (id : ℕ) (v : View)
     (active : IsActive v.role) (b : Begins l words views s id v) (x : At) (sp : Span) (at t number expected : ℕ)
-    (c : CanSwing v x sp at t number expected) (n-is : get_or words at 0 ≡ expected) where
+    (c : IsAimed v x sp at t number expected) (n-is : get_or words at 0 ≡ expected) where
   abbrev d : Table
   d = s.table
 
@@ -181,70 +267,39 @@ module _ (laws : Laws) (l : Layout) (words : List ℕ) (views : List View) (s : 
 
   -- ---- the table after it
 
-  module _ (name : ℕ) where
+  module _ (name : ℕ) (gone : List ℕ) where
     abbrev pub e : Table
-    e = dropped d x name (t ∷ [])
+    e = dropped d x name gone
 
     abbrev pub r : Pointer
     r = record q { slot = None; page = name }
 
-    pub there : pointer_of e x ≡ r
-    there = ap (λ (c : Bool). cond c r (pointer_of (buried d (t ∷ [])) x)) (same_at-self x)
+    there : pointer_of e x ≡ r
+    there = ap (λ (c : Bool). cond c r (pointer_of (buried d gone) x)) (same_at-self x)
 
-    elsewhere : (y : At) → (x ≡ y → ⊥) → pointer_of e y ≡ bury (t ∷ []) y (pointer_of d y)
+    elsewhere : (y : At) → (x ≡ y → ⊥) → pointer_of e y ≡ bury gone y (pointer_of d y)
     elsewhere y other = elim (at_cases x y) [
       | inl same ↦ absurd (other same)
       | inr apart ↦
-          ap (λ (c : Bool). cond c r (pointer_of (buried d (t ∷ [])) y)) apart.1 ∙ buried-look (t ∷ []) d.pointers y
+          ap (λ (c : Bool). cond c r (pointer_of (buried d gone) y)) apart.1 ∙ buried-look gone d.pointers y
     ]
 
-    pub same : (y : At) → (x ≡ y → ⊥) → is_in (t ∷ []) y ≡ false → pointer_of e y ≡ pointer_of d y
+    same : (y : At) → (x ≡ y → ⊥) → is_in gone y ≡ false → pointer_of e y ≡ pointer_of d y
     same y other left =
         elsewhere y other ∙ ap (λ (c : Bool). let z : Pointer = cond c (record (pointer_of d y) { holder = Dead }) (pointer_of d y) in z) left
 
-    pub dead : (y : At) → (x ≡ y → ⊥) → is_in (t ∷ []) y ≡ true → pointer_of e y ≡ record (pointer_of d y) { holder = Dead }
+    dead : (y : At) → (x ≡ y → ⊥) → is_in gone y ≡ true → pointer_of e y ≡ record (pointer_of d y) { holder = Dead }
     dead y other lost =
         elsewhere y other ∙ ap (λ (c : Bool). let z : Pointer = cond c (record (pointer_of d y) { holder = Dead }) (pointer_of d y) in z) lost
 
-    pub keeps : (u : ℕ) → has_slot (t ∷ []) u ≡ false → slot_of e u ≡ slot_of d u
-    keeps u left = away-other (t ∷ []) d.slots u left
+    keeps : (u : ℕ) → has_slot gone u ≡ false → slot_of e u ≡ slot_of d u
+    keeps u left = away-other gone d.slots u left
 
-    slot_now : (u : ℕ) → has_slot (t ∷ []) u ≡ true → slot_of e u ≡ record (slot_of d u) { led = Away }
-    slot_now u lost = away-same (t ∷ []) d.slots u lost
-
-    pub away : (u : ℕ) → has_slot (t ∷ []) u ≡ true → IsGone s e u
-    away u lost =
-        let is = slot_now u lost in
-        let here : t ≡ u = one_slot t u lost in
-        let from : (slot_of d u).led ≡ From x = ap (λ k. (slot_of d k).led) (sym here) ∙ led in record {
-          known = ap is_never from;
-          state = ap (λ (z : Slot). z.state) is;
-          passes = ap (λ (z : Slot). z.passes) is;
-          times = ap (λ (z : Slot). z.times) is;
-          never = ap (λ (z : Slot). is_never z.led) is;
-          unled = ap (λ (z : Slot). is_led z.led) is;
-        }
-
-    pub headers : (u : ℕ) → has_slot (t ∷ []) u ≡ false → header_of e u ≡ header_of d u
-    headers u left = by_test (eqb t u) refl left
-      where
-        by_test : (i : Bool) → eqb t u ≡ i → (eqb t u || false) ≡ false → header_of e u ≡ header_of d u
-        by_test true hit left = absurd (true≢false (sym (ap (λ (i : Bool). i || false) hit) ∙ left))
-        by_test false miss left = ap (λ (i : Bool). cond i Dead (header_of d u)) miss
-
-    -- the header of the page that is gone is dead
-    header_gone : (u : ℕ) → eqb t u ≡ true → header_of e u ≡ Dead
-    header_gone u hit = ap (λ (i : Bool). cond i Dead (header_of d u)) hit
-
-    pub buried_so : (u : ℕ) → header_of d u ≡ Dead → header_of e u ≡ header_of d u
-    buried_so u dead = by_test (eqb t u) refl
-      where
-        by_test : (i : Bool) → eqb t u ≡ i → header_of e u ≡ header_of d u
-        by_test true hit = header_gone u hit ∙ sym dead
-        by_test false miss = ap (λ (i : Bool). cond i Dead (header_of d u)) miss
+    buried_so : (u : ℕ) → header_of d u ≡ Dead → header_of e u ≡ header_of d u
+    buried_so u dead = buried-stays gone d.headers u dead ∙ sym dead
 
     -- what its word says
-    pub shown : (w : Target) → w.name ≡ name → (ws : List ℕ) → get_or ws at 0 ≡ number → ShowsPointer s.resident.places ws at r
+    shown : (w : Target) → w.name ≡ name → (ws : List ℕ) → get_or ws at 0 ≡ number → ShowsPointer s.resident.places ws at r
     shown w is-name ws is =
         let none : lock_field q.holder ≡ 0 = ap lock_field free in record {
           number = number;
@@ -256,16 +311,55 @@ module _ (laws : Laws) (l : Layout) (words : List ℕ) (views : List View) (s : 
           keepers = found.shows.keepers;
         }
 
-    -- where nobody else can open its header
-    module _ (k : IsClosed d p t) where
-      pub closed : (u : ℕ) → lock_field (header_of e u) ≡ lock_field (header_of d u)
-      closed u = by_test (eqb t u) refl
-        where
-          by_test : (i : Bool) → eqb t u ≡ i → lock_field (header_of e u) ≡ lock_field (header_of d u)
-          by_test true hit =
-              ap (λ (h : Holder). lock_field h) (header_gone u hit)
-              ∙ sym (ap (λ u. lock_field (header_of d u)) (sym (eqb-true t u hit)) ∙ closed_bit p (header_of d t) k.closed)
-          by_test false miss = ap (λ (i : Bool). lock_field (cond i Dead (header_of d u))) miss
+    -- where nobody else can open the headers of the pages that are gone
+    module _ (k : AreClosed d p gone) where
+      away : (u : ℕ) → has_slot gone u ≡ true → IsGone s e u
+      away u lost =
+          let is : slot_of e u ≡ record (slot_of d u) { led = Away } = away-same gone d.slots u lost in record {
+            known = k.known u lost;
+            state = ap (λ (z : Slot). z.state) is;
+            passes = ap (λ (z : Slot). z.passes) is;
+            times = ap (λ (z : Slot). z.times) is;
+            never = ap (λ (z : Slot). is_never z.led) is;
+            unled = ap (λ (z : Slot). is_led z.led) is;
+          }
 
-      pub unsplit : (u : ℕ) → has_slot (t ∷ []) u ≡ true → page_of d u ≡ Split → ⊥
-      unsplit u lost split = k.unsplit (ap (page_of d) (one_slot t u lost) ∙ split)
+      closed : (u : ℕ) → lock_field (header_of e u) ≡ lock_field (header_of d u)
+      closed u = elim (cases_Bool (has_slot gone u)) [
+        | inl lost ↦
+            ap (λ (h : Holder). lock_field h) (buried-dead gone d.headers u lost)
+            ∙ sym (closed_bit p (header_of d u) (k.closed u lost))
+        | inr left ↦ ap (λ (h : Holder). lock_field h) (buried-other gone d.headers u left)
+      ]
+
+      -- the table after it, with the story's places, homes and horizon
+      pub point : (w : Target) → w.name ≡ name → (places : List (Spot × Place)) (homes : List (Key × Home)) (horizon : Number)
+          → ((u j k : ℕ) → has_slot gone u ≡ true → page_of d u ≡ Inner k → j < k
+          → lock_field (pointer_of d (at_index u j)).holder ≡ at_bit 60 1)
+          → AreBuried s.story places gone
+          → Repointed laws l words views s id v active b x sp at number c.place places homes horizon e r gone
+      point w is-name places homes horizon shut moved = record {
+        pages = λ u. refl;
+        headers = λ u left. buried-other gone d.headers u left;
+        closed = closed;
+        buried = buried_so;
+        room = refl;
+        named = let was = b.sound.named in record { count = was.count; none = was.none; says = was.says; stand = was.stand; below = was.below };
+        there = there;
+        span = refl;
+        shown = shown w is-name;
+        leads = λ u is. absurd (none_some u is);
+        keeps = keeps;
+        away = away;
+        same = same;
+        dead = dead;
+        shut = shut;
+        kept-places = moved.kept;
+        contents = moved.contents;
+        locked = moved.locked;
+        freed = moved.freed;
+        still-dead = moved.dead;
+      }
+        where
+          none_some : (u : ℕ) → None ≡ Some u → ⊥
+          none_some u is = absurd (cc)

@@ -1,21 +1,17 @@
 -- The step of a swing.
 use Rattle.std.proofs.Common.{◌≡◌, inl, inr, ℕ, zero, suc, ◌+◌, ◌<◌, Bool, true, false, true≢false, eqb, eqb-true}
-use Rattle.std.proofs.Common.{eq-eqb, not, List, [], ◌∷◌, filter, get_or, refl, sym, ap, ◌∙◌, subst, arith}
-use Rattle.std.proofs.Common.{Some, None}
-use Rattle.std.specs.Prelude.{◌&&◌, ◌||◌, MatchBool}
+use Rattle.std.proofs.Common.{eq-eqb, not, List, [], ◌∷◌, filter, get_or, refl, sym, ap, ◌∙◌, subst, arith, Some, None}
+use Rattle.std.specs.Prelude.{◌&&◌, ◌||◌}
 use Rattle.std.specs.List.{Contains, list_all}
 use Rattle.std.proofs.lemmas.Bool.{and_from, and_parts, cases_Bool}
 use Rattle.std.proofs.lemmas.Bool.Decides.{nat_tests}
-use prog.Atomic.{either}
-use Rattle.atomic_table.specs.Table.{Me, Allows}
 use Rattle.lists.specs.Elements.{filter_only, in_filter, in_none}
 use Rattle.serial_model.specs.declared.key.Key.{Key}
 use Rattle.serial_model.specs.declared.number.Number.{Number}
 use Rattle.homes.specs.declared.places.At.{At}
 use Rattle.homes.specs.declared.places.At.TheVariants.{Root, In}
 use Rattle.homes.specs.declared.places.Content.{Content}
-use Rattle.homes.specs.declared.places.Holder.{Holder}
-use Rattle.homes.specs.declared.places.Holder.TheVariants.{Free, Held, Dead}
+use Rattle.homes.specs.declared.places.Holder.TheVariants.{Free, Held}
 use Rattle.homes.specs.declared.places.Home.{Home}
 use Rattle.homes.specs.declared.places.Move.{Move}
 use Rattle.homes.specs.declared.places.Span.{Span}
@@ -31,8 +27,8 @@ use Rattle.commit_core.specs.declared.story.Story.{Story}
 use Rattle.commit_core.specs.CoreState.{can_begin, settled, settled_at}
 use Rattle.commit_core.specs.Event.{Moved, moved as moved_as}
 use Rattle.commit_core.specs.Keys.{IsUpTo}
-use Rattle.commit_core.specs.Lemmas.Moves.{place-left, place-stays}
-use Rattle.commit_core.specs.Moves.{buried as buried_places, can_rehome, horizon_after, is_left, moves_key, rehomed, with_moves}
+use Rattle.commit_core.specs.Moves.{buried as buried_places, can_rehome, horizon_after, is_left, moves_key, rehomed}
+use Rattle.commit_core.specs.Moves.{with_moves}
 use Rattle.commit_core.specs.Places.{place_of, spot_of, stands_at}
 use Rattle.drop_core.specs.declared.event.Act.TheVariants.{Swing}
 use Rattle.drop_core.specs.declared.grip.Grip.{Grip}
@@ -40,10 +36,12 @@ use Rattle.drop_core.specs.declared.table.Page.{Page}
 use Rattle.drop_core.specs.declared.table.Page.TheVariants.{Leaf, Inner, Split}
 use Rattle.drop_core.specs.declared.table.Pointer.{Pointer}
 use Rattle.drop_core.specs.declared.table.Table.{Table}
-use Rattle.drop_core.specs.Event.{Turned, can_swing, can_swing_from, each_once, is_in}
-use Rattle.drop_core.specs.Event.{is_like, is_stood_for, is_target, keeps_header, keys_in, leaves_none_out, moves, swung as swung_table}
-use Rattle.drop_core.specs.Event.{is_closed_to_others, is_open, leaf_keys, is_allowed as page_allows, effect as page_effect}
-use Rattle.drop_core.specs.Table.{at_index, has_slot, page_of, pointer_of, snap_home, snap_of}
+use Rattle.drop_core.specs.Event.{Turned, can_swing, can_swing_from, each_once, is_in, is_like, is_stood_for}
+use Rattle.drop_core.specs.Event.{is_target, keeps_header, keys_in, leaves_none_out, moves, swung as swung_table}
+use Rattle.drop_core.specs.Event.{is_closed_to_others, is_open, leaf_keys, is_allowed as page_allows}
+use Rattle.drop_core.specs.Event.{effect as page_effect}
+use Rattle.drop_core.specs.Table.{at_index, has_slot, page_of, pointer_of, snap_home, snap_of, header_of, is_never}
+use Rattle.drop_core.specs.Table.{slot_of}
 use Rattle.engine_rule.specs.declared.event.JointAct.TheVariants.{Turn as TurnPages}
 use Rattle.engine_rule.specs.Event.{absences_are_old, after_moves, commit_lets, holds_all, joined, may_move}
 use Rattle.engine_rule.specs.JointState.{is_slot, slot_at as slot_with}
@@ -52,32 +50,32 @@ use Rattle.engine_pages.specs.declared.view.Head.{Head}
 use Rattle.engine_pages.specs.declared.view.Shut.{Shut}
 use Rattle.engine_pages.specs.declared.view.View.{View}
 use Rattle.engine_pages.specs.Pages.{decl_of, is_array, is_leaf_span, keys_from, shape_of, IsLaidOutFor, IsOver}
-use Rattle.engine_pages.specs.Rule.{Shared, IsShut, Shows}
+use Rattle.engine_pages.specs.Rule.{Shared, IsShut}
 use Rattle.engine_pages.specs.Slots.{other_shuts}
-use Rattle.engine_pages.specs.Steps.{read_at}
 use Rattle.engine_pages.specs.Views.{IsActive, seat_number}
 use Rattle.engine_pages.specs.Words.{lock_field, spot}
 use Rattle.engine_pages.proofs.Joint.{Laws, may_do}
 use Rattle.engine_pages.proofs.OwnView.{own_fits}
 use Rattle.engine_pages.proofs.PagesStay.{inner_shape, leaf_shape}
 use Rattle.engine_pages.proofs.Seats.{is_at}
-use Rattle.engine_pages.proofs.Turns.{Stride, Begins, allows_at}
+use Rattle.engine_pages.proofs.Turns.{Stride, Begins}
 use Rattle.dual_pointer.proofs.InnerStands.{IsParted, parted}
 use Rattle.dual_pointer.proofs.Moves.{leaf_stands}
 use Rattle.dual_pointer.proofs.SnapWords.{LeafSays, leaf_says}
 use Rattle.dual_pointer.proofs.Stands.{array_over}
 use Rattle.pointer_swings.specs.Shuts.{shut_of}
-use Rattle.pointer_swings.specs.Swings.{CanSwing, HasSwung, IsArrayAs, swung}
+use Rattle.pointer_swings.specs.Swings.{CanSwing, IsArrayAs, swung}
 use Rattle.pointer_swings.proofs.LettingGo.{keeper_idle}
 use Rattle.pointer_swings.proofs.Locked.{locked_held, locked_home, locked_proper, locked_says}
-use Rattle.pointer_swings.proofs.Misses.{missed}
-use Rattle.pointer_swings.proofs.MovesDown.{CanMoveDown, absences_old, holds_keys, left_row, locks_gone, may_move_down}
+use Rattle.pointer_swings.proofs.MovesDown.{CanMoveDown, absences_old, holds_keys, left_row, locks_gone}
+use Rattle.pointer_swings.proofs.MovesDown.{may_move_down}
 use Rattle.pointer_swings.proofs.Renewing.{last_more}
-use Rattle.pointer_swings.proofs.Shutting.{keeper_active}
-use Rattle.pointer_swings.proofs.Steps.{Repointed, old_now, pointer_stride, shut_still}
+use Rattle.pointer_swings.proofs.Repoints.{Repointed}
+use Rattle.pointer_swings.proofs.Steps.{old_now, pointer_stride, shut_still}
 use Rattle.pointer_swings.proofs.SwingInner.{shut_like, shut_stood}
-use Rattle.pointer_swings.proofs.SwingFacts.{IsClosed, Target, away, buried_so, closed, dead, e as now_with, found, free, headers, keeps}
-use Rattle.pointer_swings.proofs.SwingFacts.{laid, leads, one_slot, opened, r as led_down, same, shown, target, there, unsplit}
+use Rattle.pointer_swings.proofs.SwingFacts.{AreBuried, AreClosed, IsAimed, IsClosed, Target, aims, e as now_with}
+use Rattle.pointer_swings.proofs.SwingFacts.{found, free, laid, leads, led, moves_bury, none_buried, one_slot, opened}
+use Rattle.pointer_swings.proofs.SwingFacts.{point as gone_point, r as led_down, target}
 
 -- a header of another slot
 head_other : (t : ℕ) (z : Head) → not (eqb z.slot t) ≡ true → has_slot (t ∷ []) z.slot ≡ false
@@ -92,12 +90,6 @@ leaf_end sp zero exact leaf = exact
 leaf_end sp (suc height) exact leaf =
     let near : sp.high < sp.low + 32 = grind (arith, nat_tests) in
     let many = last_more height in absurd (omega (arith, exact, near, many))
-
--- a lock's bit is that of a dead record
-pub held_bit : (p : ℕ) (h : Holder) → holder_is p h ≡ true → lock_field h ≡ at_bit 60 1
-held_bit p Free is = absurd (true≢false (sym is))
-held_bit p (Held o) is = refl
-held_bit p Dead is = refl
 
 -- a shut pointer elsewhere
 shuts_other : (t : ℕ) (xs : List Shut) (z : Shut) → Contains (other_shuts t xs) z
@@ -133,14 +125,17 @@ module _ (laws : Laws) (l : Layout) (words : List ℕ) (views : List View) (s : 
   abbrev q : Pointer
   q = pointer_of d x
 
-  pub to : Target laws l words views s id v active b x sp at t number expected c n-is
-  to = target laws l words views s id v active b x sp at t number expected c n-is
+  abbrev pub aim : IsAimed v x sp at t number expected
+  aim = aims c
+
+  pub to : Target laws l words views s id v active b x sp at t number expected aim n-is
+  to = target laws l words views s id v active b x sp at t number expected aim n-is
 
   abbrev pub e : Table
-  e = now_with laws l words views s id v active b x sp at t number expected c n-is to.name
+  e = now_with laws l words views s id v active b x sp at t number expected aim n-is to.name (t ∷ [])
 
   abbrev pub r : Pointer
-  r = led_down laws l words views s id v active b x sp at t number expected c n-is to.name
+  r = led_down laws l words views s id v active b x sp at t number expected aim n-is to.name (t ∷ [])
 
   abbrev pub w : View
   w = swung t at number (get_or words at 0) v
@@ -149,52 +144,42 @@ module _ (laws : Laws) (l : Layout) (words : List ℕ) (views : List View) (s : 
   idle = keeper_idle l v c.keeper b.fits.part
 
   pub leads-to : q.slot ≡ Some t
-  leads-to = leads laws l words views s id v active b x sp at t number expected c n-is
+  leads-to = leads laws l words views s id v active b x sp at t number expected aim n-is
 
   pub span-is : q.span ≡ sp
-  span-is = (found laws l words views s id v active b x sp at t number expected c n-is).span
+  span-is = (found laws l words views s id v active b x sp at t number expected aim n-is).span
 
   pub laid-out : IsLaidOutFor l.decls s.trees d t sp
-  laid-out = laid laws l words views s id v active b x sp at t number expected c n-is
+  laid-out = laid laws l words views s id v active b x sp at t number expected aim n-is
 
   -- the table, with the story's places, homes and horizon
   abbrev pub Point : List (Spot × Place) → List (Key × Home) → Number → Type 0
   Point places homes horizon =
       Repointed laws l words views s id v active b x sp at number c.place places homes horizon e r (t ∷ [])
 
+  -- nobody else opens the header of the one page that is gone
+  one_closed : IsClosed d p t → AreClosed d p (t ∷ [])
+  one_closed k = record {
+    known = λ u lost.
+        ap is_never (ap (λ (i : ℕ). (slot_of d i).led) (sym (one_slot t u lost))
+        ∙ led laws l words views s id v active b x sp at t number expected aim n-is);
+    closed = λ u lost. ap (λ (i : ℕ). is_closed_to_others p (header_of d i)) (sym (one_slot t u lost)) ∙ k.closed;
+  }
+
   pub point : IsClosed d p t → (places : List (Spot × Place)) (homes : List (Key × Home)) (horizon : Number)
       → ((u j k : ℕ) → has_slot (t ∷ []) u ≡ true → page_of d u ≡ Inner k → j < k
       → lock_field (pointer_of d (at_index u j)).holder ≡ at_bit 60 1)
-      → ((y : Spot) → has_slot (t ∷ []) y.slot ≡ false → place_of places y ≡ place_of m.places y)
-      → ((y : Spot) → (place_of places y).content ≡ (place_of m.places y).content)
-      → ((y : Spot) → lock_field (place_of places y).holder ≡ lock_field (place_of m.places y).holder)
-      → ((y : Spot) → (place_of places y).holder ≡ Free → (place_of m.places y).holder ≡ Free)
-      → Point places homes horizon
-  point k places homes horizon shut kept contents locked freed = record {
-    pages = λ u. refl;
-    headers = headers laws l words views s id v active b x sp at t number expected c n-is to.name;
-    closed = closed laws l words views s id v active b x sp at t number expected c n-is to.name k;
-    buried = buried_so laws l words views s id v active b x sp at t number expected c n-is to.name;
-    unsplit = unsplit laws l words views s id v active b x sp at t number expected c n-is to.name k;
-    room = refl;
-    named = let was = b.sound.named in record { count = was.count; none = was.none; says = was.says; stand = was.stand; below = was.below };
-    there = there laws l words views s id v active b x sp at t number expected c n-is to.name;
-    span = refl;
-    shown = shown laws l words views s id v active b x sp at t number expected c n-is to.name to refl;
-    leads = λ u is. absurd (none_some u is);
-    keeps = keeps laws l words views s id v active b x sp at t number expected c n-is to.name;
-    away = away laws l words views s id v active b x sp at t number expected c n-is to.name;
-    same = same laws l words views s id v active b x sp at t number expected c n-is to.name;
-    dead = dead laws l words views s id v active b x sp at t number expected c n-is to.name;
-    shut = shut;
-    kept-places = kept;
-    contents = contents;
-    locked = locked;
-    freed = freed;
-  }
-    where
-      none_some : (u : ℕ) → None ≡ Some u → ⊥
-      none_some u is = absurd (cc)
+      → AreBuried m places (t ∷ []) → Point places homes horizon
+  point k places homes horizon shut moved =
+      gone_point laws l words views s id v active b x sp at t number expected aim n-is to.name (t ∷ []) (one_closed k) to refl
+      places homes horizon shut moved
+
+  -- a split leaf is another page
+  split_other : IsClosed d p t → (u : ℕ) → page_of d u ≡ Split → has_slot (t ∷ []) u ≡ false
+  split_other k u split = elim (cases_Bool (has_slot (t ∷ []) u)) [
+    | inl lost ↦ absurd (k.unsplit (ap (page_of d) (one_slot t u lost) ∙ split))
+    | inr left ↦ left
+  ]
 
   -- ---- what is asked of the pages
 
@@ -203,7 +188,7 @@ module _ (laws : Laws) (l : Layout) (words : List ℕ) (views : List View) (s : 
       → page_allows p d (s.grips p) (Swing x to.name) ≡ true
   pages_allow k like stood =
       and_from (can_swing p d x to.name) (keeps_header p d q.slot)
-      (and_from (is_open d x) _ (opened laws l words views s id v active b x sp at t number expected c n-is)
+      (and_from (is_open d x) _ (opened laws l words views s id v active b x sp at t number expected aim n-is)
       (and_from (is_target d to.name q.span) (can_swing_from p d x to.name q.slot) to.target
       (ap (can_swing_from p d x to.name) leads-to
       ∙ and_from (is_like d t (page_of d t) (snap_of d to.name)) (is_stood_for p d t to.name q.span (page_of d t)) like stood)))
@@ -218,18 +203,18 @@ module _ (laws : Laws) (l : Layout) (words : List ℕ) (views : List View) (s : 
   -- a pointer that the pass has shut is another one
   other_shut : (z : Shut) → IsShut d s.resident p v.grip.holds z → x ≡ z.at → ⊥
   other_shut z was is =
-      let no : Free ≡ Held p = sym (free laws l words views s id v active b x sp at t number expected c n-is)
+      let no : Free ≡ Held p = sym (free laws l words views s id v active b x sp at t number expected aim n-is)
       ∙ (ap (λ y. (pointer_of d y).holder) is ∙ was.shut) in absurd (cc)
 
   -- ---- the step, whatever moves
 
   pub stride_with : (places : List (Spot × Place)) (homes : List (Key × Home)) (horizon : Number) (f : ℕ → ℕ)
-      (tells : View → ℕ → View → Type 0) → Point places homes horizon → f (get_or words at 0) ≡ number
+      (tells : View → ℕ → View → Type 0) → IsClosed d p t → Point places homes horizon → f (get_or words at 0) ≡ number
       → may_do s p (TurnPages (Swing x to.name)) ≡ true
       → after_moves p m (s.seats p) (moves d (Swing x to.name))
       ≡ record { story = record m { places = places; homes = homes; horizon = horizon }; seat = w.seat }
       → tells v (get_or words at 0) w → Stride l words views s p v at f tells
-  stride_with places homes horizon f tells pt f-is may moved-is tells-so =
+  stride_with places homes horizon f tells k pt f-is may moved-is tells-so =
       let fv = b.fits in
       let n : Story = record m { places = places; homes = homes; horizon = horizon } in
       let old = old_now laws l words views s id v active b x sp at number c.place places homes horizon e r (t ∷ []) pt in
@@ -279,7 +264,7 @@ module _ (laws : Laws) (l : Layout) (words : List ℕ) (views : List View) (s : 
               old.heads z (in_filter (λ (y : Head). not (eqb y.slot t)) z v.heads has)
               (head_other t z (filter_only (λ (y : Head). not (eqb y.slot t)) z v.heads has));
           moved = old.moved;
-          sealed = old.sealed;
+          sealed = λ u has. old.sealed u has (split_other k u (b.pages.treed.sealed p (is_at v.role active) u has).split);
           inners = old.inners;
           new_leaves = old.new_leaves;
           new_inners = old.new_inners;
@@ -371,34 +356,14 @@ module _ (laws : Laws) (l : Layout) (words : List ℕ) (views : List View) (s : 
           (λ u j k lost inner less.
           let here : t ≡ u = one_slot t u lost in
           let no : Leaf keys ≡ Inner k = sym page-is ∙ (ap (page_of d) here ∙ inner) in absurd (cc))
-          (λ y left. elim (cases_Bool (is_left leaf-moves m.homes y)) [
-            | inl lost ↦
-                let at-i = left_here y lost in
-                let slot : t ≡ y.slot = ap (λ (z : Spot). z.slot) (sym at-i.2) in
-                absurd (true≢false (sym (ap (λ (k : Bool). k || false) (eq-eqb t y.slot slot)) ∙ left))
-            | inr stays ↦ place-stays leaf-moves m.homes m.places y stays
-          ])
-          (λ y. elim (cases_Bool (is_left leaf-moves m.homes y)) [
-            | inl lost ↦ ap (λ (z : Place). z.content) (place-left leaf-moves m.homes m.places y lost)
-            | inr stays ↦ ap (λ (z : Place). z.content) (place-stays leaf-moves m.homes m.places y stays)
-          ])
-          (λ y. elim (cases_Bool (is_left leaf-moves m.homes y)) [
-            | inl lost ↦
-                let at-i = left_here y lost in
-                let i : ℕ = at-i.0 in
-                let here : y ≡ spot t i = at-i.2 ∙ ap (spot t) (plus_zero i) in
-                ap (λ (z : Place). lock_field z.holder) (place-left leaf-moves m.homes m.places y lost)
-                ∙ sym (ap (λ z. lock_field (place_of m.places z).holder) here
-                ∙ held_bit p (place_of m.places (spot t i)).holder
-                (locked_held l words views s id v b c.keeper t sp number c.there in-array i (a.records leaf i at-i.1)))
-            | inr stays ↦ ap (λ (z : Place). lock_field z.holder) (place-stays leaf-moves m.homes m.places y stays)
-          ])
-          (λ y free. elim (cases_Bool (is_left leaf-moves m.homes y)) [
-            | inl lost ↦
-                let no : Dead ≡ Free =
-                sym (ap (λ (z : Place). z.holder) (place-left leaf-moves m.homes m.places y lost)) ∙ free in absurd (cc)
-            | inr stays ↦ ap (λ (z : Place). z.holder) (sym (place-stays leaf-moves m.homes m.places y stays)) ∙ free
-          ])
+          (moves_bury p m (t ∷ []) leaf-moves (λ y lost.
+          let at-i = left_here y lost in
+          let slot : t ≡ y.slot = ap (λ (z : Spot). z.slot) (sym at-i.2) in
+          let here : y ≡ spot t at-i.0 = at-i.2 ∙ ap (spot t) (plus_zero at-i.0) in (
+            ap (λ (k : Bool). k || false) (eq-eqb t y.slot slot),
+            ap (λ (z : Spot). holder_is p (place_of m.places z).holder) here
+                ∙ locked_held l words views s id v b c.keeper t sp number c.there in-array at-i.0 (a.records leaf at-i.0 at-i.1),
+          )))
         where
           plus_zero : (i : ℕ) → 0 + i ≡ i
           plus_zero i = omega arith
@@ -436,8 +401,8 @@ module _ (laws : Laws) (l : Layout) (words : List ℕ) (views : List View) (s : 
       pub leaf_stride : (f : ℕ → ℕ) (tells : View → ℕ → View → Type 0) → f (get_or words at 0) ≡ number
           → tells v (get_or words at 0) w → Stride l words views s p v at f tells
       leaf_stride f tells f-is tells-so =
-          stride_with places (rehomed leaf-moves m.homes) (horizon_after m.horizon m.places m.homes leaf-moves) f tells leaf-point
-          f-is may-leaf moved-leaf tells-so
+          stride_with places (rehomed leaf-moves m.homes) (horizon_after m.horizon m.places m.homes leaf-moves) f tells array-closed
+          leaf-point f-is may-leaf moved-leaf tells-so
 
     -- ---- an interior page
 
@@ -464,7 +429,7 @@ module _ (laws : Laws) (l : Layout) (words : List ℕ) (views : List View) (s : 
           let same : Inner k ≡ Inner 64 = sym is ∙ (ap (page_of d) (sym here) ∙ inner-is) in
           let count : k ≡ 64 = cc in
           ap (λ i. lock_field (pointer_of d (at_index i j)).holder) (sym here) ∙ ap lock_field (shut-here j (omega (arith, less, count))).shut)
-          (λ y left. refl) (λ y. refl) (λ y. refl) (λ y free. free)
+          (none_buried m (t ∷ []))
 
       moved-none : after_moves p m (s.seats p) (moves d (Swing x to.name))
           ≡ record { story = m; seat = record v.seat { locks = [] } }
@@ -492,4 +457,4 @@ module _ (laws : Laws) (l : Layout) (words : List ℕ) (views : List View) (s : 
       pub inner_stride : (f : ℕ → ℕ) (tells : View → ℕ → View → Type 0) → f (get_or words at 0) ≡ number
           → tells v (get_or words at 0) w → Stride l words views s p v at f tells
       inner_stride f tells f-is tells-so =
-          stride_with m.places m.homes m.horizon f tells inner-point f-is may-inner moved-none tells-so
+          stride_with m.places m.homes m.horizon f tells array-closed inner-point f-is may-inner moved-none tells-so

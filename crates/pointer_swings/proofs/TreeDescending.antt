@@ -43,7 +43,7 @@ less_test a c low = grind (arith, low, nat_tests)
 more_test : (a c : ℕ) → c ≤ a → nat_lt a c ≡ false
 more_test a c high = grind (arith, high, nat_tests)
 
-child_in : (number : ℕ) (ns : List ℕ) (j : ℕ) → AllByRecursion (IsChild 1 number) ns → j < length ns → IsChild 1 number (get_or ns j 0)
+pub child_in : (number : ℕ) (ns : List ℕ) (j : ℕ) → AllByRecursion (IsChild 1 number) ns → j < length ns → IsChild 1 number (get_or ns j 0)
 child_in number [] j all less = absurd (omega (arith, less))
 child_in number (n ∷ ns) zero all less = all.0
 child_in number (n ∷ ns) (suc j) all less = child_in number ns j all.1 (omega (arith, less))
@@ -147,7 +147,7 @@ child_word sp number j words is some other index = by_kind (is.page some)
           few = omega (arith, less, most);
         }
 
-page_right : (pages : List (List ℕ)) (sp : Span) (number depth : ℕ)
+pub page_right : (pages : List (List ℕ)) (sp : Span) (number depth : ℕ)
     → StandsTo tree_format (IsPageOf (Tree sp.storage)) pages depth (place_for sp number)
     → IsTreePage (place_for sp number) (page_words pages number)
 page_right pages sp number zero stands = absurd stands

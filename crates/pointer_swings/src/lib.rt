@@ -10,12 +10,13 @@
 //! Terms: *swing*, a pointer leads from a slot to a snapshot page; *renew*, it names another snapshot page beside its
 //! slot; *shut*, nobody may change it but the pass that has shut it; *gone*, a slot's page from which what led to it
 //! was taken away.
-//! Layout: specs/Shuts.antt, Renewals, Swings and Children, what the steps ask and tell. In proofs/ `Steps` makes the
-//! rule after a step of what it changed of the table (`Repointed`), `Plain` that of a step by which no slot is gone;
-//! `Places` has where pointers stand, `Misses` a compare_exchange that found another word; of the swing `Locked` has
-//! what stands in a locked leaf, `MovesDown` its moves, `SwingFacts` the table that is left, `SwingInner` the tests of
-//! an interior page, `Swinging` the step of an array's page; of trees `KeysDown` has the moves, `LeafPage` what a
-//! snapshot page has, `LeafSwings` and `BranchSwings` the steps; each other step has a file.
+//! Layout: specs/Shuts.antt, Renewals, Swings and Children, what the steps ask and tell. In proofs/ `Repoints` has what a
+//! step changes of the table and of the words (`Repointed`), where any pages are gone, also those of leaves that were
+//! split; `Steps` makes the rule after the step of it, `Plain` that of a step by which no slot is gone; `Misses` has a
+//! compare_exchange that found another word; of the swing `Locked` has what stands in a locked leaf, `MovesDown` its
+//! moves, `SwingFacts` the table that is left, `SwingInner` the tests of an interior page, `Swinging` the step of an
+//! array's page; of trees `KeysDown` has the moves, `LeafPage` what a snapshot page has, `LeafSwings` and `BranchSwings`
+//! the steps; each other step has a file.
 //! Design: docs/PAGES.md.
 #![tactic(auto)]
 

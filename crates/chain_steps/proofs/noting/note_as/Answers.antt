@@ -1,0 +1,25 @@
+use Rattle.std.proofs.Common.{◌≡◌, arith, subst}
+use Rattle.atomic_table.specs.Table.{Allows}
+use Rattle.engine_pages.specs.Passes.{view}
+use Rattle.engine_pages.specs.Rule.{Shows}
+use Rattle.engine_pages.proofs.Joint.{Laws}
+use Rattle.chain_steps.specs.Notes.{noted_again}
+use Rattle.chain_steps.proofs.AgainNotes.{notes_again}
+use Rattle.chain_steps.proofs.noting.note_as.Goals as goal
+
+pub load-requires : goal.load-requires
+load-requires g c =
+    let me = c.args.pass.now.me in
+    let l = c.args.engine.now.table.shared.key in
+    let slots = c.args.engine.now.table.shared.table_id.slots in
+    let id = c.args.pass.now.id in
+    let laws : Laws =
+    record { keeps = c.laws.ensures.keeps; leaves = c.laws.ensures.leaves; made = c.laws.ensures.made } in (
+      c.requires.of.table,
+      (let long = c.args.engine.now.long in omega arith),
+      subst
+          (λ count. Allows (λ s. Shows l s.words s.views) slots id me 0 (λ n. n)
+          (λ n now. (now.1 ≡ me.1) × (now.0 ≡ noted_again count n me.0)))
+          c.requires.named
+          (notes_again laws l slots id me c.args.count c.requires.keeper),
+    )

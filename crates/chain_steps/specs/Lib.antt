@@ -1,0 +1,4 @@
+pub mod Seals
+pub mod Below
+pub mod Swings
+pub mod Notes

@@ -244,7 +244,7 @@ can_go roots r v u can goes less =
 -- ---- the end
 
 -- the counts are noted
-over_counts : (v u : View) (c : Counted) (k : ℕ) → WentOver v u → (let w = counted c k u in w ≡ record v {
+over_counts : (n : ℕ) (v u : View) (c : Counted) (k : ℕ) → WentOver (begun n v) u → (let w = counted c k u in w ≡ record v {
   steps = w.steps;
   last = w.last;
   reads = w.reads;
@@ -264,9 +264,10 @@ over_counts : (v u : View) (c : Counted) (k : ℕ) → WentOver v u → (let w =
   leads = w.leads;
   gone = w.gone;
   kept = w.kept;
+  sealed = [];
   drops = v.drops ++ c ∷ [];
 })
-over_counts v u c k went =
+over_counts n v u c k went =
     ap (λ (x : View). record x { steps = u.steps + 1; last = Some (glance u.steps clock_at k); drops = x.drops ++ c ∷ [] })
     went
 
@@ -291,7 +292,7 @@ ended roots n k tally v u a =
         swung = a.over.swung;
         counts = a.over.counts;
       };
-      is = over_counts v u c k a.goes.went;
+      is = over_counts n v u c k a.goes.went;
       later = let later = a.goes.later in omega (arith, later);
       front = a.goes.front;
       leads = a.goes.leads;

@@ -1,5 +1,5 @@
 -- The loads with which a call begins and ends.
-use Rattle.std.proofs.Common.{◌≡◌, ℕ, get_or, inl, refl, sym, ◌∙◌, arith}
+use Rattle.std.proofs.Common.{◌≡◌, ℕ, get_or, inl, true≢false, refl, sym, ◌∙◌, arith}
 use Rattle.atomic_table.specs.Table.{Me, Allows}
 use Rattle.engine_pages.specs.declared.layout.Layout.{Layout}
 use Rattle.engine_pages.specs.declared.view.Dropped.{Dropped as Counts}
@@ -44,7 +44,7 @@ begins laws l slots id me keeper =
       known = b.pages.treed.known;
       heads = b.pages.treed.heads (seat_number v.role) (is_at v.role active);
       moved = b.pages.treed.moved;
-      sealed = b.pages.treed.sealed (seat_number v.role) (is_at v.role active);
+      sealed = λ t has. absurd (true≢false (sym has));
       inners = b.pages.treed.inners;
       new_leaves = b.pages.treed.new_leaves;
       new_inners = b.pages.treed.new_inners;

@@ -64,6 +64,8 @@ inner_over t page sp v u over h =
       there = let long = front_length v.pages u.pages over.front in let low = h.there in omega (arith, long, low);
       room = subst (λ (l : Layout). page ≤ l.resident) (sym (ap (λ (z : View). z.layout) is)) h.room;
       lead = λ some. let x = h.lead some in (x.0, over.leads x.0 x.1, x.2, x.3);
+      took = ap (λ (z : View). z.took) is ∙ h.took;
+      heads = ap (λ (z : View). z.heads) is ∙ h.heads;
     }
 
 pub layout_over : (v u : View) → GoesOver v u → u.layout ≡ v.layout

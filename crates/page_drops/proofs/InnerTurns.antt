@@ -161,6 +161,8 @@ inner_in height x sp at page held v a can inside =
       there = omega (arith, there, long);
       room = subst (λ (l : Layout). page ≤ l.resident) (sym (ap (λ (z : View). z.layout) went)) can.room;
       lead = λ some. let l = can.lead some in (l.0, (inside.over).leads l.0 l.1, l.2, l.3);
+      took = ap (λ (z : View). z.took) went ∙ (can.bare).took;
+      heads = ap (λ (z : View). z.heads) went ∙ (can.bare).heads;
     }
 
 pub can_below : (height : ℕ) (x : At) (sp : Span) (at page : ℕ) (held : Held) (v a : View) → CanVisit (suc height) x sp at page v
@@ -196,6 +198,8 @@ inner_over t page sp a u over h =
       there = omega (arith, there, long);
       room = subst (λ (z : View). page ≤ z.layout.resident) (sym went) h.room;
       lead = λ some. let l = h.lead some in (l.0, over.leads l.0 l.1, l.2, l.3);
+      took = ap (λ (z : View). z.took) went ∙ h.took;
+      heads = ap (λ (z : View). z.heads) went ∙ h.heads;
     }
 
 -- the pointer stands where it stood

@@ -69,6 +69,8 @@ inner_went t page sp v w went h = record {
   there = subst (λ (z : View). page ≤ length z.pages) (sym went.shut) h.there;
   room = subst (λ (z : View). page ≤ z.layout.resident) (sym went.shut) h.room;
   lead = λ some. let x = h.lead some in (x.0, went.leads x.0 x.1, x.2, x.3);
+  took = ap (λ (z : View). z.took) went.shut ∙ h.took;
+  heads = ap (λ (z : View). z.heads) went.shut ∙ h.heads;
 }
 
 -- the snapshot page's words stay the same

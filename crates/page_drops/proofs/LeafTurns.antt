@@ -208,6 +208,8 @@ can_drop x sp at page held v a can inside =
         low = let one = can.high in let two = can.exact in omega (arith, one, two);
         there = let one = can.there in let two = front_length v.pages a.pages (inside.over).front in omega (arith, one, two);
         room = subst (λ (z : View). page ≤ z.layout.resident) (sym went) can.room;
+        heads = bare.heads;
+        shuts = bare.shuts;
       };
       place = pointer_in x sp at v a inside.over
           (λ z has. subst (λ ws. Contains ws z) (sym inside.ways) (in_tail z own v.ways has)) can.place;

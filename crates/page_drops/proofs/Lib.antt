@@ -28,3 +28,4 @@ pub mod InnerTurns
 pub mod HoldSteps
 pub mod Belows
 pub mod Others
+pub mod Dues

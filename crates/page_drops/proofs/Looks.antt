@@ -77,6 +77,8 @@ leaf_worked t page sp v w worked h =
       low = h.low;
       there = h.there;
       room = h.room;
+      heads = h.heads;
+      shuts = h.shuts;
     }
 
 pub record_worked : (k : Key) (x : Spot) (at : ℕ) (v w : View) → WorkedOn v w → IsRecordAt v k x at → IsRecordAt w k x at

@@ -296,9 +296,9 @@ pub record CanDropAll (roots : List ℕ) (v : View) : Type 0 where
   pub leads : (r : ℕ) → r < length roots → 0 < get_or roots r 0
       → IsLeadOf v (root_span v.layout.decls r) (get_or roots r 0)
 
--- a call begins: what was read, left, kept and swung before is let go of
+-- a call begins: what was read, left, kept and swung before, and which headers of split leaves were locked, is let go of
 abbrev pub begun : ℕ → View → View
-begun n v = record (glanced clock_at n v) { reads = []; gone = []; kept = []; swung = [] }
+begun n v = record (glanced clock_at n v) { reads = []; gone = []; kept = []; swung = []; sealed = [] }
 
 -- the same of the step
 abbrev pub Begins : Step (Unit {0}) → View → ℕ → View → Type 0
@@ -384,6 +384,7 @@ pub record HasDroppedAll (roots : List ℕ) (v : View) (tally : Dropped) (w : Vi
     leads = w.leads;
     gone = w.gone;
     kept = w.kept;
+    sealed = [];
     drops = v.drops ++ record { dropped = tally.dropped; kept = tally.kept } ∷ [];
   }
   pub later : v.steps ≤ w.steps

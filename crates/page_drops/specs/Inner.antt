@@ -29,7 +29,8 @@ use Rattle.page_drops.specs.Works.{read_of, HasKept, IsOutside}
 -- ---- what is asked
 
 -- The maintenance thread's pass, which has no attempt, holds the slot, whose page is an interior one of an array over
--- these keys; the snapshot page with this number, or none, is one that it knows to stand for them.
+-- these keys; the snapshot page with this number, or none, is one that it knows to stand for them. It has locked no
+-- record and no header.
 pub record AtInner (t : ℕ) (sp : Span) (page : ℕ) (v : View) : Type 0 where
   pub keeper : v.role ≡ Keeper
   pub idle : v.seat.stage ≡ Idle
@@ -43,6 +44,8 @@ pub record AtInner (t : ℕ) (sp : Span) (page : ℕ) (v : View) : Type 0 where
   pub there : page ≤ length v.pages
   pub room : page ≤ v.layout.resident
   pub lead : 0 < page → IsLeadOf v sp page
+  pub took : v.took ≡ []
+  pub heads : v.heads ≡ []
 
 -- ---- what changes
 

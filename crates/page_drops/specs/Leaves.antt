@@ -37,7 +37,7 @@ use Rattle.page_drops.specs.Works.{read_of, IsOutside, OnlyLooked, WorkedOn}
 -- ---- what is asked
 
 -- The maintenance thread's pass, which has no attempt, holds the slot, whose page is the leaf of an array over these
--- keys; the snapshot page with this number, or none, is one that it knows.
+-- keys; the snapshot page with this number, or none, is one that it knows. It has locked no header, and shut no pointer.
 pub record AtLeaf (t : ℕ) (sp : Span) (page : ℕ) (v : View) : Type 0 where
   pub keeper : v.role ≡ Keeper
   pub idle : v.seat.stage ≡ Idle
@@ -48,6 +48,8 @@ pub record AtLeaf (t : ℕ) (sp : Span) (page : ℕ) (v : View) : Type 0 where
   pub low : sp.low < 2 ^ 32
   pub there : page ≤ length v.pages
   pub room : page ≤ v.layout.resident
+  pub heads : v.heads ≡ []
+  pub shuts : v.shuts ≡ []
 
 -- ---- what was seen
 

@@ -1,19 +1,28 @@
 -- What work on the page of a slot leaves of a pass, and what it tells of a page that it keeps.
 use Rattle.std.specs.Prelude.{◌≡◌, ◌≢◌, ◌⊎◌, ℕ, ◌+◌, ◌*◌, ◌^◌, ◌<◌, ◌≤◌, ◌==◌, List, [], ◌∷◌, ◌++◌, get_or, Option}
-use Rattle.std.specs.Prelude.{Some, None, Contains}
+use Rattle.std.specs.Prelude.{Some, None, Contains, cond, true, ⊤}
 use Rattle.std.specs.List.{find}
 use Rattle.atomic_table.specs.Table.{Step}
 use Rattle.lists.specs.Fronts.{IsFront}
+use Rattle.homes.specs.declared.places.At.{At}
+use Rattle.homes.specs.declared.places.Span.{Span}
 use Rattle.wire_form.specs.Leaves.{array_leaf}
 use Rattle.snapshot_store.specs.Places.{page as page_words}
+use Rattle.drop_core.specs.Table.{has_slot}
 use Rattle.engine_pages.specs.declared.view.Glance.{Glance}
+use Rattle.engine_pages.specs.declared.view.Head.{Head}
 use Rattle.engine_pages.specs.declared.view.KeptPage.{KeptPage}
 use Rattle.engine_pages.specs.declared.view.KeptWhy.{KeptWhy}
 use Rattle.engine_pages.specs.declared.view.KeptWhy.TheVariants.{Locked, Unlike, Under, Changed, Long}
 use Rattle.engine_pages.specs.declared.view.Read.{Read}
+use Rattle.engine_pages.specs.declared.view.Shut.{Shut}
+use Rattle.engine_pages.specs.declared.view.Took.{Took}
 use Rattle.engine_pages.specs.declared.view.Touch.{Touch}
 use Rattle.engine_pages.specs.declared.view.View.{View}
+use Rattle.engine_pages.specs.declared.view.Way.{Way}
 use Rattle.engine_pages.specs.Layout.{clock_at, page_at}
+use Rattle.engine_pages.specs.Pages.{is_array}
+use Rattle.engine_pages.specs.Pointers.{IsPointerAt}
 use Rattle.engine_pages.specs.Steps.{glance, glanced, seen_at}
 use Rattle.page_drops.specs.declared.noting.Kept.{Kept}
 
@@ -160,3 +169,43 @@ TellsAbove Under at seen v w = read_of w.reads at ≡ read_of v.reads at
 TellsAbove (Changed expected) at seen v w =
     (r : Read) × (read_of w.reads at ≡ Some r) × (r.seen ≡ seen) × (r.was ≡ Some expected)
 TellsAbove Long at seen v w = read_of w.reads at ≡ read_of v.reads at
+
+-- ---- what a note of a page that is kept needs
+
+-- where the word of a locked record stands
+abbrev pub locked_at : View → Took → ℕ
+locked_at v x = page_at v.layout.slots (x.spot).slot
+    (cond (is_array v.layout.decls (x.key).storage) (2 * (x.spot).index) (17 + 3 * (x.spot).index))
+
+-- the slot is that of an array's page, which has no header
+abbrev pub IsOfArray : View → ℕ → Type 0
+IsOfArray v t = (x : Way) × Contains v.ways x × (x.slot ≡ t) × (is_array v.layout.decls (x.span).storage ≡ true)
+
+-- the word is that of a pointer at another place
+abbrev pub IsPointerBeside : View → At → ℕ → Type 0
+IsPointerBeside v x word = (y : At) × (sp : Span) × IsPointerAt v y sp word × (y ≢ x)
+
+-- The word, which was seen so, is of no record, header or pointer that the pass itself has locked or shut. The header of
+-- a leaf that was split says that it was.
+pub record IsForeign (v : View) (word seen : ℕ) : Type 0 where
+  pub records : (x : Took) → Contains v.took x → word ≢ locked_at v x
+  pub heads : (x : Head) → Contains v.heads x → word ≢ page_at v.layout.slots x.slot 0
+  pub sealed : (t : ℕ) → has_slot v.sealed t ≡ true → word ≡ page_at v.layout.slots t 0
+      → (seen < 2 ^ 62) ⊎ IsOfArray v t
+  pub shuts : (x : Shut) → Contains v.shuts x → IsPointerBeside v x.at word
+
+-- the view's entry of the word says that it was this one at the load or compare_exchange right before, and is so now
+pub record HasTurnedFrom (v : View) (word seen expected : ℕ) : Type 0 where
+  pub other : seen ≢ expected
+  pub read : Read
+  pub has : read_of v.reads word ≡ Some read
+  pub now : read.seen ≡ seen
+  pub was : read.was ≡ Some expected
+
+-- Where a page may be noted as kept for a lock, somebody else has it; where for a change, the pass saw it.
+abbrev pub IsKeepDue : KeptWhy → ℕ → ℕ → View → Type 0
+IsKeepDue Locked word seen v = IsForeign v word seen
+IsKeepDue Unlike word seen v = ⊤
+IsKeepDue Under word seen v = ⊤
+IsKeepDue (Changed expected) word seen v = HasTurnedFrom v word seen expected
+IsKeepDue Long word seen v = ⊤

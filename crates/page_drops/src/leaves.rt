@@ -1,5 +1,5 @@
 // A leaf is compared with a snapshot's, locked, and opened again.
-ghost use Rattle.std.specs.Prelude.{◌≡◌, ◌+◌, ◌^◌, ◌<◌, ◌≤◌, IfErr, OnOk};
+ghost use Rattle.std.specs.Prelude.{◌≡◌, ◌+◌, ◌^◌, ◌<◌, ◌≤◌, [], IfErr, OnOk};
 ghost use Rattle.engine_pages.specs.Passes.{view, IsPassOf};
 ghost use Rattle.engine_pages.specs.Resident.{array_word};
 ghost use Rattle.snapshot_store.specs.Places.{page as page_words};
@@ -17,6 +17,7 @@ pub(crate) const RECORDS: u32 = 32;
 pub(crate) fn compare_leaf(engine: &Engine, pass: &mut Pass, leaf: Leaf) -> Result<(), Kept>
     requires of { IsPassOf engine.now pass.old }
     requires at { AtLeaf leaf.slot leaf.span leaf.page (view pass.old) }
+    requires free { (view pass.old).took ≡ [] }
     ensures of { IsPassOf engine.now pass.new }
     ensures compares { OnOk result (HasComparedAll leaf.slot leaf.span
         (page_words (view pass.old).pages leaf.page) (view pass.old) (view pass.new)) }

@@ -2,7 +2,7 @@
 ghost use Rattle.std.specs.Prelude.{◌≡◌, ◌<◌};
 ghost use Rattle.engine_pages.specs.declared.view.Role.TheVariants.{Keeper};
 ghost use Rattle.engine_pages.specs.Passes.{view, IsPassOf};
-ghost use Rattle.page_drops.specs.Works.{note_of, noted, HasSeenLast};
+ghost use Rattle.page_drops.specs.Works.{note_of, noted, HasSeenLast, IsKeepDue};
 
 use crate::law::{Noted, Noting};
 use crate::laws::laws;
@@ -23,6 +23,7 @@ pub(crate) fn note_kept(engine: &Engine, pass: &mut Pass, kept: Kept) -> u64
     requires of { IsPassOf engine.now pass.old }
     requires keeper { (view pass.old).role ≡ Keeper }
     requires last { HasSeenLast (view pass.old) kept }
+    requires due { IsKeepDue kept.why kept.word kept.seen (view pass.old) }
     ensures of { IsPassOf engine.now pass.new }
     ensures notes { view pass.new ≡ noted (note_of (view pass.old) kept) result (view pass.old) }
 {

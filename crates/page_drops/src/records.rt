@@ -1,5 +1,5 @@
 // A record of a leaf is compared with a snapshot's, locked, and opened again.
-ghost use Rattle.std.specs.Prelude.{◌≡◌, ◌+◌, ◌*◌, ◌^◌, ◌<◌, ◌≤◌, length, get_or, IfErr, OnOk};
+ghost use Rattle.std.specs.Prelude.{◌≡◌, ◌+◌, ◌*◌, ◌^◌, ◌<◌, ◌≤◌, [], length, get_or, IfErr, OnOk};
 ghost use Rattle.engine_pages.specs.declared.view.Role.TheVariants.{Keeper};
 ghost use Rattle.engine_pages.specs.Layout.{page_at};
 ghost use Rattle.engine_pages.specs.Passes.{view, IsPassOf};
@@ -7,8 +7,8 @@ ghost use Rattle.pointer_swings.specs.Swings.{key_in};
 ghost use Rattle.snapshot_store.specs.Places.{page as page_words};
 ghost use Rattle.page_drops.specs.Leaves.{AtLeaf, AreLow, HasCompared, HasFirst, HasMoved, HasOpened, HasRow};
 ghost use Rattle.page_drops.specs.Leaves.{KeepsSeenBut, LocksOne, MetOne};
-ghost use Rattle.page_drops.specs.Works.{HasGlanced, HasSeenLast, IsNoted, IsSeenStill, KeepsLeaf, KeepsReads};
-ghost use Rattle.page_drops.specs.Works.{SawAlone, SawMore};
+ghost use Rattle.page_drops.specs.Works.{HasGlanced, HasSeenLast, IsKeepDue, IsNoted, IsSeenStill, KeepsLeaf};
+ghost use Rattle.page_drops.specs.Works.{KeepsReads, SawAlone, SawMore};
 
 use crate::noting::{Kept, note_kept};
 use engine_pages::{Engine, KeptWhy, Pass, load_resident};
@@ -62,11 +62,13 @@ pub fn word_of(engine: &Engine, pass: &mut Pass, page: u32, index: u32) -> u64
     load_resident(engine, pass, page, index)
 }
 
-/// Notes that a page is kept for the word that was seen last.
+/// Notes that a page is kept for the word that was seen last: for a lock only where it is none of the pass's own, and
+/// for a change only where the pass had met another word right before.
 pub fn keep(engine: &Engine, pass: &mut Pass, word: u32, seen: u64, why: KeptWhy) -> Kept
     requires of { IsPassOf engine.now pass.old }
     requires keeper { (view pass.old).role ≡ Keeper }
     requires last { HasSeenLast (view pass.old) (record { word = word; seen = seen; why = why }) }
+    requires due { IsKeepDue why word seen (view pass.old) }
     ensures of { IsPassOf engine.now pass.new }
     ensures is { result ≡ record { word = word; seen = seen; why = why } }
     ensures notes { IsNoted result (view pass.old) (view pass.new) }
@@ -82,6 +84,7 @@ pub(crate) fn compare(engine: &Engine, pass: &mut Pass, leaf: Leaf, index: u32) 
     requires of { IsPassOf engine.now pass.old }
     requires at { AtLeaf leaf.slot leaf.span leaf.page (view pass.old) }
     requires index { index < 32 }
+    requires free { (view pass.old).took ≡ [] }
     ensures of { IsPassOf engine.now pass.new }
     ensures compares { OnOk result (HasCompared leaf.slot leaf.span
         (page_words (view pass.old).pages leaf.page) index (view pass.old) (view pass.new)) }

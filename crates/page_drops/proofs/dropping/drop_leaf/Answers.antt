@@ -10,6 +10,7 @@ use Rattle.page_drops.proofs.Drops.{can_swing, dropped_now, held_row, keeps_arou
 use Rattle.page_drops.proofs.Drops.{layout_kept, not_swung, saw_other, swung_now, swung_reads, words_worked}
 use Rattle.page_drops.proofs.Looks.{last_seen, layout_worked, leaf_worked, worked_then}
 use Rattle.page_drops.proofs.Notes.{keeper_active}
+use Rattle.page_drops.proofs.Dues.{turned_from}
 use Rattle.page_drops.proofs.Entries.{reads_around, reads_but, reads_then, seen_same, still_above, tells_changed, tells_leaf}
 use Rattle.page_drops.proofs.Others.{met_alone, met_pointer, met_then}
 use Rattle.page_drops.proofs.Sights.{saw_noted, saw_read, saw_swung, saw_then}
@@ -18,6 +19,9 @@ use Rattle.page_drops.proofs.dropping.drop_leaf.Goals as goal
 
 pub compare_leaf-requires-clause-at : goal.compare_leaf-requires-clause-at
 compare_leaf-requires-clause-at c = c.requires.drop.leaf
+
+pub compare_leaf-requires-clause-free : goal.compare_leaf-requires-clause-free
+compare_leaf-requires-clause-free c = c.requires.drop.took
 
 pub lock_leaf-requires-clause-at : goal.lock_leaf-requires-clause-at
 lock_leaf-requires-clause-at c =
@@ -88,6 +92,20 @@ keep-kept-requires-clause-last c =
     last_seen u w c.args.at c.swing-found.result (Changed c.args.word)
     (saw_other c.args.leaf.slot c.args.at c.args.leaf.page c.args.word c.swing-found.result u w c.if-found-word.true
     c.swing-found.ensures.swings)
+
+pub keep-kept-requires-clause-due : goal.keep-kept-requires-clause-due
+keep-kept-requires-clause-due c =
+    let v = view c.args.pass.now in
+    let a = view c.compare_leaf.new.pass in
+    let u = view c.lock_leaf.new.pass in
+    let w = view c.swing-found.new.pass in
+    let both = reads_then c.args.leaf.slot v a u
+    (layout_worked v a c.in_ok-compare_leaf.ensures.compares.looked.worked) c.compare_leaf.ensures.reads
+    c.lock_leaf.ensures.reads in
+    turned_from c.args.at c.args.word c.swing-found.result u w c.if-found-word.true
+    (not_swung c.args.leaf.slot c.args.at c.args.leaf.page c.args.word c.swing-found.result u w c.if-found-word.true
+    c.swing-found.ensures.swings)
+    (seen_same v.reads u.reads c.args.at (both c.args.at c.requires.drop.apart) ∙ c.requires.drop.met)
 
 pub open_leaf-requires-clause-at : goal.open_leaf-requires-clause-at
 open_leaf-requires-clause-at c =

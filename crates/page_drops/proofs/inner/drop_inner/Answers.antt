@@ -4,7 +4,8 @@ use Rattle.std.proofs.lemmas.Result.{err_from_is_err_and}
 use Rattle.engine_pages.specs.declared.view.KeptWhy.TheVariants.{Changed}
 use Rattle.engine_pages.specs.declared.view.View.{View}
 use Rattle.engine_pages.specs.Passes.{view}
-use Rattle.page_drops.proofs.Drops.{may_retire, swung_now}
+use Rattle.page_drops.proofs.Drops.{may_retire, not_swung, swung_now}
+use Rattle.page_drops.proofs.Dues.{turned_from}
 use Rattle.page_drops.proofs.InnerFacts.{inside_went}
 use Rattle.page_drops.proofs.Entries.{reads_but, seen_same}
 use Rattle.page_drops.proofs.InnerWholes.{can_swing_inner, inner_below, inner_dropped, inner_found, keeps_found, keeps_turned}
@@ -55,6 +56,16 @@ keep-kept-requires-clause-last c =
     last_found u w c.args.at c.swing-found.result (Changed c.args.word)
     (inner_found c.args.page.slot c.args.page.page c.args.at c.args.word c.swing-found.result u w
     c.if-found-word.true c.swing-found.ensures.swings)
+
+pub keep-kept-requires-clause-due : goal.keep-kept-requires-clause-due
+keep-kept-requires-clause-due c =
+    let v = view c.args.pass.now in
+    let u = view c.shut_page.new.pass in
+    let w = view c.swing-found.new.pass in
+    turned_from c.args.at c.args.word c.swing-found.result u w c.if-found-word.true
+    (not_swung c.args.page.slot c.args.at c.args.page.page c.args.word c.swing-found.result u w c.if-found-word.true
+    c.swing-found.ensures.swings)
+    (seen_same v.reads u.reads c.args.at (c.shut_page.ensures.reads c.args.at c.requires.drop.apart) ∙ c.requires.drop.met)
 
 pub open_page-requires-clause-at : goal.open_page-requires-clause-at
 open_page-requires-clause-at c =

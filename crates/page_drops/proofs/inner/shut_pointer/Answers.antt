@@ -6,6 +6,7 @@ use Rattle.engine_pages.specs.Passes.{view}
 use Rattle.snapshot_store.specs.Places.{page as page_words}
 use Rattle.drop_core.specs.Table.{at_index}
 use Rattle.pointer_swings.specs.Shuts.{CanShut}
+use Rattle.page_drops.proofs.Dues.{inner_foreign}
 use Rattle.page_drops.proofs.InnerFacts.{in_table, is_elsewhere, is_shut, is_under, pointer_word, wide}
 use Rattle.page_drops.proofs.Inners.{can_shut, found_other, inner_went, keeps_inner, last_found, shut_now, shut_row_now}
 use Rattle.page_drops.proofs.Inners.{shut_turned, turned_then}
@@ -65,6 +66,22 @@ keep-locked-requires-clause-last c =
     let seen = found_other (at_index c.args.page.slot c.args.index) c.word_at-at.result c.from-expected.result c.shut-found.result
     v u w (record { went = child.went; kept = child.kept }) child.shuts (λ e. absurd (omega (arith, e, high, small, same))) c.shut-found.ensures.shuts in
     last_found v w c.word_at-at.result c.shut-found.result Locked seen
+
+pub keep-locked-requires-clause-due : goal.keep-locked-requires-clause-due
+keep-locked-requires-clause-due c =
+    let v = view c.args.pass.now in
+    let u = view c.child_of-child.new.pass in
+    let w = view c.shut-found.new.pass in
+    let child = c.child_of-child.ensures.child in
+    let same : c.from-expected.result ≡ c.child_of-child.result = omega arith in
+    let small = child.small in
+    let high = c.if-found-ge-SHUT.true in
+    let seen = found_other (at_index c.args.page.slot c.args.index) c.word_at-at.result c.from-expected.result c.shut-found.result
+    v u w (record { went = child.went; kept = child.kept }) child.shuts (λ e. absurd (omega (arith, e, high, small, same))) c.shut-found.ensures.shuts in
+    let word = word_here c.args.engine.now c.args.pass.now c.args.page.slot c.args.index c.word_at-at.result c.requires.of
+    c.word_at-at.ensures in
+    inner_foreign c.args.page.slot c.args.page.page c.args.index c.word_at-at.result c.shut-found.result c.args.page.span
+    (page_words v.pages c.args.page.page) v w c.requires.at seen c.requires.index word c.requires.row
 
 pub returns-then-found-ge-SHUT-clause-keeps : goal.returns-then-found-ge-SHUT-clause-keeps
 returns-then-found-ge-SHUT-clause-keeps c =

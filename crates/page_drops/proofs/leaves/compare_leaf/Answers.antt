@@ -1,5 +1,5 @@
 use Rattle.std.specs.Prelude.{Err}
-use Rattle.std.proofs.Common.{◌≡◌, arith}
+use Rattle.std.proofs.Common.{◌≡◌, ◌∙◌, arith}
 use Rattle.std.proofs.lemmas.Result.{err_from_is_err_and}
 use Rattle.engine_pages.specs.Passes.{view}
 use Rattle.snapshot_store.specs.Places.{page as page_words}
@@ -21,6 +21,9 @@ pub compare-requires-clause-at : goal.compare-requires-clause-at
 compare-requires-clause-at c =
     leaf_worked c.args.leaf.slot c.args.leaf.page c.args.leaf.span (view c.args.pass.now) (view c.loop-index.pass)
     c.loop-index.invariant.compared.looked.worked c.requires.at
+
+pub compare-requires-clause-free : goal.compare-requires-clause-free
+compare-requires-clause-free c = c.loop-index.invariant.compared.looked.took ∙ c.requires.free
 
 pub loop-index-preserved : goal.loop-index-preserved
 loop-index-preserved c = record {

@@ -8,6 +8,7 @@ use Rattle.snapshot_store.specs.Places.{page as page_words}
 use Rattle.page_records.specs.Reads.{Confirmed, Saw}
 use Rattle.page_drops.proofs.CompareFacts.{found_here, is_locked, is_unlike, is_valued, keeps_leaf, ready, word_here, word_then}
 use Rattle.page_drops.proofs.Compares.{compared, confirmed_it, saw_it, valued_it}
+use Rattle.page_drops.proofs.Dues.{compared_foreign}
 use Rattle.page_drops.proofs.Looks.{glanced_looked, glanced_then, last_seen, leaf_worked}
 use Rattle.page_drops.proofs.Entries.{reads_confirmed, reads_noted, reads_seen, reads_valued, saw_reads, still_noted}
 use Rattle.page_drops.proofs.Sights.{alone_confirmed, alone_glanced, alone_noted, alone_seen, alone_valued}
@@ -71,6 +72,20 @@ keep-locked-requires-clause-last c =
     let seen = saw_it c.key_of-key.result (spot c.args.leaf.slot c.args.index) c.word_at-at.result c.see-word.result v u
     (view c.see-word.new.pass) looked c.see-word.ensures.sees in
     last_seen v (view c.see-word.new.pass) c.word_at-at.result c.see-word.result Locked seen
+
+pub keep-locked-requires-clause-due : goal.keep-locked-requires-clause-due
+keep-locked-requires-clause-due c =
+    let v = view c.args.pass.now in
+    let a = view c.word_of-number.new.pass in
+    let u = view c.word_of-value.new.pass in
+    let glanced = glanced_then v a u c.word_of-number.ensures.glances c.word_of-value.ensures.glances in
+    let looked = glanced_looked v u glanced in
+    let seen = saw_it c.key_of-key.result (spot c.args.leaf.slot c.args.index) c.word_at-at.result c.see-word.result v u
+    (view c.see-word.new.pass) looked c.see-word.ensures.sees in
+    let word = word_here c.args.engine.now c.args.pass.now c.args.leaf.slot (2 * c.args.index) c.word_at-at.result c.requires.of
+    c.word_at-at.ensures in
+    compared_foreign c.args.leaf.slot c.args.leaf.page c.args.index c.word_at-at.result c.see-word.result c.args.leaf.span v
+    (view c.see-word.new.pass) c.requires.at seen.looked c.requires.index word c.requires.free
 
 pub returns-then-word-ge-LOCK-clause-keeps : goal.returns-then-word-ge-LOCK-clause-keeps
 returns-then-word-ge-LOCK-clause-keeps c =
@@ -252,6 +267,24 @@ keep-taken-requires-clause-last c =
     let sure = confirmed_it c.key_of-key.result (spot c.args.leaf.slot c.args.index) c.word_at-at.result c.confirm-again.result v
     (view c.load_value-found.new.pass) (view c.confirm-again.new.pass) loaded.looked c.confirm-again.ensures.confirms in
     last_seen v (view c.confirm-again.new.pass) c.word_at-at.result c.confirm-again.result Locked sure
+
+pub keep-taken-requires-clause-due : goal.keep-taken-requires-clause-due
+keep-taken-requires-clause-due c =
+    let v = view c.args.pass.now in
+    let a = view c.word_of-number.new.pass in
+    let u = view c.word_of-value.new.pass in
+    let glanced = glanced_then v a u c.word_of-number.ensures.glances c.word_of-value.ensures.glances in
+    let looked = glanced_looked v u glanced in
+    let seen = saw_it c.key_of-key.result (spot c.args.leaf.slot c.args.index) c.word_at-at.result c.see-word.result v u
+    (view c.see-word.new.pass) looked c.see-word.ensures.sees in
+    let loaded = valued_it c.key_of-key.result (spot c.args.leaf.slot c.args.index) (c.word_at-at.result + 1) c.load_value-found.result v
+    (view c.see-word.new.pass) (view c.load_value-found.new.pass) seen.looked c.load_value-found.ensures.loads in
+    let sure = confirmed_it c.key_of-key.result (spot c.args.leaf.slot c.args.index) c.word_at-at.result c.confirm-again.result v
+    (view c.load_value-found.new.pass) (view c.confirm-again.new.pass) loaded.looked c.confirm-again.ensures.confirms in
+    let word = word_here c.args.engine.now c.args.pass.now c.args.leaf.slot (2 * c.args.index) c.word_at-at.result c.requires.of
+    c.word_at-at.ensures in
+    compared_foreign c.args.leaf.slot c.args.leaf.page c.args.index c.word_at-at.result c.confirm-again.result c.args.leaf.span v
+    (view c.confirm-again.new.pass) c.requires.at sure.looked c.requires.index word c.requires.free
 
 pub returns-then-again-ge-LOCK-clause-keeps : goal.returns-then-again-ge-LOCK-clause-keeps
 returns-then-again-ge-LOCK-clause-keeps c =

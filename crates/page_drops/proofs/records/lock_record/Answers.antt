@@ -7,6 +7,7 @@ use Rattle.engine_pages.specs.Words.{spot}
 use Rattle.snapshot_store.specs.Places.{page as page_words}
 use Rattle.pointer_swings.specs.Swings.{key_in}
 use Rattle.page_drops.proofs.CompareFacts.{found_here, is_locked, is_unlike, keeps_leaf, ready, word_here}
+use Rattle.page_drops.proofs.Dues.{locked_foreign}
 use Rattle.page_drops.proofs.Locks.{locked_now, not_locked}
 use Rattle.page_drops.proofs.Looks.{glanced_looked, last_seen, leaf_worked}
 use Rattle.page_drops.proofs.Entries.{missed_lock, reads_locked, reads_noted, still_noted}
@@ -68,6 +69,22 @@ keep-locked-requires-clause-last c =
     (spot c.args.leaf.slot c.args.index) v u (view c.lock-found.new.pass) (λ e. absurd (omega (arith, e, low, is, high)))
     c.word_of-number.ensures.glances c.lock-found.ensures.locks in
     last_seen v (view c.lock-found.new.pass) c.word_at-at.result c.lock-found.result Locked seen
+
+pub keep-locked-requires-clause-due : goal.keep-locked-requires-clause-due
+keep-locked-requires-clause-due c =
+    let v = view c.args.pass.now in
+    let u = view c.word_of-number.new.pass in
+    let w = view c.lock-found.new.pass in
+    let low = c.requires.low c.args.index c.requires.index in
+    let is = c.word_of-number.ensures.word in
+    let high = c.if-found-ge-LOCK.true in
+    let seen = not_locked c.word_at-at.result c.word_of-number.result c.lock-found.result c.key_of-key.result
+    (spot c.args.leaf.slot c.args.index) v u w (λ e. absurd (omega (arith, e, low, is, high)))
+    c.word_of-number.ensures.glances c.lock-found.ensures.locks in
+    let word = word_here c.args.engine.now c.args.pass.now c.args.leaf.slot (2 * c.args.index) c.word_at-at.result c.requires.of
+    c.word_at-at.ensures in
+    locked_foreign c.args.leaf.slot c.args.leaf.page c.args.index c.word_at-at.result c.lock-found.result c.args.leaf.span
+    (page_words v.pages c.args.leaf.page) v w c.requires.at seen.looked c.requires.index word c.requires.row
 
 pub returns-then-found-ge-LOCK-clause-keeps : goal.returns-then-found-ge-LOCK-clause-keeps
 returns-then-found-ge-LOCK-clause-keeps c =

@@ -1,9 +1,10 @@
-use Rattle.std.proofs.Common.{◌+◌, ◌-◌, ◌*◌, ◌/◌, ◌^◌, arith, sym, subst}
+use Rattle.std.proofs.Common.{ℕ, ◌+◌, ◌-◌, ◌*◌, ◌/◌, ◌^◌, ◌∷◌, ap, arith, sym, subst}
 use Rattle.engine_pages.specs.declared.view.KeptWhy.TheVariants.{Locked}
 use Rattle.engine_pages.specs.Passes.{view}
 use Rattle.engine_pages.specs.Steps.{seen_at}
 use Rattle.page_drops.specs.declared.visits.Held.{Held}
 use Rattle.page_drops.specs.Calls.{HasIn}
+use Rattle.page_drops.proofs.Dues.{looked_from, pointer_foreign}
 use Rattle.page_drops.proofs.Holds.{keeps_shut, look_first, none_looked, seen_last}
 use Rattle.page_drops.proofs.HoldSteps.{again_other, can_renew_so, holds_renewed, holds_so, keeps_missed, keeps_other, missed_so}
 use Rattle.page_drops.proofs.HoldSteps.{pointer_there_still, still_fresh}
@@ -20,6 +21,14 @@ keep-locked-requires-clause-last c =
     let v = view c.args.pass.now in
     seen_last c.args.at c.follow-seen.result Locked (seen_at v.reads c.args.at) v.grip.holds v.ways v
     (view c.follow-seen.new.pass)
+    (look_first c.args.height c.args.place c.args.span c.args.at c.args.page c.follow-seen.result v
+    (view c.follow-seen.new.pass) c.requires.visit c.follow-seen.ensures.follows)
+
+pub keep-locked-requires-clause-due : goal.keep-locked-requires-clause-due
+keep-locked-requires-clause-due c =
+    let v = view c.args.pass.now in
+    pointer_foreign c.args.height c.args.place c.args.span c.args.at c.args.page c.follow-seen.result (seen_at v.reads c.args.at) v
+    (view c.follow-seen.new.pass) c.requires.visit
     (look_first c.args.height c.args.place c.args.span c.args.at c.args.page c.follow-seen.result v
     (view c.follow-seen.new.pass) c.requires.visit c.follow-seen.ensures.follows)
 
@@ -62,6 +71,16 @@ keep-turned-requires-clause-last c =
     (view c.follow-word.new.pass) c.follow-word.ensures.follows c.if-word-seen.true in
     (l.step, l.last)
 
+pub keep-turned-requires-clause-due : goal.keep-turned-requires-clause-due
+keep-turned-requires-clause-due c =
+    let v = view c.args.pass.now in
+    looked_from c.args.at c.follow-seen.result c.follow-word.result ((c.follow-seen.result / 2 ^ 32 - 1) ∷ v.grip.holds) v.ways v
+    (view c.follow-word.new.pass) (λ one. c.if-word-seen.true (ap (λ (q : ℕ). q / 2 ^ 32) one))
+    (again_other c.args.height c.args.place c.args.span c.args.at c.args.page c.follow-seen.result
+    (view c.args.pass.now) (view c.follow-seen.new.pass) c.requires.visit c.follow-seen.ensures.follows
+    c.if-seen-lt-SLOT.false c.if-seen-ge-SHUT.false (view c.enter.new.pass) c.enter.ensures.enters c.follow-word.result
+    (view c.follow-word.new.pass) c.follow-word.ensures.follows c.if-word-seen.true)
+
 pub returns-then-word-seen-clause-keeps : goal.returns-then-word-seen-clause-keeps
 returns-then-word-seen-clause-keeps c =
     keeps_other c.args.height c.args.place c.args.span c.args.at c.args.page c.follow-seen.result
@@ -99,6 +118,18 @@ keep-changed-requires-clause-last c =
     (view c.follow-word.new.pass) c.follow-word.ensures.follows c.if-word-seen.false c.renew-found.result
     (view c.renew-found.new.pass) c.renew-found.ensures.renews c.if-found-word.true in
     (l.step, l.last)
+
+pub keep-changed-requires-clause-due : goal.keep-changed-requires-clause-due
+keep-changed-requires-clause-due c =
+    let v = view c.args.pass.now in
+    looked_from c.args.at c.follow-word.result c.renew-found.result ((c.follow-seen.result / 2 ^ 32 - 1) ∷ v.grip.holds)
+    (record { slot = c.follow-seen.result / 2 ^ 32 - 1; span = c.args.span } ∷ v.ways) v (view c.renew-found.new.pass)
+    c.if-found-word.true
+    (missed_so c.args.height c.args.place c.args.span c.args.at c.args.page c.follow-seen.result
+    (view c.args.pass.now) (view c.follow-seen.new.pass) c.requires.visit c.follow-seen.ensures.follows
+    c.if-seen-lt-SLOT.false c.if-seen-ge-SHUT.false (view c.enter.new.pass) c.enter.ensures.enters c.follow-word.result
+    (view c.follow-word.new.pass) c.follow-word.ensures.follows c.if-word-seen.false c.renew-found.result
+    (view c.renew-found.new.pass) c.renew-found.ensures.renews c.if-found-word.true)
 
 pub returns-then-found-word-clause-keeps : goal.returns-then-found-word-clause-keeps
 returns-then-found-word-clause-keeps c =

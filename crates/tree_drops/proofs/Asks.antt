@@ -71,7 +71,7 @@ pub lead_over : (sp : Span) (page : ℕ) (v w : View) → GoesOver v w → IsLea
 lead_over sp page v w h lead = (lead.0, h.leads lead.0 lead.1, lead.2, lead.3)
 
 -- a slot with a way is held
-way_held : (ways : List Way) (way : Way) → Contains ways way → has_slot (slots_on ways) way.slot ≡ true
+pub way_held : (ways : List Way) (way : Way) → Contains ways way → has_slot (slots_on ways) way.slot ≡ true
 way_held [] way has = absurd (in_none way has)
 way_held (y ∷ ways) way has = elim (in_cases way y ways has) [
   | inl same ↦
@@ -150,11 +150,21 @@ can_work x sp at page epoch held v a can inside inn =
         locks = bare.locks;
         took = bare.took;
         heads = bare.heads;
+        shuts = bare.shuts;
       };
       held = ap (λ (g : Grip). has_slot g.holds held.slot) inside.grip
           ∙ ap (λ (b : Bool). b || has_slot v.grip.holds held.slot) (eq-eqb held.slot held.slot refl);
       names = inside.names;
       read = inside.read;
+      narrow = λ way has. elim (in_cases way own v.ways (subst (λ ws. Contains ws way) inside.ways has)) [
+        | inl same ↦ inl (sym same)
+        | inr more ↦ inr (can.narrow way more)
+      ];
+      away = λ u free i few is.
+          can.apart u
+          (or_false (eqb held.slot u) (has_slot v.grip.holds u) (sym (ap (λ (g : Grip). has_slot g.holds u) inside.grip) ∙ free))
+          i few (is ∙ ap (λ (l : Layout). page_at l.slots u i) layout);
+      unsealed = ap (λ (z : View). z.sealed) went ∙ can.unsealed;
     }
 
 -- work goes on
@@ -176,10 +186,16 @@ work_over x sp at t page word epoch v w h inn same can =
         locks = bare.locks;
         took = bare.took;
         heads = bare.heads;
+        shuts = bare.shuts;
       };
       held = held_over t true v w h can.held;
       names = can.names;
       read = (can.read.0, same ∙ can.read.1, can.read.2);
+      narrow = λ way has. can.narrow way (subst (λ ws. Contains ws way) (ap (λ (z : View). z.ways) h.went) has);
+      away = λ u free.
+          subst (λ (l : Layout). IsOutside l.slots u at) (sym layout)
+          (can.away u (sym (ap (λ (z : View). has_slot z.grip.holds u) h.went) ∙ free));
+      unsealed = ap (λ (z : View). z.sealed) h.went ∙ can.unsealed;
     }
 
 pub work_looked : (x : At) (sp : Span) (at t page word epoch : ℕ) (v w : View) → LooksIn t v w
@@ -214,6 +230,7 @@ pub go_over : (t page count epoch : ℕ) (sp : Span) (v w : View) → GoesOver v
     → CanGoFrom t sp page count epoch w
 go_over t page count epoch sp v w h inn can = record {
   bare = bare_over v w h can.bare;
+  unsealed = ap (λ (z : View). z.sealed) h.went ∙ can.unsealed;
   opened = opened_over t page count sp v w can.held h inn can.opened;
   narrow = λ way has. can.narrow way (subst (λ ws. Contains ws way) (ap (λ (z : View). z.ways) h.went) has);
   held = held_over t true v w h can.held;
@@ -248,6 +265,7 @@ can_child t page count j epoch n at sp part u w go over x less is place q keys w
     let index : 4 + j < 64 = omega (arith, less, few) in
     subst (λ (z : Span). CanVisit (at_index t j) z at n epoch w) keys record {
       bare = go.bare;
+      unsealed = go.unsealed;
       narrow = λ way has. narrow_part way.span sp q (go.narrow way has) whole;
       place = subst (λ (z : Span). IsPointerAt w (at_index t j) z at) (sym keys) (branch_here t page count j at sp part w x less is place);
       inside = in_words w.layout t (4 + j) at x.tree.slot index place;
@@ -279,6 +297,7 @@ module _ (x : At) (sp : Span) (at page epoch : ℕ) (found : Opened) (v u : View
       let own : Way = record { slot = t; span = sp } in
       let ways : u.ways ≡ own ∷ v.ways = ap (λ (z : View). z.ways) looks.over.went ∙ i.inside.ways in record {
         bare = work.bare;
+        unsealed = work.unsealed;
         opened = opened_found;
         narrow = λ way has. elim (in_cases way own v.ways (subst (λ ws. Contains ws way) ways has)) [
           | inl same ↦ inl (sym (ap (λ (z : Way). z.span) same))

@@ -101,7 +101,7 @@ covers_next t page count records i key sp v w only other is here rest x (suc n) 
     (subst (λ l. Contains l r) (rest_first (page_words v.pages page) i n) has)
 
 -- a record with an index is among them
-rest_has : (words : List ℕ) (j n i : ℕ) → j ≤ i → i < j + n → Contains (rest_of words j n) (record_at words i)
+pub rest_has : (words : List ℕ) (j n i : ℕ) → j ≤ i → i < j + n → Contains (rest_of words j n) (record_at words i)
 rest_has words j zero i low less = absurd (omega (arith, low, less))
 rest_has words j (suc n) i low less =
     subst (λ l. Contains l (record_at words i)) (sym (rest_first words j n))

@@ -55,6 +55,7 @@ can_drop_next x sp at t page word epoch count n value k v u w can only reads tak
       locked = locked_next t page n value sp can.head.keys k count v w can.are can.locked here more taken.locked;
       up = can_lead_worked x sp at t page word can.head.keys v w works reads can.up;
       past = subst (λ m. epoch ≤ m) (sym (past_worked v w works)) can.past;
+      shuts = ap (λ (z : View). z.shuts) works.worked ∙ can.shuts;
     }
 
 -- the key isn't locked yet, also behind a look

@@ -35,7 +35,7 @@ module _ (C : KeptPage → Type 0) (x : At) (sp : Span) (at t page word epoch : 
   leads_still r is k = inl (ap half_of is ∙ can.drop.leads, λ some. ap page_half is ∙ can.names some)
 
   -- it tells so of the note
-  sight_noted : (k : Kept) (note : KeptPage) → IsNoteOf k note → TellsPointer at word k v w → (k.why ≡ Changed word → k.seen ≢ word)
+  pub sight_noted : (k : Kept) (note : KeptPage) → IsNoteOf k note → TellsPointer at word k v w → (k.why ≡ Changed word → k.seen ≢ word)
       → (r : Read) × (read_of w.reads at ≡ Some r) × IsKeptSight note at t page r
   sight_noted k note told tells other = elim tells [
     | inl same ↦ (can.read.0, same ∙ can.read.1, leads_still can.read.0 can.read.2 note)

@@ -119,6 +119,7 @@ can_drop_from x sp at t page word epoch count records place found v b w can only
         all = λ r has. subst (λ ks. has_key ks (record { storage = sp.storage; key = r.key }) ≡ true) same (covers r has);
       };
       past = subst (λ n. epoch ≤ n) (sym (past_worked v w works)) can.past;
+      shuts = ap (λ (z : View). z.shuts) works.worked ∙ can.shuts;
     }
 
 -- ---- and opened

@@ -37,12 +37,13 @@ use Rattle.page_drops.specs.Works.{read_of, HasGlanced, KeepsReadsBut}
 use Rattle.tree_drops.specs.declared.visits.Opened.{Opened}
 use Rattle.tree_drops.specs.Branches.{CanDropBranchFrom, HasChild, HasDroppedBranch, IsBranchCauseBelow, IsParted, KeepsBranch}
 use Rattle.tree_drops.specs.Leaves.{KnowsKeys}
-use Rattle.tree_drops.specs.Turns.{page_met, CanGoFrom, CanWork, HasClosed, HasEnded, HasFinished}
+use Rattle.tree_drops.specs.Turns.{page_met, CanGoFrom, CanWork, HasClosed, HasEnded, HasEndedPage, HasFinished}
 use Rattle.tree_drops.specs.Turns.{HasTakenLeaf, IsChildTarget, IsOpened, KnowsParts, LooksIn}
 use Rattle.tree_drops.specs.Visits.{CanVisit, GoesOver, HasTallied, HasVisited, IsFew, IsLeafKept, KeepsInners}
 use Rattle.tree_drops.specs.Visits.{NoPages, WasPage}
 use Rattle.tree_drops.specs.Works.{TellsPointer}
 use Rattle.tree_drops.proofs.Asks.{branch_over, can_child, go_over}
+use Rattle.tree_drops.proofs.ChainVisited.{visited_chain}
 use Rattle.tree_drops.proofs.Ends.{tallied_as, visited_ended}
 use Rattle.tree_drops.proofs.Finishes.{branch_dropped, branch_kept, PartedNote}
 use Rattle.tree_drops.proofs.Overs.{looks_children, looks_glanced, looks_goes, looks_header, looks_then, looks_twins, over_self}
@@ -64,7 +65,7 @@ module _ (t at n : ℕ) (sp : Span) (v w : View) (place : at ≡ page_at v.layou
       subst (λ b. MatchBool b (MatchBool (nat_lt n moved_bit) (HasHeader t sp at v n w) (HasTwins t sp at v n w)) (HasChildren t at v n w))
       (not_one other) h
 
-  leaf_of : kind_of n ≡ 1 → Headed t sp at v n w → MatchBool (nat_lt n moved_bit) (HasHeader t sp at v n w) (HasTwins t sp at v n w)
+  pub leaf_of : kind_of n ≡ 1 → Headed t sp at v n w → MatchBool (nat_lt n moved_bit) (HasHeader t sp at v n w) (HasTwins t sp at v n w)
   leaf_of one h =
       subst (λ b. MatchBool b (MatchBool (nat_lt n moved_bit) (HasHeader t sp at v n w) (HasTwins t sp at v n w)) (HasChildren t at v n w))
       (eq-eqb (kind_of n) 1 one) h
@@ -397,10 +398,12 @@ child_told t page count j epoch n at sp part v b w can less h glanced is place =
 
 pub err_ended : (x : At) (sp : Span) (at page epoch : ℕ) (held : Held) (old : Dropped) (r : Result Opened Dropped) (v a w : View)
     → CanVisit x sp at page epoch v → HasIn sp at page held v a → KeepsInners v a
-    → IfErr r (λ new. HasEnded sp at page epoch held.slot old a new w) → IfErr r (λ new. HasVisited sp at page epoch old v new w)
+    → IfErr r (λ new. HasEndedPage sp at page epoch held.slot old a new w) → IfErr r (λ new. HasVisited sp at page epoch old v new w)
 err_ended x sp at page epoch held old (Ok found) v a w can inside inn h = h
-err_ended x sp at page epoch held old (Err new) v a w can inside inn h =
+err_ended x sp at page epoch held old (Err new) v a w can inside inn (inl h) =
     visited_ended x sp at page epoch held old new v a w can inside inn h
+err_ended x sp at page epoch held old (Err new) v a w can inside inn (inr h) =
+    visited_chain x sp at page epoch held old new v a w can inside inn h
 
 -- an interior page is to be dropped
 pub can_drop_branch : (x : At) (sp : Span) (at t page word epoch count : ℕ) (v : View) → CanWork x sp at t page word epoch v
@@ -416,6 +419,7 @@ can_drop_branch x sp at t page word epoch count v can o = record {
   met = can.drop.met;
   apart = can.drop.apart;
   locks = can.bare.locks;
+  took = can.bare.took;
   shut = record {
     each = λ j less. absurd (omega (arith, less));
     mine = λ z has. absurd (in_none z (subst (λ l. Contains l z) can.bare.shuts has));

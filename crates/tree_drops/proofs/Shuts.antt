@@ -193,6 +193,7 @@ can_next x sp at t page word count n q v u w can goes reads shuts less child =
       met = seen_same v.reads w.reads at (reads at can.apart) ∙ can.met;
       apart = subst (λ (z : View). IsOutside z.layout.slots t at) (sym on.shut) can.apart;
       locks = ap (λ (z : View). z.seat.locks) on.shut ∙ can.locks;
+      took = ap (λ (z : View). z.took) on.shut ∙ can.took;
       shut = shut_next t page n sp (can.branch.inner).separators q v w pages can.shut child shuts.low
           (shuts.shuts ∙ ap (λ l. shut_of (at_index t n) q.number ∷ l) goes.shuts);
     }

@@ -104,7 +104,7 @@ no_tree l r page epoch None old v same are none h =
 -- where there is one
 module _ (l : Layout) (r page epoch id at : ℕ) (o : Option ℕ) (sp : Span) (v : View) (same : v.layout ≡ l) (can : CanGoOver r page v)
     (some : o ≡ Some id) (kind : IsTreeRoot l.decls r o) (less : r < length l.decls) (past : epoch ≤ v.past)
-    (place : at ≡ 10 + r) (keys : sp ≡ record { storage = id; low = 0; high = 2 ^ 64 - 1 }) where
+    (clean : v.sealed ≡ []) (place : at ≡ 10 + r) (keys : sp ≡ record { storage = id; low = 0; high = 2 ^ 64 - 1 }) where
   here : slice_get v.layout.decls r ≡ Some (Tree id)
   here = ap (λ (y : Layout). slice_get y.decls r) same ∙ subst (λ (x : Option ℕ). IsTreeRoot l.decls r x) some kind
 
@@ -122,6 +122,7 @@ module _ (l : Layout) (r page epoch id at : ℕ) (o : Option ℕ) (sp : Span) (v
   pub can_visit_root : CanVisit (Root r) sp at page epoch v
   can_visit_root = record {
     bare = can.bare;
+    unsealed = clean;
     narrow = λ way has. absurd (in_none way (subst (λ ws. Contains ws way) can.ways has));
     place = (
       subst (λ (y : Layout). r < length y.decls) (sym same) less,
@@ -444,7 +445,7 @@ storage_next roots epoch n old new v u w can less a (inr some) =
 -- ---- the end
 
 -- the counts are noted
-over_counts : (v u : View) (c : Counted) (k : ℕ) → WentOver v u → (let w = counted c k u in w ≡ record v {
+over_counts : (n : ℕ) (v u : View) (c : Counted) (k : ℕ) → WentOver (begun n v) u → (let w = counted c k u in w ≡ record v {
   steps = w.steps;
   last = w.last;
   reads = w.reads;
@@ -465,9 +466,10 @@ over_counts : (v u : View) (c : Counted) (k : ℕ) → WentOver v u → (let w =
   leads = w.leads;
   gone = w.gone;
   kept = w.kept;
+  sealed = [];
   drops = v.drops ++ c ∷ [];
 })
-over_counts v u c k went =
+over_counts n v u c k went =
     ap (λ (x : View). record x { steps = u.steps + 1; last = Some (glance u.steps clock_at k); drops = x.drops ++ c ∷ [] })
     went
 
@@ -510,7 +512,7 @@ ended roots epoch n k tally v u goes a =
         swung = a.swung;
         counts = a.counts;
       };
-      is = over_counts v u c k goes.went;
+      is = over_counts n v u c k goes.went;
       later = let later = goes.later in omega (arith, later);
       front = goes.front;
       leads = goes.leads;
@@ -545,7 +547,13 @@ begun_is n v w is = record {
   kept = ap (λ (z : View). z.kept) is;
   gone = ap (λ (z : View). z.gone) is;
   swung = ap (λ (z : View). z.swung) is;
+  unsealed = ap (λ (z : View). z.sealed) is;
 }
+
+-- no header of a split leaf is locked behind the arrays
+pub clean_behind : (roots : List ℕ) (n : ℕ) (tally : Dropped) (v b a : View) → b ≡ begun n v → HasGoneArrays roots b tally a → a.sealed ≡ []
+clean_behind roots n tally v b a is h =
+    ap (λ (z : View). z.sealed) (over_drops b a h.goes).went ∙ ap (λ (z : View). z.sealed) is
 
 pub can_behind : (roots : List ℕ) (n : ℕ) (tally : Dropped) (v b a : View) → b ≡ begun n v → CanDropAll roots v
     → HasGoneArrays roots b tally a → CanDropAll roots a

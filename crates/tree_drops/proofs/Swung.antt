@@ -226,14 +226,14 @@ new_here t page n sp keys k count v are locked here = record {
         let one = one_index keys o.0 n k are.once o.2 here in
         let less = o.1 in absurd (omega (arith, one, less))
 
-below_next : (i n : ℕ) → i < n + 1 → (i ≡ n → ⊥) → i < n
+pub below_next : (i n : ℕ) → i < n + 1 → (i ≡ n → ⊥) → i < n
 below_next i n less apart = by_test (ltb i n) refl
   where
     by_test : (c : Bool) → ltb i n ≡ c → i < n
     by_test true low = ltb-true i n low
     by_test false high = let up = ltb-false i n high in absurd (apart (let same : i ≡ n = omega (arith, up, less) in same))
 
-has_push : (keys : List Key) (k q : Key) → has_key (keys ++ k ∷ []) q ≡ true → (has_key keys q ≡ true) ⊎ (k ≡ q)
+pub has_push : (keys : List Key) (k q : Key) → has_key (keys ++ k ∷ []) q ≡ true → (has_key keys q ≡ true) ⊎ (k ≡ q)
 has_push [] k q has = inr (by_test (same_key k q) refl has)
   where
     by_test : (c : Bool) → same_key k q ≡ c → (c || false) ≡ true → k ≡ q
@@ -260,8 +260,8 @@ locked_next t page n word sp keys k count v w are locked here more own = record 
       ];
   mine = λ x has.
       elim (in_push_cases x (took_at k (spot t n) word) v.took (subst (λ l. Contains l x) more.took has)) [
-        | inl old ↦ let o = locked.mine x old in let less = o.1 in (o.0, omega (arith, less), o.2)
-        | inr new ↦ (n, omega arith, here ∙ ap (λ (y : Took). Some y.key) new)
+        | inl old ↦ let o = locked.mine x old in let less = o.1 in (o.0, omega (arith, less), o.2, o.3)
+        | inr new ↦ (n, omega arith, here ∙ ap (λ (y : Took). Some y.key) new, sym (ap (λ (y : Took). y.spot) new))
       ];
 }
   where
@@ -284,7 +284,7 @@ locked_next t page n word sp keys k count v w are locked here more own = record 
 
 -- ---- it is opened
 
-has_last : (keys : List Key) (k : Key) → has_key (keys ++ k ∷ []) k ≡ true
+pub has_last : (keys : List Key) (k : Key) → has_key (keys ++ k ∷ []) k ≡ true
 has_last [] k = ap (λ (c : Bool). c || false) (same_key-self k)
 has_last (x ∷ keys) k = or_right (same_key x k) (has_key (keys ++ k ∷ []) k) (has_last keys k)
 

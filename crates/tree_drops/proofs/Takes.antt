@@ -8,7 +8,7 @@ use Rattle.homes.specs.declared.places.Span.{Span}
 use Rattle.wire_form.specs.Leaves.{tree_fan}
 use Rattle.snapshot_store.specs.Places.{page as page_words}
 use Rattle.engine_pages.specs.declared.view.KeptWhy.{KeptWhy}
-use Rattle.engine_pages.specs.declared.view.KeptWhy.TheVariants.{Changed, Locked, Long, Unlike}
+use Rattle.engine_pages.specs.declared.view.KeptWhy.TheVariants.{Changed, Locked, Unlike}
 use Rattle.engine_pages.specs.declared.view.View.{View}
 use Rattle.engine_pages.specs.Layout.{page_at}
 use Rattle.engine_pages.specs.Steps.{glance}
@@ -35,9 +35,6 @@ not_changed : (why : KeptWhy) (k : Kept) (word seen : ℕ) → k ≡ record { wo
     → ((e : ℕ) → why ≡ Changed e → ⊥) → (e : ℕ) → k.why ≡ Changed e → ⊥
 not_changed why k word seen is never e so = never e (sym (ap (λ (x : Kept). x.why) is) ∙ so)
 
-long_apart : (e : ℕ) → Long ≡ Changed e → ⊥
-long_apart e is = absurd (cc)
-
 locked_apart : (e : ℕ) → Locked ≡ Changed e → ⊥
 locked_apart e is = absurd (cc)
 
@@ -46,13 +43,6 @@ unlike_apart e is = absurd (cc)
 
 module _ (x : At) (sp : Span) (at t page word epoch header place : ℕ) (k : Kept) (v w : View) (can : CanWork x sp at t page word epoch v)
     (here : place ≡ page_at v.layout.slots t 0) where
-  pub taken_split : k ≡ record { word = place; seen = header; why = Long } → IsNoted k v w → 2 ^ 62 ≤ header
-      → HasTakenLeaf sp at page epoch t (Err k) v w
-  taken_split is told high =
-      taken_noted x sp at t page word epoch [] k v w can
-      (noted_page (IsLeafCause v.layout.slots t sp v.pages page epoch []) t place header Long k v w is told (here, high))
-      (not_changed Long k place header is long_apart)
-
   pub taken_locked : k ≡ record { word = place; seen = header; why = Locked } → IsNoted k v w → 2 ^ 60 ≤ header → header < 2 ^ 61
       → HasTakenLeaf sp at page epoch t (Err k) v w
   taken_locked is told high low =

@@ -67,7 +67,7 @@ place_in (In y) sp at v w h ways inners place =
 
 -- ---- no page on the way is over the same keys
 
-way_of : (ways : List Way) (t : ℕ) → has_slot (slots_on ways) t ≡ true → (way : Way) × Contains ways way × (way.slot ≡ t)
+pub way_of : (ways : List Way) (t : ℕ) → has_slot (slots_on ways) t ≡ true → (way : Way) × Contains ways way × (way.slot ≡ t)
 way_of [] t held = absurd (true≢false (sym held))
 way_of (way ∷ path) t held = by_test (eqb way.slot t) refl held (way_of path t)
   where
@@ -77,7 +77,7 @@ way_of (way ∷ path) t held = by_test (eqb way.slot t) refl held (way_of path t
     by_test true same held later = (way, in_head way path, eqb-true way.slot t same)
     by_test false other held later = let more = later held in (more.0, in_tail more.0 way path more.1, more.2)
 
-narrower_apart : (wide sp : Span) → IsNarrower wide sp → sp ≡ wide → ⊥
+pub narrower_apart : (wide sp : Span) → IsNarrower wide sp → sp ≡ wide → ⊥
 narrower_apart wide sp n same =
     let low : sp.low ≡ wide.low = ap (λ (z : Span). z.low) same in
     let high : sp.high ≡ wide.high = ap (λ (z : Span). z.high) same in
@@ -100,7 +100,7 @@ tree_unheld t sp at n holds ways v w h half path tree narrow held there =
     (subst (λ ws. Contains ws one.0) (sym now) (in_tail one.0 own ways one.1)) (sym one.2)
     (ap (λ (l : Layout). is_tree l.decls sp.storage) layout ∙ tree))
 
-or_not : (c : Bool) → (c ≡ true → ⊥) → c ≡ false
+pub or_not : (c : Bool) → (c ≡ true → ⊥) → c ≡ false
 or_not true never = absurd (never refl)
 or_not false never = refl
 

@@ -180,6 +180,7 @@ pub record CanDropBranchFrom (x : At) (sp : Span) (at t page word count n : ℕ)
   pub met : seen_at v.reads at ≡ Some word
   pub apart : IsOutside v.layout.slots t at
   pub locks : v.seat.locks ≡ []
+  pub took : v.took ≡ []
   pub shut : AreShut t sp page (branch.inner).separators n v
 
 -- The pointer, whose word is here, was left with the number of the snapshot page alone, and the view says what was seen

@@ -108,6 +108,7 @@ pub record HasDroppedAll (roots : List ℕ) (epoch : ℕ) (v : View) (tally : Dr
     leads = w.leads;
     gone = w.gone;
     kept = w.kept;
+    sealed = [];
     drops = v.drops ++ record { dropped = tally.dropped; kept = tally.kept } ∷ [];
   }
   pub later : v.steps ≤ w.steps
@@ -117,11 +118,12 @@ pub record HasDroppedAll (roots : List ℕ) (epoch : ℕ) (v : View) (tally : Dr
 
 -- ---- the parts of a call
 
--- nothing was read, left, kept or swung yet
+-- nothing was left, kept or swung yet, and no header of a split leaf is locked
 pub record IsBegun (v : View) : Type 0 where
   pub kept : v.kept ≡ []
   pub gone : v.gone ≡ []
   pub swung : v.swung ≡ []
+  pub unsealed : v.sealed ≡ []
 
 -- all arrays were gone over
 pub record HasGoneArrays (roots : List ℕ) (v : View) (tally : Dropped) (w : View) : Type 0 where

@@ -33,7 +33,7 @@ use Rattle.dual_pointer.specs.Installs.{tree_records}
 use Rattle.page_records.specs.Locks.{took_at, IsOpenWord}
 use Rattle.pointer_swings.specs.TreeSwings.{IsTreeLockedAs}
 use Rattle.tree_heads.specs.Headers.{IsTreeAt}
-use Rattle.page_drops.specs.Works.{read_of, IsOutside}
+use Rattle.page_drops.specs.Works.{locked_at, read_of, IsOutside}
 use Rattle.tree_drops.specs.declared.stored.Stored.{Stored}
 use Rattle.page_drops.specs.declared.noting.Kept.{Kept}
 use Rattle.tree_drops.specs.Works.{KeepsIt, OnlyLooks, WorksOn}
@@ -161,8 +161,7 @@ pub record IsHeadUnlike
   pub unlike : IsNoLeaf page words ⊎ HasOther sp keys records
 
 -- Why a leaf with these keys in a slot was kept that is compared with the snapshot page with this number: a word was
--- locked, or had changed since the load before it, or was unlike the snapshot's, or its value was; or the header tells of
--- a split.
+-- locked, or had changed since the load before it, or was unlike the snapshot's, or its value was.
 abbrev pub IsLeafCause : ℕ → ℕ → Span → List (List ℕ) → ℕ → ℕ → List Key → KeptWhy → ℕ → ℕ → Type 0
 IsLeafCause slots t sp pages page epoch keys Locked word seen = IsHeadOrRecord slots t word × ((seen / 2 ^ 60) % 2 ≡ 1)
 IsLeafCause slots t sp pages page epoch keys Unlike word seen =
@@ -171,7 +170,17 @@ IsLeafCause slots t sp pages page epoch keys Unlike word seen =
     ⊎ IsHeadUnlike slots t sp page (page_words pages page) keys (tree_records pages page) word)
 IsLeafCause slots t sp pages page epoch keys Under word seen = ⊥
 IsLeafCause slots t sp pages page epoch keys (Changed expected) word seen = IsHeadOrRecord slots t word × (seen ≢ expected)
-IsLeafCause slots t sp pages page epoch keys Long word seen = (word ≡ page_at slots t 0) × (2 ^ 62 ≤ seen)
+IsLeafCause slots t sp pages page epoch keys Long word seen = ⊥
+
+-- The same of the record with this index alone, where the snapshot has this for its key.
+abbrev pub IsRecordCause : ℕ → ℕ → ℕ → Option Found → ℕ → KeptWhy → ℕ → ℕ → Type 0
+IsRecordCause slots t i o epoch Locked word seen = (word ≡ page_at slots t (17 + 3 * i)) × ((seen / 2 ^ 60) % 2 ≡ 1)
+IsRecordCause slots t i o epoch Unlike word seen =
+    ((word ≡ page_at slots t (17 + 3 * i)) × ((seen / 2 ^ 60) % 2 ≡ 0) × IsUnlike o epoch seen)
+    ⊎ ((word ≡ page_at slots t (18 + 3 * i)) × IsOtherValue o seen)
+IsRecordCause slots t i o epoch Under word seen = ⊥
+IsRecordCause slots t i o epoch (Changed expected) word seen = (word ≡ page_at slots t (17 + 3 * i)) × (seen ≢ expected)
+IsRecordCause slots t i o epoch Long word seen = ⊥
 
 -- so it was kept, with keys that the pass knows
 abbrev pub IsKnownCause : ℕ → Span → ℕ → ℕ → View → View → KeptWhy → ℕ → ℕ → Type 0
@@ -217,7 +226,7 @@ KeptForHeader t k v w = KeepsIt (λ why word seen. (why ≡ Unlike) × (word ≡
 pub record AreLocked (t : ℕ) (sp : Span) (page n : ℕ) (keys : List Key) (v : View) : Type 0 where
   pub each : (i : ℕ) (k : Key) → i < n → slice_get keys i ≡ Some k → IsTreeLockedAs v t i page k
   pub own : (k : Key) → has_key v.seat.locks k ≡ true → (i : ℕ) × (i < n) × (slice_get keys i ≡ Some k)
-  pub mine : (x : Took) → Contains v.took x → (i : ℕ) × (i < n) × (slice_get keys i ≡ Some x.key)
+  pub mine : (x : Took) → Contains v.took x → (i : ℕ) × (i < n) × (slice_get keys i ≡ Some x.key) × (x.spot ≡ spot t i)
 
 -- The view has one lock more, of this record with this word, and noted nothing.
 pub record LocksMore (k : Key) (x : Spot) (word : ℕ) (v w : View) : Type 0 where
@@ -226,6 +235,11 @@ pub record LocksMore (k : Key) (x : Spot) (word : ℕ) (v w : View) : Type 0 whe
   pub took : w.took ≡ v.took ++ took_at k x word ∷ []
   pub heads : w.heads ≡ v.heads
   pub kept : w.kept ≡ v.kept
+
+-- None of the records that the pass has locked is the one with this index in the slot, and it has shut no pointer.
+pub record IsUntaken (t i : ℕ) (v : View) : Type 0 where
+  pub records : (x : Took) → Contains v.took x → page_at v.layout.slots t (17 + 3 * i) ≢ locked_at v x
+  pub shuts : v.shuts ≡ []
 
 -- The key isn't among those that are locked.
 pub record IsNew (k : Key) (v : View) : Type 0 where
@@ -266,6 +280,7 @@ pub record CanDropFrom (x : At) (sp : Span) (at t page word epoch count n : ℕ)
   pub locked : AreLocked t sp page n head.keys v
   pub up : CanLead x sp at t page word head.keys v
   pub past : epoch ≤ v.past
+  pub shuts : v.shuts ≡ []
 
 -- The pointer, whose word is here, was left with the number of the snapshot page alone, and the view says what was seen
 -- of it before; the slot is given up, and nothing of its page is the pass's; no page more is noted as kept.
@@ -307,3 +322,4 @@ pub record CanDrop (x : At) (sp : Span) (at t page word epoch : ℕ) (v : View) 
   pub locks : v.seat.locks ≡ []
   pub took : v.took ≡ []
   pub heads : v.heads ≡ []
+  pub shuts : v.shuts ≡ []

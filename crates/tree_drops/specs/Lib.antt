@@ -2,6 +2,10 @@ pub mod Works
 pub mod Leaves
 pub mod Branches
 pub mod Visits
+pub mod Belows
 pub mod Chains
+pub mod Taking
+pub mod ChainKeys
 pub mod Turns
+pub mod Releases
 pub mod Calls

@@ -1,6 +1,6 @@
 -- What the parts of a visit of a tree's pointer leave and tell.
 use Rattle.std.specs.Prelude.{◌≡◌, ◌≢◌, ◌⊎◌, ℕ, suc, ◌+◌, ◌<◌, ◌≤◌, List, [], ◌∷◌, ◌++◌, length, reverse, false, true, slice_get}
-use Rattle.std.specs.Prelude.{Option, Some, None, Contains, Result, Ok, Err, ⊤}
+use Rattle.std.specs.Prelude.{Option, Some, None, Contains, Result, Ok, Err, IfErr, OnOk, ⊤}
 use Rattle.lists.specs.Fronts.{IsFront}
 use Rattle.homes.specs.declared.places.At.{At}
 use Rattle.homes.specs.declared.places.Span.{Span}
@@ -26,7 +26,7 @@ use Rattle.page_drops.specs.declared.noting.Kept.{Kept}
 use Rattle.page_drops.specs.declared.visits.Held.{Held}
 use Rattle.page_drops.specs.Calls.{HasIn, IsBare, IsElsewhere, IsNoteOf}
 use Rattle.page_drops.specs.Visits.{dropped_here, note_here, swing_here}
-use Rattle.page_drops.specs.Works.{read_of, HasGlanced, KeepsReads, KeepsReadsBut}
+use Rattle.page_drops.specs.Works.{read_of, HasGlanced, IsOutside, KeepsReads, KeepsReadsBut}
 use Rattle.tree_drops.specs.declared.visits.Opened.{Opened}
 use Rattle.tree_drops.specs.declared.visits.Target.{Target}
 use Rattle.tree_drops.specs.Branches.{AreAlike, AtBranch, IsInnerOf}
@@ -92,6 +92,9 @@ pub record CanWork (x : At) (sp : Span) (at t page word epoch : ℕ) (v : View) 
   pub held : has_slot v.grip.holds t ≡ true
   pub names : 0 < page → page_half word ≡ page
   pub read : (r : Read) × (read_of v.reads at ≡ Some r) × (r.seen ≡ word)
+  pub narrow : (way : Way) → Contains v.ways way → (way ≡ record { slot = t; span = sp }) ⊎ IsNarrower way.span sp
+  pub away : (u : ℕ) → has_slot v.grip.holds u ≡ false → IsOutside v.layout.slots u at
+  pub unsealed : v.sealed ≡ []
 
 -- The page of that slot was gone over, with all below it, and the slot is left: it was of one of the kinds.
 pub record HasEnded (sp : Span) (at page epoch t : ℕ) (old : Dropped) (v : View) (new : Dropped) (w : View) : Type 0 where
@@ -109,12 +112,53 @@ pub record HasEnded (sp : Span) (at page epoch t : ℕ) (old : Dropped) (v : Vie
   pub under : AreMet v.layout.slots epoch w.pages below
   pub counts : HasTallied old (dropped_in below + dropped_here (Some t) note) (notes_in below ++ note_here note) new
 
+-- A chain was worked on, to whose first page the pointer led, and all its slots are left: it was dropped, or kept, whole.
+pub record HasEndedChain (sp : Span) (at page epoch t : ℕ) (old : Dropped) (v : View) (new : Dropped) (w : View) : Type 0 where
+  pub below : MetPages
+  pub note : Option KeptPage
+  pub mid : View
+  pub over : GoesOver v mid
+  pub kept : mid.kept ≡ v.kept ++ (notes_in below ++ note_here note)
+  pub gone : mid.gone ≡ reverse (slots_in below) ++ v.gone
+  pub swung : mid.swung ≡ v.swung ++ (swings_in below ++ swing_here at (Some t) note)
+  pub sight : (r : Read) × (read_of mid.reads at ≡ Some r) × IsSight (Some t) note at page r
+  pub fresh : (u : ℕ) → Contains (slots_in below) u → has_slot v.grip.holds u ≡ false
+  pub others : (word : ℕ) → (word ≡ at → ⊥) → IsElsewhere v.layout.slots (t ∷ slots_in below) word
+      → read_of mid.reads word ≡ read_of v.reads word
+  pub known : KeepsInners v mid
+  pub leaves : w ≡ left t mid
+  pub pages : List (List ℕ)
+  pub front : IsFront pages w.pages
+  pub there : page ≤ length pages
+  pub was : WasPage v.layout.slots t epoch pages (page_met at sp page t note) below
+  pub under : AreMet v.layout.slots epoch w.pages below
+  pub counts : HasTallied old (dropped_in below + dropped_here (Some t) note) (notes_in below ++ note_here note) new
+
 -- a leaf was worked on: it was dropped, or else kept for this
 abbrev pub HasTakenLeaf : Span → ℕ → ℕ → ℕ → ℕ → Result (Unit {0}) Kept → View → View → Type 0
 HasTakenLeaf sp at page epoch t (Ok u) v w =
     HasFinished (IsLeafKept v.layout.slots t sp v.pages page epoch at) t at page None v w
 HasTakenLeaf sp at page epoch t (Err k) v w = (note : KeptPage) × IsNoteOf k note
     × HasFinished (IsLeafKept v.layout.slots t sp v.pages page epoch at) t at page (Some note) v w
+
+-- A leaf that wasn't split was worked on, and its slot is left.
+pub record HasLeftLeaf (sp : Span) (at page epoch t : ℕ) (old : Dropped) (v : View) (new : Dropped) (w : View) : Type 0 where
+  pub result : Result (Unit {0}) Kept
+  pub mid : View
+  pub taken : HasTakenLeaf sp at page epoch t result v mid
+  pub leaves : w ≡ left t mid
+  pub dropped : OnOk result (HasTallied old 1 [] new)
+  pub kept : IfErr result (λ k. (note : KeptPage) → IsNoteOf k note → HasTallied old 0 (note ∷ []) new)
+
+-- so a leaf was worked on, or a chain
+abbrev pub HasEndedLeaf : Span → ℕ → ℕ → ℕ → ℕ → Dropped → View → Dropped → View → Type 0
+HasEndedLeaf sp at page epoch t old v new w =
+    HasLeftLeaf sp at page epoch t old v new w ⊎ HasEndedChain sp at page epoch t old v new w
+
+-- the page of a slot was gone over, or a chain
+abbrev pub HasEndedPage : Span → ℕ → ℕ → ℕ → ℕ → Dropped → View → Dropped → View → Type 0
+HasEndedPage sp at page epoch t old v new w =
+    HasEnded sp at page epoch t old v new w ⊎ HasEndedChain sp at page epoch t old v new w
 
 -- ---- an interior page
 
@@ -171,6 +215,7 @@ pub record HasClosed (sp : Span) (at page t : ℕ) (old : Dropped) (v : View) (n
 -- pages with lower numbers are below it. The epoch is the snapshot's, and over.
 pub record CanGoFrom (t : ℕ) (sp : Span) (page count epoch : ℕ) (v : View) : Type 0 where
   pub bare : IsBare v
+  pub unsealed : v.sealed ≡ []
   pub opened : IsOpened t sp page count v
   pub narrow : (way : Way) → Contains v.ways way → (way.span ≡ sp) ⊎ IsNarrower way.span sp
   pub held : has_slot v.grip.holds t ≡ true

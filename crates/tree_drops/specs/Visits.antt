@@ -1,17 +1,18 @@
 -- What a call tells that goes over the pages of a tree: each pointer that it met, once, with what was met below it.
-use Rattle.std.specs.Prelude.{◌≡◌, ◌≢◌, ◌⊎◌, ℕ, zero, suc, ◌+◌, ◌^◌, ◌<◌, ◌≤◌, List, [], ◌++◌, length, reverse}
+use Rattle.std.specs.Prelude.{◌≡◌, ◌≢◌, ◌⊎◌, ℕ, zero, suc, ◌+◌, ◌*◌, ◌/◌, ◌%◌, ◌^◌, ◌<◌, ◌≤◌, List, [], ◌++◌, length, reverse, get_or}
 use Rattle.std.specs.Prelude.{false, true, slice_get, Option, Some, None, Contains, ⊤}
 use Rattle.lists.specs.Fronts.{IsFront}
 use Rattle.serial_model.specs.declared.key.Key.{Key}
 use Rattle.homes.specs.declared.places.At.{At}
 use Rattle.homes.specs.declared.places.Span.{Span}
 use Rattle.snapshot_store.specs.declared.place.PagePlace.{PagePlace}
-use Rattle.snapshot_store.specs.Places.{page as page_words}
-use Rattle.drop_core.specs.Event.{lower_span, upper_span}
+use Rattle.homes.specs.Homes.{has_key, in_span}
+use Rattle.snapshot_store.specs.Places.{Found, page as page_words}
 use Rattle.drop_core.specs.Table.{has_slot}
 use Rattle.engine_pages.specs.declared.view.Inner.{Inner}
 use Rattle.engine_pages.specs.declared.view.KeptPage.{KeptPage}
-use Rattle.engine_pages.specs.declared.view.KeptWhy.TheVariants.{Locked, Changed, Long}
+use Rattle.engine_pages.specs.declared.view.KeptWhy.{KeptWhy}
+use Rattle.engine_pages.specs.declared.view.KeptWhy.TheVariants.{Locked, Unlike, Under, Changed, Long}
 use Rattle.engine_pages.specs.declared.view.Lead.{Lead}
 use Rattle.engine_pages.specs.declared.view.Read.{Read}
 use Rattle.engine_pages.specs.declared.view.Swung.{Swung}
@@ -23,19 +24,19 @@ use Rattle.engine_pages.specs.Pointers.{IsPointerAt, half_of}
 use Rattle.engine_pages.specs.Resident.{tree_below}
 use Rattle.dual_pointer.specs.Copies.{IsLeadOf}
 use Rattle.pointer_swings.specs.Children.{keys_of}
-use Rattle.tree_heads.specs.Headers.{moved_locked}
+use Rattle.chain_steps.specs.Below.{IsStoredIn}
 use Rattle.page_drops.specs.declared.calls.Dropped.{Dropped}
 use Rattle.page_drops.specs.Calls.{IsBare, IsFirst, KeepsOtherReads}
 use Rattle.page_drops.specs.Visits.{LeadsSo, dropped_here, note_here, slot_here, swing_here}
 use Rattle.page_drops.specs.Works.{read_of, IsOutside, SawMore}
 use Rattle.tree_drops.specs.Branches.{IsBranchCause, IsParted}
-use Rattle.tree_drops.specs.Leaves.{IsLeafCause}
+use Rattle.tree_drops.specs.Leaves.{IsLeafCause, IsRecordCause}
 
 -- ---- what was met
 
 -- A pointer that was met: where its word stands, its keys, the newest snapshot's page for them or 0, the slot that it
--- led to if it did, and the note of why the page was kept, if it was. So is a word of a leaf that was split, in this slot
--- then, which leads to one of its halves.
+-- led to if it did, and the note of why the page was kept, if it was. So is a half of a leaf that was split, in this slot
+-- then, by the pointer that leads to the first page of its chain, and with the snapshot's page for the keys of that.
 pub record MetPage : Type 0 where
   pub at : ℕ
   pub span : Span
@@ -45,7 +46,7 @@ pub record MetPage : Type 0 where
   pub kept : Option KeptPage
 
 -- What was met at pointers in a row: at the first one, with what was met below the page that it led to, and at those
--- after it. Below a leaf that was split are its two halves.
+-- after it. Below the first page of a chain are all its halves, in the order in which they were entered.
 pub data MetPages : Type 0 where
   NoPages : MetPages
   PageThen : MetPage → MetPages → MetPages → MetPages
@@ -152,36 +153,131 @@ pub record WasParted (slots t : ℕ) (pages : List (List ℕ)) (m : MetPage) (be
   pub is : m.kept ≡ Some kept
   pub cause : IsParted slots t (page_words pages m.page) kept.why kept.word kept.seen
 
--- the keys of a half of a leaf that was split there: those below the separator, or those from it on
-abbrev pub half_span : ℕ → Span → ℕ → Span
-half_span zero sp separator = lower_span sp separator
-half_span (suc j) sp separator = upper_span sp separator
+-- ---- chains
 
--- A leaf that was split, and its halves, which have the keys below a separator and those from it on: each of them was
--- met, once; it is kept for its header. Where the separator isn't one of its keys but the first,
--- or the header was locked when it was loaded, its halves weren't gone into.
-pub record WasSplit (slots t : ℕ) (m : MetPage) (below : MetPages) : Type 0 where
-  pub kept : KeptPage
-  pub is : m.kept ≡ Some kept
-  pub why : kept.why ≡ Long
-  pub word : kept.word ≡ page_at slots t 0
-  pub moved : 2 ^ 62 ≤ kept.seen
-  pub separator : ℕ
-  pub both : (row_length below ≡ 2) ⊎ ((below ≡ NoPages) × ((separator ≤ m.span.low)
-      ⊎ ((m.span.high < separator) ⊎ (moved_locked ≤ kept.seen))))
-  pub each : (j : ℕ) (c : MetPage) (under : MetPages) → met_at j below ≡ Some (c, under)
-      → (c.at ≡ page_at slots t (3 + j)) × (c.span ≡ half_span j m.span separator) × (c.half ≡ Some t)
+-- one of those that were met in these rows
+abbrev pub IsAmong : MetPage → MetPages → Type 0
+IsAmong c NoPages = ⊥
+IsAmong c (PageThen m below more) = (c ≡ m) ⊎ (IsAmong c below ⊎ IsAmong c more)
 
--- A leaf that is a half of one that was split, and is kept with that, for that one's header.
-pub record WasHalf (slots : ℕ) (m : MetPage) (below : MetPages) : Type 0 where
+-- The page of a chain in this slot is over these keys: one of those that were met in these rows.
+pub record IsChainPage (met : MetPages) (u : ℕ) (sp : Span) : Type 0 where
+  pub page : MetPage
+  pub among : IsAmong page met
+  pub slot : page.slot ≡ Some u
+  pub span : page.span ≡ sp
+
+-- it is none that was split: no half of it was met
+pub record IsChainLeaf (met : MetPages) (u : ℕ) (sp : Span) : Type 0 where
+  pub page : IsChainPage met u sp
+  pub whole : (d : MetPage) → IsAmong d met → d.half ≡ Some u → ⊥
+
+-- The word of the header of a page of a chain was locked, or that of no leaf, or of a split leaf that isn't full or is
+-- locked, or had changed since it was seen.
+abbrev pub IsHeaderCause : ℕ → ℕ → KeptWhy → ℕ → ℕ → Type 0
+IsHeaderCause slots u Locked word seen = (word ≡ page_at slots u 0) × ((seen / 2 ^ 60) % 2 ≡ 1)
+IsHeaderCause slots u Unlike word seen = (word ≡ page_at slots u 0)
+    × (((seen / 2 ^ 8) % 2 ^ 8 ≢ 1) ⊎ ((2 ^ 62 ≤ seen) × (seen ≢ 2 ^ 62 + 2 ^ 8 + 16)))
+IsHeaderCause slots u Under word seen = ⊥
+IsHeaderCause slots u (Changed expected) word seen = (word ≡ page_at slots u 0) × (seen ≢ expected)
+IsHeaderCause slots u Long word seen = ⊥
+
+-- The word of a split leaf that parts its keys, of which this is the span, was none of them but the first.
+abbrev pub IsPartedOut : ℕ → ℕ → Span → KeptWhy → ℕ → ℕ → Type 0
+IsPartedOut slots u sp why word seen =
+    (why ≡ Unlike) × (word ≡ page_at slots u 5) × ((seen ≤ sp.low) ⊎ (sp.high < seen))
+
+-- The record with this index of a leaf of a chain, whose key this is, is unlike what the snapshot has for that below the
+-- page with this number, which stands for the keys of the whole chain.
+pub record IsRecordKept (slots u : ℕ) (sp whole : Span) (pages : List (List ℕ)) (page epoch : ℕ) (why : KeptWhy) (word seen : ℕ)
+    : Type 0 where
+  pub index : ℕ
+  pub few : index < 16
+  pub key : Key
+  pub inside : in_span sp key ≡ true
+  pub stored : Option Found
+  pub below : IsStoredIn pages whole page key.key stored
+  pub cause : IsRecordCause slots u index stored epoch why word seen
+
+-- The snapshot has a record below that page, of a key that no leaf of the chain has: where one is round it, that has keys
+-- without it. The header of the chain's first page was seen.
+pub record IsMissing (slots t : ℕ) (whole : Span) (pages : List (List ℕ)) (page : ℕ) (met : MetPages) (why : KeptWhy) (word : ℕ)
+    : Type 0 where
+  pub unlike : why ≡ Unlike
+  pub place : word ≡ page_at slots t 0
+  pub key : ℕ
+  pub stored : Found
+  pub below : IsStoredIn pages whole page key (Some stored)
+  pub none : (u : ℕ) (sp : Span) → IsChainLeaf met u sp → sp.low ≤ key → key ≤ sp.high
+      → (keys : List Key) × (has_key keys (record { storage = whole.storage; key = key }) ≡ false)
+
+-- A published page with these words is a leaf with more records than there is room for, or an interior one without a child,
+-- or with more than there is room for.
+abbrev pub IsMisshapen : List ℕ → Type 0
+IsMisshapen words = (((get_or words 0 0 / 2 ^ 8) % 2 ^ 8 ≡ 1) × (16 < get_or words 0 0 % 2 ^ 8))
+    ⊎ (((get_or words 0 0 / 2 ^ 8) % 2 ^ 8 ≢ 1) × ((get_or words 0 0 % 2 ^ 8 ≡ 0) ⊎ (30 < get_or words 0 0 % 2 ^ 8)))
+
+-- a page of the snapshot below the chain's is so, and the header of the chain's first page was seen
+pub record IsBelowMisshapen (slots t : ℕ) (pages : List (List ℕ)) (why : KeptWhy) (word : ℕ) : Type 0 where
+  pub unlike : why ≡ Unlike
+  pub place : word ≡ page_at slots t 0
+  pub number : ℕ
+  pub some : 0 < number
+  pub there : number ≤ length pages
+  pub shape : IsMisshapen (page_words pages number)
+
+-- The chain has more pages than are taken out of memory at once; the header of its first page was seen.
+pub record IsLong (slots t : ℕ) (met : MetPages) (why : KeptWhy) (word seen : ℕ) : Type 0 where
+  pub long : why ≡ Long
+  pub place : word ≡ page_at slots t 0
+  pub moved : 2 ^ 62 ≤ seen
+  pub many : 63 < length (slots_in met)
+
+-- Why a chain was kept whose first page is in this slot: it has too many pages, or for one of its pages' headers or a word
+-- that parts its keys, or for a record of one of its leaves, or since the snapshot has a record that it hasn't.
+abbrev pub IsChainCause : ℕ → ℕ → Span → List (List ℕ) → ℕ → ℕ → MetPages → KeptWhy → ℕ → ℕ → Type 0
+IsChainCause slots t whole pages page epoch met why word seen =
+    IsLong slots t met why word seen ⊎ (IsMissing slots t whole pages page met why word
+    ⊎ (IsBelowMisshapen slots t pages why word
+    ⊎ (((u : ℕ) × (sp : Span) × IsChainPage met u sp
+    × (IsHeaderCause slots u why word seen ⊎ IsPartedOut slots u sp why word seen))
+    ⊎ ((u : ℕ) × (sp : Span) × IsChainLeaf met u sp
+    × IsRecordKept slots u sp whole pages page epoch why word seen))))
+
+-- a page of a chain that is in this slot is the first one, or was met before the one with this index
+abbrev pub IsBefore : ℕ → MetPages → ℕ → ℕ → Type 0
+IsBefore t below j u = (u ≡ t) ⊎ ((i : ℕ) × (d : MetPage) × (under : MetPages) × (i < j) × (met_at i below ≡ Some (d, under))
+    × (d.slot ≡ Some u))
+
+-- A half of a leaf of the chain that was split; it has a part of the keys of the chain. It was dropped or kept with all of
+-- the chain, by the one pointer that leads to that, and for one cause.
+pub record IsHalfMet (t : ℕ) (m : MetPage) (below : MetPages) (j : ℕ) (c : MetPage) (under : MetPages) : Type 0 where
+  pub end : under ≡ NoPages
+  pub at : c.at ≡ m.at
+  pub page : c.page ≡ m.page
+  pub kept : c.kept ≡ m.kept
+  pub slot : ℕ
+  pub is : c.slot ≡ Some slot
+  pub split : ℕ
+  pub half : c.half ≡ Some split
+  pub of : IsBefore t below j split
+  pub storage : c.span.storage ≡ m.span.storage
+  pub from : m.span.low ≤ c.span.low
+  pub to : c.span.high ≤ m.span.high
+
+-- A leaf that was split, with all halves below it, one after another: a chain. It is dropped whole, by one swing of the
+-- pointer, or kept whole.
+pub record WasSplit (slots t epoch : ℕ) (pages : List (List ℕ)) (m : MetPage) (below : MetPages) : Type 0 where
+  pub each : (j : ℕ) (c : MetPage) (under : MetPages) → met_at j below ≡ Some (c, under) → IsHalfMet t m below j c under
+  pub halved : m.kept ≡ None → (2 ≤ row_length below) × (row_length below < 63)
+  pub cause : (k : KeptPage) → m.kept ≡ Some k
+      → IsChainCause slots t m.span pages m.page epoch (PageThen m below NoPages) k.why k.word k.seen ⊎ HasTurned t m.at k
+
+-- A half of a leaf that was split: what became of it is told with the first page of its chain.
+pub record WasHalf (m : MetPage) (below : MetPages) : Type 0 where
   pub end : below ≡ NoPages
-  pub kept : KeptPage
-  pub is : m.kept ≡ Some kept
-  pub why : kept.why ≡ Long
   pub split : ℕ
   pub of : m.half ≡ Some split
-  pub word : kept.word ≡ page_at slots split 0
-  pub moved : 2 ^ 62 ≤ kept.seen
 
 -- ---- all that was met
 
@@ -189,7 +285,7 @@ pub record WasHalf (slots : ℕ) (m : MetPage) (below : MetPages) : Type 0 where
 abbrev pub WasPage : ℕ → ℕ → ℕ → List (List ℕ) → MetPage → MetPages → Type 0
 WasPage slots t epoch pages m below = WasTurned t m below ⊎ (WasLeaf slots t epoch pages m below
     ⊎ (WasBranch slots t pages m below ⊎ (WasParted slots t pages m below
-    ⊎ (WasSplit slots t m below ⊎ WasHalf slots m below))))
+    ⊎ (WasSplit slots t epoch pages m below ⊎ WasHalf m below))))
 
 -- What a pointer led to that was met: to no slot, or to that of a page of one of these kinds; it was compared with the
 -- newest snapshot's page as that stands among those that are published.
@@ -218,6 +314,7 @@ pub record IsNarrower (wide sp : Span) : Type 0 where
 -- or there is none. The epoch is that snapshot's, and over.
 pub record CanVisit (x : At) (sp : Span) (at page epoch : ℕ) (v : View) : Type 0 where
   pub bare : IsBare v
+  pub unsealed : v.sealed ≡ []
   pub narrow : (way : Way) → Contains v.ways way → IsNarrower way.span sp
   pub place : IsPointerAt v x sp at
   pub inside : at < words_of v.layout

@@ -8,7 +8,8 @@ use Rattle.engine_pages.specs.declared.view.Touch.{Touch}
 use Rattle.engine_pages.specs.declared.view.Version.{Version}
 use Rattle.engine_pages.specs.declared.view.View.{View}
 use Rattle.page_drops.specs.declared.noting.Kept.{Kept}
-use Rattle.engine_pages.specs.Steps.{glance}
+use Rattle.engine_pages.specs.Steps.{glance, seen_at}
+use Rattle.engine_pages.specs.Layout.{page_at}
 use Rattle.page_drops.specs.Works.{read_of, HasKept}
 
 -- The pass went on: it has what it had, but for what it saw and knows, its locks, and the pages that it noted as kept.
@@ -66,3 +67,11 @@ abbrev pub TellsPointer : ℕ → ℕ → Kept → View → View → Type 0
 TellsPointer at before k v w = (read_of w.reads at ≡ read_of v.reads at)
     ⊎ ((k.word ≡ at) × (k.why ≡ Changed before)
     × ((r : Read) × (read_of w.reads at ≡ Some r) × (r.seen ≡ k.seen) × (r.was ≡ Some before)))
+
+-- the entry of the header of the slot's page is as it was
+abbrev pub KeepsHead : ℕ → View → View → Type 0
+KeepsHead t v w = read_of w.reads (page_at v.layout.slots t 0) ≡ read_of v.reads (page_at v.layout.slots t 0)
+
+-- the page's word with this index was last seen or left so
+abbrev pub IsSeenAt : ℕ → ℕ → ℕ → View → Type 0
+IsSeenAt t i n v = seen_at v.reads (page_at v.layout.slots t i) ≡ Some n

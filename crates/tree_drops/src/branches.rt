@@ -1,5 +1,7 @@
 // An interior page of a tree is compared with a snapshot's, shut, and taken out of memory.
-ghost use Rattle.std.specs.Prelude.{◌≡◌, ◌<◌, suc, get_or, slice_get, Some, IfErr, OnOk};
+ghost use Rattle.std.specs.Prelude.{◌≡◌, ◌<◌, ℕ, suc, [], get_or, slice_get, Some, Contains, IfErr, OnOk};
+ghost use Rattle.drop_core.specs.Table.{at_index};
+ghost use Rattle.engine_pages.specs.declared.view.Shut.{Shut};
 ghost use Rattle.snapshot_store.specs.declared.place.PagePlace.{PagePlace};
 ghost use Rattle.engine_pages.specs.Resident.{tree_below};
 ghost use Rattle.engine_pages.specs.Pages.{part_between, part_high, part_low};
@@ -198,6 +200,8 @@ fn shut_child(
         → part ≡ part_between branch.span (x.inner).separators index }
     requires child { (c : PagePlace)
         × (slice_get (tree_below (view pass.old).pages branch.span branch.page) index ≡ Some c) × (child ≡ c.number) }
+    requires took { (view pass.old).took ≡ [] }
+    requires shut { (z : Shut) → Contains (view pass.old).shuts z → (j : ℕ) × (j < index) × (z.at ≡ at_index branch.slot j) }
     ensures of { IsPassOf engine.now pass.new }
     ensures shuts { OnOk result (HasShut branch.slot index child (view pass.old) (view pass.new)) }
     ensures keeps { IfErr result (λ k. KeepsBranch (IsBranchCause (view pass.old).layout.slots branch.slot branch.span

@@ -1,5 +1,5 @@
 // All pages of arrays and of trees are gone over.
-ghost use Rattle.std.specs.Prelude.{◌<◌, ◌≤◌, length};
+ghost use Rattle.std.specs.Prelude.{◌≡◌, ◌<◌, ◌≤◌, [], length};
 ghost use Rattle.engine_pages.specs.Passes.{view, IsPassOf};
 ghost use Rattle.page_drops.specs.Calls.{CanDropAll, CanGoOver};
 ghost use Rattle.tree_drops.specs.Calls.{HasDroppedAll, HasGoneArrays, HasGoneTrees, HasVisitedTree, IsBegun, IsTreeRoot};
@@ -13,7 +13,8 @@ use serial_model::Decl;
 
 /// Takes all pages out of memory that are what the newest snapshot has, beside transactions that run: `roots` has the
 /// number of that snapshot's page for each storage's root, or 0, and `epoch` is the snapshot's. A leaf of a tree that was
-/// split is kept. Now and then other threads may go first.
+/// split goes or stays with all that came of it, and stays where that are more than 63 pages. Now and then other threads
+/// may go first.
 pub fn drop_all(engine: &Engine, pass: &mut Pass, roots: &[u32], epoch: u32) -> Dropped
     requires of { IsPassOf engine.now pass.old }
     requires can { CanDropAll roots.now (view pass.old) }
@@ -58,6 +59,7 @@ fn go_over_trees(
     requires of { IsPassOf engine.now pass.old }
     requires can { CanDropAll roots.now (view pass.old) }
     requires past { epoch ≤ (view pass.old).past }
+    requires unsealed { (view pass.old).sealed ≡ [] }
     requires gone { HasGoneTrees roots.now epoch 0 (view pass.old) arrays (view pass.old) }
     ensures of { IsPassOf engine.now pass.new }
     ensures goes { HasGoneTrees roots.now epoch (length roots.now) (view pass.old) result (view pass.new) }
@@ -82,6 +84,7 @@ fn visit_tree(
     requires root { root < length engine.now.table.shared.key.decls }
     requires over { CanGoOver root page (view pass.old) }
     requires past { epoch ≤ (view pass.old).past }
+    requires unsealed { (view pass.old).sealed ≡ [] }
     requires few { IsFew before }
     ensures of { IsPassOf engine.now pass.new }
     ensures visits { HasVisitedTree page epoch root before (view pass.old) result (view pass.new) }

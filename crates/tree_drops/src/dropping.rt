@@ -5,7 +5,7 @@ ghost use Rattle.page_drops.specs.Works.{KeepsReadsBut};
 ghost use Rattle.tree_heads.specs.Headers.{count_of, kind_of};
 ghost use Rattle.tree_heads.specs.Heads.{head_opened};
 ghost use Rattle.tree_drops.specs.Leaves.{CanDrop, CanDropFrom, HasCount, HasDropped, IsCauseBelow, KnowsKeys};
-ghost use Rattle.tree_drops.specs.Works.{KeepsIt, TellsPointer};
+ghost use Rattle.tree_drops.specs.Works.{IsSeenAt, KeepsIt, TellsPointer};
 
 use crate::leaves::{compare_all, cover};
 use crate::records::{Leaf, compare, key_at, open_record, take_record};
@@ -108,6 +108,7 @@ pub(crate) fn drop_leaf(
     requires open { header < 2 ^ 60 }
     requires leaf { kind_of header ≡ 1 }
     requires counted { count_of header ≡ leaf.count }
+    requires met { IsSeenAt leaf.slot 0 header (view pass.old) }
     ensures of { IsPassOf engine.now pass.new }
     ensures drops { OnOk result (HasDropped leaf.slot pointer.at leaf.page (view pass.old) (view pass.new)) }
     ensures keeps { IfErr result (λ k. KeepsIt

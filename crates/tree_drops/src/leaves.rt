@@ -1,5 +1,5 @@
 // A leaf of a tree is compared with a snapshot's, record by record.
-ghost use Rattle.std.specs.Prelude.{◌≡◌, ◌+◌, ◌<◌, ◌≤◌, true, false, length, Contains, IfErr, IfOk, OnOk, MatchBool};
+ghost use Rattle.std.specs.Prelude.{◌≡◌, ℕ, ◌+◌, ◌<◌, ◌≤◌, true, false, length, Contains, IfErr, IfOk, OnOk, MatchBool};
 ghost use Rattle.serial_model.specs.declared.key.Key.{Key};
 ghost use Rattle.homes.specs.Homes.{has_key};
 ghost use Rattle.dual_pointer.specs.Installs.{tree_records};
@@ -7,8 +7,8 @@ ghost use Rattle.engine_pages.specs.Passes.{view, IsPassOf};
 ghost use Rattle.page_drops.specs.Works.{HasGlanced, KeepsReads};
 ghost use Rattle.snapshot_store.specs.TreePages.{Record};
 ghost use Rattle.tree_drops.specs.Leaves.{has_key_from, AtTree, CoversAll, HasCount, IsKnownCause, KeptForHeader};
-ghost use Rattle.tree_drops.specs.Leaves.{KnowsKeys};
-ghost use Rattle.tree_drops.specs.Works.{KeepsIt, OnlyLooks};
+ghost use Rattle.tree_drops.specs.Leaves.{IsUntaken, KnowsKeys};
+ghost use Rattle.tree_drops.specs.Works.{KeepsHead, KeepsIt, OnlyLooks};
 
 use crate::records::{Leaf, compare, key_at};
 use engine_pages::{Engine, KeptWhy, Pass};
@@ -21,11 +21,13 @@ pub(crate) fn compare_all(engine: &Engine, pass: &mut Pass, leaf: Leaf) -> Resul
     requires at { AtTree leaf.slot leaf.span leaf.page (view pass.old) }
     requires count { HasCount (view pass.old).pages leaf.span leaf.page leaf.records }
     requires known { KnowsKeys leaf.slot leaf.span leaf.count (view pass.old) }
+    requires own { (i : ℕ) → i < 16 → IsUntaken leaf.slot i (view pass.old) }
     ensures of { IsPassOf engine.now pass.new }
     ensures looks { OnOk result (OnlyLooks (view pass.old) (view pass.new)) }
     ensures keeps { IfErr result (λ k. KeepsIt (IsKnownCause leaf.slot leaf.span leaf.page leaf.epoch
         (view pass.old) (view pass.new)) k (view pass.old) (view pass.new)) }
     ensures reads { KeepsReads leaf.slot (view pass.old) (view pass.new) }
+    ensures head { OnOk result (KeepsHead leaf.slot (view pass.old) (view pass.new)) }
 {
     for index in 0..leaf.count {
         let key = key_at(engine, pass, leaf, index);
@@ -35,7 +37,13 @@ pub(crate) fn compare_all(engine: &Engine, pass: &mut Pass, leaf: Leaf) -> Resul
 }
 
 /// A record of the leaf, from this one on, is of this key.
-fn search_from(engine: &Engine, pass: &mut Pass, leaf: Leaf, key: u64, index: u32) -> bool
+pub(crate) fn search_from(
+    engine: &Engine,
+    pass: &mut Pass,
+    leaf: Leaf,
+    key: u64,
+    index: u32,
+) -> bool
     requires of { IsPassOf engine.now pass.old }
     requires at { AtTree leaf.slot leaf.span leaf.page (view pass.old) }
     requires known { KnowsKeys leaf.slot leaf.span leaf.count (view pass.old) }
@@ -69,6 +77,7 @@ fn cover_from(engine: &Engine, pass: &mut Pass, leaf: Leaf, index: u32) -> Resul
     ensures keeps { IfErr result (λ k. KeepsIt (IsKnownCause leaf.slot leaf.span leaf.page leaf.epoch
         (view pass.old) (view pass.new)) k (view pass.old) (view pass.new)) }
     ensures reads { KeepsReads leaf.slot (view pass.old) (view pass.new) }
+    ensures same { OnOk result ((view pass.new).reads ≡ (view pass.old).reads) }
 {
     if index == leaf.records {
         return Ok(());
@@ -108,6 +117,7 @@ pub(crate) fn cover(engine: &Engine, pass: &mut Pass, leaf: Leaf) -> Result<(), 
     ensures keeps { IfErr result (λ k. KeepsIt (IsKnownCause leaf.slot leaf.span leaf.page leaf.epoch
         (view pass.old) (view pass.new)) k (view pass.old) (view pass.new)) }
     ensures reads { KeepsReads leaf.slot (view pass.old) (view pass.new) }
+    ensures same { OnOk result ((view pass.new).reads ≡ (view pass.old).reads) }
 {
     cover_from(engine, pass, leaf, 0)
 }

@@ -11,8 +11,8 @@ ghost use Rattle.pointer_swings.specs.TreeSwings.{IsTreeLockedAs};
 ghost use Rattle.snapshot_store.specs.TreePages.{record_for};
 ghost use Rattle.wire_form.specs.Words.{number_word};
 ghost use Rattle.tree_drops.specs.Leaves.{AtTree, HasCompared, HasCount, IsKeyOf, IsKnownCause, IsLike, KnowsKeys};
-ghost use Rattle.tree_drops.specs.Leaves.{HasTaken, IsNew};
-ghost use Rattle.tree_drops.specs.Works.{KeepsIt, OnlyLooks};
+ghost use Rattle.tree_drops.specs.Leaves.{HasTaken, IsNew, IsRecordCause, IsUntaken};
+ghost use Rattle.tree_drops.specs.Works.{IsSeenAt, KeepsHead, KeepsIt, OnlyLooks};
 
 use crate::stored::{find, has_value, is_like};
 use engine_pages::{Engine, KeptWhy, Pass};
@@ -70,12 +70,17 @@ pub(crate) fn compare(
     requires count { HasCount (view pass.old).pages leaf.span leaf.page leaf.records }
     requires index { index < 16 }
     requires key { IsKeyOf leaf.slot leaf.span index key (view pass.old) }
+    requires own { IsUntaken leaf.slot index (view pass.old) }
     ensures of { IsPassOf engine.now pass.new }
     ensures compares { IfOk result (λ word. HasCompared leaf.page leaf.epoch key
         (view pass.old) word (view pass.new)) }
     ensures keeps { IfErr result (λ k. KeepsIt (IsKnownCause leaf.slot leaf.span leaf.page leaf.epoch
         (view pass.old) (view pass.new)) k (view pass.old) (view pass.new)) }
     ensures reads { KeepsReads leaf.slot (view pass.old) (view pass.new) }
+    ensures causes { IfErr result (λ k. KeepsIt (IsRecordCause (view pass.old).layout.slots leaf.slot index
+        (record_for (tree_records (view pass.old).pages leaf.page) key.key) leaf.epoch) k (view pass.old) (view pass.new)) }
+    ensures seen { IfOk result (λ word. IsSeenAt leaf.slot (17 + 3 * index) word (view pass.new)) }
+    ensures head { IfOk result (λ word. KeepsHead leaf.slot (view pass.old) (view pass.new)) }
 {
     let stored = find(engine, pass, leaf.span, leaf.page, key.key, leaf.records);
     let at = word_at(engine, leaf.slot, 17 + 3 * index);
@@ -109,12 +114,15 @@ fn lock_record(
     requires index { index < 16 }
     requires key { IsKeyOf leaf.slot leaf.span index key (view pass.old) }
     requires free { IsOpenWord word }
+    requires met { IsSeenAt leaf.slot (17 + 3 * index) word (view pass.old) }
     ensures of { IsPassOf engine.now pass.new }
     ensures locks { OnOk result (view pass.new ≡ locked key (spot_of leaf.slot index)
         (page_at (view pass.old).layout.slots leaf.slot (17 + 3 * index)) word (view pass.old)) }
     ensures keeps { IfErr result (λ k. KeepsIt (IsKnownCause leaf.slot leaf.span leaf.page leaf.epoch
         (view pass.old) (view pass.new)) k (view pass.old) (view pass.new)) }
     ensures reads { KeepsReads leaf.slot (view pass.old) (view pass.new) }
+    ensures causes { IfErr result (λ k. KeepsIt (IsRecordCause (view pass.old).layout.slots leaf.slot index
+        (record_for (tree_records (view pass.old).pages leaf.page) key.key) leaf.epoch) k (view pass.old) (view pass.new)) }
 {
     let at = word_at(engine, leaf.slot, 17 + 3 * index);
     let spot = Spot {
@@ -155,6 +163,8 @@ fn check_value(
     ensures keeps { IfErr result (λ k. KeepsIt (IsKnownCause leaf.slot leaf.span leaf.page leaf.epoch
         (view pass.old) (view pass.new)) k (view pass.old) (view pass.new)) }
     ensures reads { KeepsReads leaf.slot (view pass.old) (view pass.new) }
+    ensures causes { IfErr result (λ k. KeepsIt (IsRecordCause (view pass.old).layout.slots leaf.slot index
+        (record_for (tree_records (view pass.old).pages leaf.page) key.key) leaf.epoch) k (view pass.old) (view pass.new)) }
 {
     if word >= LOCK {
         return Ok(());
@@ -219,11 +229,14 @@ pub(crate) fn take_record(
     requires free { IsOpenWord word }
     requires number { (n : Number) × IsSmall n × (word % 2 ^ 60 ≡ number_word n) }
     requires past { leaf.epoch ≤ (view pass.old).past }
+    requires met { IsSeenAt leaf.slot (17 + 3 * index) word (view pass.old) }
     ensures of { IsPassOf engine.now pass.new }
     ensures takes { OnOk result (HasTaken leaf.slot leaf.page index key word (view pass.old) (view pass.new)) }
     ensures keeps { IfErr result (λ k. KeepsIt (IsKnownCause leaf.slot leaf.span leaf.page leaf.epoch
         (view pass.old) (view pass.new)) k (view pass.old) (view pass.new)) }
     ensures reads { KeepsReads leaf.slot (view pass.old) (view pass.new) }
+    ensures causes { IfErr result (λ k. KeepsIt (IsRecordCause (view pass.old).layout.slots leaf.slot index
+        (record_for (tree_records (view pass.old).pages leaf.page) key.key) leaf.epoch) k (view pass.old) (view pass.new)) }
 {
     lock_record(engine, pass, leaf, index, key, word)?;
     if let Err(kept) = check_value(engine, pass, leaf, index, key, word) {

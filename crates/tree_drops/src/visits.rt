@@ -1,6 +1,6 @@
 // The pointers of a tree are gone over, each with all below it before its own page.
 ghost use Rattle.std.specs.Prelude.{◌≡◌, ◌⊎◌, ◌^◌, ◌≤◌, ◌<◌, get_or, IfErr, IfOk};
-ghost use Rattle.engine_pages.specs.declared.view.KeptWhy.TheVariants.{Long, Unlike};
+ghost use Rattle.engine_pages.specs.declared.view.KeptWhy.TheVariants.{Locked, Unlike};
 ghost use Rattle.engine_pages.specs.Passes.{view, IsPassOf};
 ghost use Rattle.engine_pages.specs.Layout.{page_at};
 ghost use Rattle.page_drops.specs.Calls.{HasHeld, KeepsAbove};
@@ -9,14 +9,18 @@ ghost use Rattle.snapshot_store.specs.Places.{page as page_words};
 ghost use Rattle.tree_heads.specs.Headers.{count_of, kind_of};
 ghost use Rattle.tree_drops.specs.Branches.{IsParted};
 ghost use Rattle.tree_drops.specs.Leaves.{KnowsKeys};
-ghost use Rattle.tree_drops.specs.Turns.{CanGoFrom, CanWork, HasClosed, HasEnded, HasAlike, HasGoneFrom, HasNotedPage, HasOpened};
+ghost use Rattle.tree_drops.specs.Turns.{CanGoFrom, CanWork, HasClosed, HasEndedLeaf, HasEndedPage, HasAlike, HasGoneFrom, HasNotedPage, HasOpened};
 ghost use Rattle.tree_drops.specs.Turns.{HasTakenLeaf, IsChildTarget, IsInside, IsOpened, KnowsParts};
+ghost use Rattle.tree_drops.specs.Releases.{CanWorkChain};
 ghost use Rattle.tree_drops.specs.Visits.{CanVisit, HasVisited, IsFew, KeepsInners};
+ghost use Rattle.tree_drops.specs.Works.{IsSeenAt};
 
 use crate::branches::{Branch, child_of, compare_from, drop_branch_from, part_of};
+use crate::chain_visits::take_chain;
 use crate::dropping::{Pointer, drop_leaf};
 use crate::records::Leaf;
 use crate::stored::count_in;
+use crate::taking::Root;
 use crate::tallies::{and, and_kept};
 use engine_pages::{Engine, KeptWhy, Pass, enter, follow, leave};
 use homes::{At, Span, Spot};
@@ -112,19 +116,16 @@ fn take_leaf(
     requires last { HasSeenLast (view pass.old) (record {
       word = page_at (view pass.old).layout.slots held.slot 0;
       seen = header;
-      why = Long;
+      why = Locked;
     }) }
+    requires met { IsSeenAt held.slot 0 header (view pass.old) }
     requires leaf { kind_of header ≡ 1 }
-    requires bits { (header < 2 ^ 61) ⊎ (2 ^ 62 ≤ header) }
+    requires bits { header < 2 ^ 61 }
     ensures of { IsPassOf engine.now pass.new }
     ensures takes { HasTakenLeaf target.span target.at target.page target.epoch held.slot result (view pass.old)
         (view pass.new) }
 {
     let at = word_at(engine, held.slot, 0);
-    if header >= MOVED {
-        let split = keep(engine, pass, at, header, KeptWhy::Long);
-        return Err(split);
-    }
     if header >= SHUT {
         let locked = keep(engine, pass, at, header, KeptWhy::Locked);
         return Err(locked);
@@ -148,6 +149,47 @@ fn take_leaf(
         word: held.word,
     };
     drop_leaf(engine, pass, pointer, leaf, header)
+}
+
+/// Works on a leaf of a tree in the slot that is held, whose header was just found to be this, with all that came of it if
+/// it was split, and leaves the slots.
+fn end_leaf(
+    engine: &Engine,
+    pass: &mut Pass,
+    target: Target,
+    held: Held,
+    header: u64,
+    before: Dropped,
+) -> Dropped
+    requires of { IsPassOf engine.now pass.old }
+    requires work { CanWork target.place target.span target.at held.slot target.page held.word target.epoch (view pass.old) }
+    requires few { IsFew before }
+    requires known { KnowsKeys held.slot target.span (count_of header) (view pass.old) }
+    requires last { HasSeenLast (view pass.old) (record {
+      word = page_at (view pass.old).layout.slots held.slot 0;
+      seen = header;
+      why = Locked;
+    }) }
+    requires met { IsSeenAt held.slot 0 header (view pass.old) }
+    requires leaf { kind_of header ≡ 1 }
+    requires bits { (header < 2 ^ 61) ⊎ (2 ^ 62 ≤ header) }
+    requires chain { 2 ^ 62 ≤ header
+        → CanWorkChain (record { target = target; slot = held.slot; word = held.word }) header (view pass.old) }
+    ensures of { IsPassOf engine.now pass.new }
+    ensures ends { HasEndedLeaf target.span target.at target.page target.epoch held.slot before (view pass.old) result
+        (view pass.new) }
+{
+    if header >= MOVED {
+        let root = Root {
+            target,
+            slot: held.slot,
+            word: held.word,
+        };
+        return take_chain(engine, pass, root, header, before);
+    }
+    let found = take_leaf(engine, pass, target, held, header);
+    leave(engine, pass, held.slot);
+    and(before, found)
 }
 
 /// Compares an interior page of a tree in the slot that is held, whose header was just found to be this, with the
@@ -204,16 +246,14 @@ fn open_page(
     ensures of { IsPassOf engine.now pass.new }
     ensures opens { IfOk result (λ found. HasOpened target.span target.page held.slot held.word found
         (view pass.old) (view pass.new)) }
-    ensures ends { IfErr result (λ sum. HasEnded target.span target.at target.page target.epoch held.slot before
+    ensures ends { IfErr result (λ sum. HasEndedPage target.span target.at target.page target.epoch held.slot before
         (view pass.old) sum (view pass.new)) }
 {
     let wanted = word_of(engine, pass, target.page, 0);
     let at = word_at(engine, held.slot, 0);
     let header = load_header(engine, pass, held.slot, target.span, at);
     if header / 256 % 256 == 1 {
-        let found = take_leaf(engine, pass, target, held, header);
-        leave(engine, pass, held.slot);
-        return Err(and(before, found));
+        return Err(end_leaf(engine, pass, target, held, header, before));
     }
     match compare_branch(engine, pass, target, held.slot, header, wanted) {
         Ok(count) => Ok(Opened {

@@ -1,7 +1,8 @@
 use Rattle.std.specs.Prelude.{Err, Some}
-use Rattle.std.proofs.Common.{◌≡◌, ◌+◌, ◌∷◌, inl, subst, sym, ap, ◌∙◌, arith}
+use Rattle.std.proofs.Common.{◌≡◌, ◌+◌, List, ◌∷◌, inl, subst, sym, ap, ◌∙◌, arith}
 use Rattle.std.proofs.lemmas.Result.{err_from_is_err_and}
-use Rattle.std.specs.List.{slice_get}
+use Rattle.std.specs.List.{Contains, slice_get}
+use Rattle.engine_pages.specs.declared.view.Shut.{Shut}
 use Rattle.drop_core.specs.Table.{at_index}
 use Rattle.engine_pages.specs.declared.view.View.{View}
 use Rattle.engine_pages.specs.Layout.{page_at}
@@ -299,3 +300,23 @@ returns-clause-reads t c =
     let shuts = c.in_ok-shut_child.ensures.shuts in
     let on = on_then v b w goes.on shuts.on in
     but_then c.args.branch.slot c.args.pointer.at v w (view c.drop_branch_from.new.pass) (ap (λ (y : View). y.layout) on.shut) rw1 c.drop_branch_from.ensures.reads
+
+pub shut_child-requires-clause-took : goal.shut_child-requires-clause-took
+shut_child-requires-clause-took t c =
+    let v = view c.args.pass.now in
+    let can = c.requires.drop in
+    let a = view c.child_of-child.new.pass in
+    let found = c.child_of-child.ensures.child can.branch can.alike in
+    let b = view c.part_of-part.new.pass in
+    let goes = goes_then v a b found.goes (goes_glanced a b c.part_of-part.ensures.glances) in
+    ap (λ (z : View). z.took) goes.on.shut ∙ can.took
+
+pub shut_child-requires-clause-shut : goal.shut_child-requires-clause-shut
+shut_child-requires-clause-shut t c =
+    let v = view c.args.pass.now in
+    let can = c.requires.drop in
+    let a = view c.child_of-child.new.pass in
+    let found = c.child_of-child.ensures.child can.branch can.alike in
+    let b = view c.part_of-part.new.pass in
+    let goes = goes_then v a b found.goes (goes_glanced a b c.part_of-part.ensures.glances) in
+    λ z has. can.shut.mine z (subst (λ (l : List Shut). Contains l z) goes.shuts has)

@@ -3,6 +3,7 @@ use Rattle.engine_pages.specs.declared.view.KeptWhy.TheVariants.{Locked, Unlike,
 use Rattle.engine_pages.specs.Passes.{view}
 use Rattle.page_drops.proofs.Entries.{reads_noted}
 use Rattle.tree_drops.specs.Branches.{IsBranchCause}
+use Rattle.tree_drops.proofs.Dues.{branch_shut}
 use Rattle.tree_drops.proofs.Places.{word_here}
 use Rattle.tree_drops.proofs.Parts.{goes_self, keeps_branch, last_met, met_read}
 use Rattle.tree_drops.proofs.Shuts.{branch_locked, branch_under, branch_unlike, reads_shut, shut_as, shut_missed, shut_now}
@@ -126,3 +127,19 @@ returns-clause-reads c =
     let small = c.ranges.child in
     let same : e ≡ c.args.child = omega arith in
     reads_shut c.args.branch.slot c.args.index c.word_at-at.result e n v w (let few = c.requires.at.few in let less = c.requires.index in omega (arith, few, less)) (word_here c.args.engine.now c.args.pass.now c.args.branch.slot (4 + c.args.index) c.word_at-at.result c.requires.of c.word_at-at.ensures) c.shut-found.ensures.shuts
+
+pub keep-locked-requires-clause-due : goal.keep-locked-requires-clause-due
+keep-locked-requires-clause-due c =
+    let v = view c.args.pass.now in
+    let w = view c.shut-found.new.pass in
+    let n = c.shut-found.result in
+    let e = c.from-expected.result in
+    let small = c.ranges.child in
+    let same : e ≡ c.args.child = omega arith in
+    let met = met_read c.word_at-at.result n v v w (goes_self v) (shut_missed c.args.branch.slot c.args.index c.word_at-at.result e n v w (λ (q : n ≡ e). let high = c.if-found-ge-SHUT.true in absurd (omega (arith, q, high, small, same))) c.shut-found.ensures.shuts) in
+    let few = c.requires.at.few in
+    let less = c.requires.index in
+    branch_shut c.args.branch.slot c.args.branch.page c.args.branch.count c.args.index c.word_at-at.result n c.args.branch.span c.args.part
+    v w met.goes c.requires.at less (omega (arith, few, less)) (c.requires.part c.requires.at)
+    (word_here c.args.engine.now c.args.pass.now c.args.branch.slot (4 + c.args.index) c.word_at-at.result c.requires.of c.word_at-at.ensures)
+    c.requires.took c.requires.shut

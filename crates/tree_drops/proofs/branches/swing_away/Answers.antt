@@ -2,6 +2,8 @@ use Rattle.std.proofs.Common.{inr, refl}
 use Rattle.engine_pages.specs.declared.view.KeptWhy.TheVariants.{Changed}
 use Rattle.engine_pages.specs.Passes.{view}
 use Rattle.tree_drops.specs.Branches.{IsBranchCauseBelow}
+use Rattle.page_drops.proofs.Drops.{not_swung}
+use Rattle.page_drops.proofs.Dues.{turned_from}
 use Rattle.tree_drops.proofs.Parts.{keeps_branch, last_met}
 use Rattle.tree_drops.proofs.Shuts.{can_swing_branch, dropped_branch_now, met_other}
 use Rattle.tree_drops.proofs.Swung.{changed_reads, dropped_reads, swung_now, tells_changed}
@@ -57,3 +59,11 @@ returns-clause-reads c =
     let n = c.swing-found.result in
     λ q other out.
     dropped_reads c.args.branch.slot c.args.pointer.at c.args.branch.page n v w (view c.retire.new.pass) (swung_now c.args.branch.slot c.args.pointer.at c.args.branch.page c.args.pointer.word n v w c.if-found-word.false c.swing-found.ensures.swings) c.retire.ensures.retires q other
+
+pub keep-kept-requires-clause-due : goal.keep-kept-requires-clause-due
+keep-kept-requires-clause-due c =
+    let v = view c.args.pass.now in
+    let w = view c.swing-found.new.pass in
+    turned_from c.args.pointer.at c.args.pointer.word c.swing-found.result v w c.if-found-word.true
+    (not_swung c.args.branch.slot c.args.pointer.at c.args.branch.page c.args.pointer.word c.swing-found.result v w c.if-found-word.true
+    c.swing-found.ensures.swings) c.requires.drop.met

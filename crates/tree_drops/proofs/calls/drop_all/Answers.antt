@@ -1,5 +1,5 @@
 use Rattle.engine_pages.specs.Passes.{view}
-use Rattle.tree_drops.proofs.Storages.{arrays_gone, begun_all, begun_is, can_behind, ends, few_roots, keeper_behind, past_behind}
+use Rattle.tree_drops.proofs.Storages.{arrays_gone, begun_all, begun_is, can_behind, clean_behind, ends, few_roots, keeper_behind, past_behind}
 use Rattle.tree_drops.proofs.calls.drop_all.Goals as goal
 
 pub go_over_arrays-arrays-requires-clause-can : goal.go_over_arrays-arrays-requires-clause-can
@@ -20,6 +20,11 @@ go_over_trees-sum-requires-clause-past c =
     past_behind c.args.roots.now c.args.epoch c.begin.result c.go_over_arrays-arrays.result (view c.args.pass.now)
     (view c.begin.new.pass) (view c.go_over_arrays-arrays.new.pass) c.begin.ensures.begins c.requires.past
     c.go_over_arrays-arrays.ensures.goes
+
+pub go_over_trees-sum-requires-clause-unsealed : goal.go_over_trees-sum-requires-clause-unsealed
+go_over_trees-sum-requires-clause-unsealed c =
+    clean_behind c.args.roots.now c.begin.result c.go_over_arrays-arrays.result (view c.args.pass.now) (view c.begin.new.pass)
+    (view c.go_over_arrays-arrays.new.pass) c.begin.ensures.begins c.go_over_arrays-arrays.ensures.goes
 
 pub go_over_trees-sum-requires-clause-gone : goal.go_over_trees-sum-requires-clause-gone
 go_over_trees-sum-requires-clause-gone c =

@@ -22,6 +22,10 @@ pub visit_tree-sum-requires-clause-past : goal.visit_tree-sum-requires-clause-pa
 visit_tree-sum-requires-clause-past c =
     subst (λ n. c.args.epoch ≤ n) (sym (ap (λ (z : View). z.past) c.loop-root.invariant.goes.goes.went)) c.requires.past
 
+pub visit_tree-sum-requires-clause-unsealed : goal.visit_tree-sum-requires-clause-unsealed
+visit_tree-sum-requires-clause-unsealed c =
+    ap (λ (z : View). z.sealed) c.loop-root.invariant.goes.goes.went ∙ c.requires.unsealed
+
 pub visit_tree-sum-requires-clause-few : goal.visit_tree-sum-requires-clause-few
 visit_tree-sum-requires-clause-few c =
     few_so_far c.args.roots.now c.args.epoch (length c.args.roots.now) c.loop-root.root c.loop-root.sum (view c.loop-root.pass)

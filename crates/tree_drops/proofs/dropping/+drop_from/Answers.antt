@@ -14,6 +14,7 @@ use Rattle.tree_drops.specs.Works.{KeepsIt, TellsPointer}
 use Rattle.tree_drops.specs.Leaves.{CanDropFrom}
 use Rattle.tree_drops.proofs.Covers.{count_on, err_is, index_less, key_known, ok_is}
 use Rattle.tree_drops.proofs.Drops.{below_known, below_open, can_drop_next, dropped_taken, known_from, new_then, reads_reopened}
+use Rattle.tree_drops.proofs.Dues.{row_untaken}
 use Rattle.tree_drops.proofs.Heads.{but_then, tells_around, tells_same, then_but}
 use Rattle.tree_drops.proofs.Swung.{can_open_kept}
 use Rattle.tree_drops.proofs.Works.{key_worked, keys_worked, layout_worked, only_glanced, only_then, opened_is, pages_worked, past_worked}
@@ -575,3 +576,13 @@ returns-clause-reads t c =
     let far = works_then v b d only.looks.works taken.more.works in
     let rdd = reads_then c.args.leaf.slot v b d (layout_worked v b only.looks.works) rd c.take_record.ensures.reads in
     but_then c.args.leaf.slot c.args.pointer.at v d (view c.drop_from.new.pass) (layout_worked v d far) rdd c.drop_from.ensures.reads
+
+pub compare-requires-clause-own : goal.compare-requires-clause-own
+compare-requires-clause-own t c =
+    let v = view c.args.pass.now in
+    let a = view c.key_at-key.new.pass in
+    row_untaken c.args.pointer.place c.args.leaf.span c.args.pointer.at c.args.leaf.slot c.args.leaf.page c.args.pointer.word
+    c.args.leaf.epoch c.args.leaf.count c.args.index v a c.requires.drop (only_glanced v a c.key_at-key.ensures.glances)
+
+pub take_record-requires-clause-met : goal.take_record-requires-clause-met
+take_record-requires-clause-met t c = c.in_ok-word.ensures.seen

@@ -1,5 +1,5 @@
 use Rattle.std.specs.Prelude.{Err}
-use Rattle.std.proofs.Common.{◌≡◌, inl, subst, sym, ap, ◌∙◌, arith}
+use Rattle.std.proofs.Common.{◌≡◌, ℕ, inl, subst, sym, ap, ◌∙◌, arith}
 use Rattle.std.proofs.lemmas.Result.{err_from_is_err_and}
 use Rattle.std.specs.List.{Contains}
 use Rattle.dual_pointer.specs.Installs.{tree_records}
@@ -16,6 +16,9 @@ use Rattle.tree_drops.specs.Leaves.{IsCauseBelow}
 use Rattle.tree_drops.specs.Works.{KeepsIt, TellsPointer}
 use Rattle.tree_drops.proofs.Covers.{count_on, err_is, ok_is}
 use Rattle.tree_drops.proofs.Drops.{below_known}
+use Rattle.engine_pages.specs.Steps.{seen_at}
+use Rattle.page_drops.proofs.Dues.{turned_from}
+use Rattle.tree_drops.proofs.Dues.{none_taken, seen_head, seen_on}
 use Rattle.tree_drops.proofs.Heads.{below_back, but_then, can_drop_from, can_open_head, head_changed, head_now, heads_head, keeps_head}
 use Rattle.tree_drops.proofs.Heads.{not_head, reads_head, reads_opened_head, tells_around, tells_same, then_but, works_head}
 use Rattle.tree_drops.proofs.Heads.{works_opened_head}
@@ -334,3 +337,26 @@ returns-clause-reads c =
     let works = works_then v b w only.looks.works (works_head c.args.leaf.slot c.word_at-at.result n c.args.leaf.span b w head) in
     let rw1 = reads_then c.args.leaf.slot v b w (layout_worked v b only.looks.works) rb (reads_head c.args.leaf.slot c.word_at-at.result n c.args.leaf.span b w here head) in
     but_then c.args.leaf.slot c.args.pointer.at v w (view c.drop_from.new.pass) (layout_worked v w works) rw1 c.drop_from.ensures.reads
+
+pub compare_all-requires-clause-own : goal.compare_all-requires-clause-own
+compare_all-requires-clause-own c =
+    λ i few. none_taken c.args.leaf.slot i (view c.args.pass.now) c.requires.drop.took c.requires.drop.shuts
+
+pub keep-changed-requires-clause-due : goal.keep-changed-requires-clause-due
+keep-changed-requires-clause-due c =
+    let v = view c.args.pass.now in
+    let a = view c.compare_all.new.pass in
+    let first = c.in_ok-compare_all.ensures.looks in
+    let b = view c.cover.new.pass in
+    let second = c.in_ok-cover.ensures.looks in
+    let only = only_then v a b first second in
+    let w = view c.lock_header-found.new.pass in
+    let n = c.lock_header-found.result in
+    let place = word_here c.args.engine.now c.args.pass.now c.args.leaf.slot 0 c.word_at-at.result c.requires.of c.word_at-at.ensures in
+    let here = place ∙ ap (λ (y : Layout). page_at y.slots c.args.leaf.slot 0) (sym (layout_worked v b only.looks.works)) in
+    let other = c.if-found-header.true in
+    let met = seen_on c.args.leaf.slot 0 c.args.header a b (layout_worked a b second.looks.works) c.in_ok-cover.ensures.same
+    (seen_head c.args.leaf.slot c.args.header v a (layout_worked v a first.looks.works) c.in_ok-compare_all.ensures.head c.requires.met) in
+    turned_from c.word_at-at.result c.args.header n b w other
+    (not_head c.args.leaf.slot c.word_at-at.result c.args.header n c.args.leaf.span b w other c.lock_header-found.ensures.locks)
+    (ap (λ (p : ℕ). seen_at b.reads p) here ∙ met)

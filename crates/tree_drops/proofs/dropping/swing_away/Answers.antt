@@ -1,5 +1,7 @@
 use Rattle.engine_pages.specs.declared.view.KeptWhy.TheVariants.{Changed}
 use Rattle.engine_pages.specs.Passes.{view}
+use Rattle.page_drops.proofs.Drops.{not_swung}
+use Rattle.page_drops.proofs.Dues.{turned_from}
 use Rattle.tree_drops.proofs.Swung.{can_swing, changed_reads, dropped_now, dropped_reads, keeps_changed, saw_other}
 use Rattle.tree_drops.proofs.Swung.{swung_now, tells_changed}
 use Rattle.tree_drops.proofs.Works.{last_seen}
@@ -57,3 +59,11 @@ returns-clause-reads c =
     λ q other out.
     dropped_reads c.args.leaf.slot c.args.pointer.at c.args.leaf.page n v w (view c.retire.new.pass)
     (swung_now c.args.leaf.slot c.args.pointer.at c.args.leaf.page c.args.pointer.word n v w c.if-found-word.false c.swing-found.ensures.swings) c.retire.ensures.retires q other
+
+pub keep-kept-requires-clause-due : goal.keep-kept-requires-clause-due
+keep-kept-requires-clause-due c =
+    let v = view c.args.pass.now in
+    let w = view c.swing-found.new.pass in
+    turned_from c.args.pointer.at c.args.pointer.word c.swing-found.result v w c.if-found-word.true
+    (not_swung c.args.leaf.slot c.args.pointer.at c.args.leaf.page c.args.pointer.word c.swing-found.result v w c.if-found-word.true
+    c.swing-found.ensures.swings) c.requires.drop.up.met

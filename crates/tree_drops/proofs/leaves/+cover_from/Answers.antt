@@ -1,4 +1,5 @@
-use Rattle.std.proofs.Common.{◌+◌, ◌∙◌, arith}
+use Rattle.std.proofs.Common.{◌≡◌, ◌+◌, ◌∙◌, refl, ap, arith}
+use Rattle.engine_pages.specs.declared.view.View.{View}
 use Rattle.engine_pages.specs.Passes.{view}
 use Rattle.page_drops.proofs.Entries.{reads_glanced, reads_self, reads_then}
 use Rattle.tree_drops.specs.Leaves.{CoversAll, IsKnownCause}
@@ -127,3 +128,18 @@ returns-clause-reads t c =
     reads_then c.args.leaf.slot v b (view c.cover_from.new.pass) (layout_worked v b only.looks.works)
     (reads_then c.args.leaf.slot v a b (layout_worked v a one.looks.works) (reads_glanced c.args.leaf.slot v a c.word_of-key.ensures.glances)
     (reads_glanced c.args.leaf.slot a b c.search_from.ensures.glances)) c.cover_from.ensures.reads
+
+pub returns-then-index-leaf-clause-same : goal.returns-then-index-leaf-clause-same
+returns-then-index-leaf-clause-same t c = refl
+
+pub returns-clause-same : goal.returns-clause-same
+returns-clause-same t c =
+    let v = view c.args.pass.now in
+    let a = view c.word_of-key.new.pass in
+    let b = view c.search_from.new.pass in
+    let w = view c.cover_from.new.pass in
+    ok_map c.cover_from.result (w.reads ≡ b.reads) (w.reads ≡ v.reads)
+    (λ rest.
+    rest
+    ∙ (ap (λ (z : View). z.reads) c.search_from.ensures.glances.is ∙ ap (λ (z : View). z.reads) c.word_of-key.ensures.glances.is))
+    c.cover_from.ensures.same

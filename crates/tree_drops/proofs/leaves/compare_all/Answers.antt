@@ -1,9 +1,10 @@
 use Rattle.std.specs.Prelude.{Err}
-use Rattle.std.proofs.Common.{◌≡◌}
+use Rattle.std.proofs.Common.{◌≡◌, arith}
 use Rattle.std.proofs.lemmas.Result.{err_from_is_err_and}
 use Rattle.engine_pages.specs.Passes.{view}
 use Rattle.page_drops.proofs.Entries.{reads_glanced, reads_self, reads_then}
 use Rattle.tree_drops.proofs.Covers.{count_on, earlier, key_known}
+use Rattle.tree_drops.proofs.Dues.{head_glanced, head_self, head_then, still_untaken}
 use Rattle.tree_drops.proofs.Works.{keys_worked, layout_worked, only_glanced, only_self, only_then, tree_worked}
 use Rattle.tree_drops.proofs.leaves.compare_all.Goals as goal
 
@@ -13,6 +14,7 @@ loop-index-init c =
       of = c.requires.of;
       only = only_self (view c.args.pass.now);
       reads = reads_self c.args.leaf.slot (view c.args.pass.now);
+      head = head_self c.args.leaf.slot (view c.args.pass.now);
     }
 
 pub key_at-key-requires-clause-at : goal.key_at-key-requires-clause-at
@@ -65,6 +67,10 @@ loop-index-preserved c =
       reads = reads_then c.args.leaf.slot v a w (layout_worked v a only.looks.works)
           (reads_then c.args.leaf.slot v u a (layout_worked v u first.looks.works) c.loop-index.invariant.reads (reads_glanced c.args.leaf.slot u a c.key_at-key.ensures.glances))
           c.compare.ensures.reads;
+      head = head_then c.args.leaf.slot v a w (layout_worked v a only.looks.works)
+          (head_then c.args.leaf.slot v u a (layout_worked v u first.looks.works) c.loop-index.invariant.head
+          (head_glanced c.args.leaf.slot u a c.key_at-key.ensures.glances))
+          c.in_ok-compare.ensures.head;
     }
 
 pub returns-in_err-compare-clause-keeps : goal.returns-in_err-compare-clause-keeps
@@ -96,3 +102,16 @@ returns-clause-looks c =
 pub returns-clause-reads : goal.returns-clause-reads
 returns-clause-reads c =
     c.loop-index.invariant.reads
+
+pub compare-requires-clause-own : goal.compare-requires-clause-own
+compare-requires-clause-own c =
+    let v = view c.args.pass.now in
+    let u = view c.loop-index.pass in
+    let a = view c.key_at-key.new.pass in
+    let only = only_then v u a c.loop-index.invariant.only (only_glanced u a c.key_at-key.ensures.glances) in
+    let few = c.requires.known.are.few in
+    let less = c.loop-index-test.true in
+    still_untaken c.args.leaf.slot c.loop-index.index v a only (c.requires.own c.loop-index.index (omega (arith, few, less)))
+
+pub returns-clause-head : goal.returns-clause-head
+returns-clause-head c = c.loop-index.invariant.head

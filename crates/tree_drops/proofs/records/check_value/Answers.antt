@@ -5,7 +5,8 @@ use Rattle.engine_pages.specs.declared.view.View.{View}
 use Rattle.engine_pages.specs.Passes.{view}
 use Rattle.engine_pages.specs.Words.{spot}
 use Rattle.page_drops.proofs.Entries.{reads_glanced, reads_more, reads_noted, reads_self}
-use Rattle.tree_drops.specs.Leaves.{found_of, IsKnownCause, IsLike, IsOtherValue, IsValue}
+use Rattle.tree_drops.specs.Leaves.{found_of, IsKnownCause, IsLike, IsOtherValue, IsRecordCause, IsValue}
+use Rattle.tree_drops.proofs.Causes.{record_valued}
 use Rattle.commit_core.specs.CoreState.{can_begin}
 use Rattle.std.specs.List.{Contains}
 use Rattle.dual_pointer.specs.Installs.{tree_records}
@@ -139,3 +140,22 @@ returns-clause-reads c =
     reads_more c.args.leaf.slot (18 + 3 * c.args.index) (c.word_at-at.result + 1) c.load_held-value.result v b (view c.load_held-value.new.pass)
     (let few = c.requires.index in omega (arith, few)) (let at = word_here c.args.engine.now c.args.pass.now c.args.leaf.slot (17 + 3 * c.args.index) c.word_at-at.result c.requires.of c.word_at-at.ensures in omega (arith, at)) (reads_glanced c.args.leaf.slot v b glanced)
     (ap (λ (y : View). y.reads) c.load_held-value.ensures.loads.is)
+
+pub returns-then-not-has_value-clause-causes : goal.returns-then-not-has_value-clause-causes
+returns-then-not-has_value-clause-causes c =
+    let v = view c.args.pass.now in
+    let b = view c.find-stored.new.pass in
+    let only = only_glanced v b c.find-stored.ensures.glances in
+    let w = view c.load_held-value.new.pass in
+    let t = c.args.leaf.slot in
+    let n = c.load_held-value.result in
+    let s = c.find-stored.result in
+    let saw = saw_held c.args.key (c.word_at-at.result + 1) c.args.word n v b w only c.load_held-value.ensures.loads in
+    keeps_it (IsRecordCause v.layout.slots t c.args.index (record_for (tree_records v.pages c.args.leaf.page) c.args.key.key) c.args.leaf.epoch)
+    v w (view c.keep-other.new.pass) (c.word_at-at.result + 1) n Unlike c.keep-other.result c.keep-other.ensures.is saw
+    c.keep-other.ensures.notes
+    (record_valued v.layout.slots t c.args.index c.word_at-at.result n c.args.leaf.page c.args.leaf.epoch v.pages c.args.key s
+    (word_here c.args.engine.now c.args.pass.now c.args.leaf.slot (17 + 3 * c.args.index) c.word_at-at.result c.requires.of c.word_at-at.ensures)
+    c.find-stored.ensures.finds
+    (subst (λ q. MatchBool q (IsValue (option_map found_of s) n) (IsOtherValue (option_map found_of s) n))
+    c.if-not-has_value.true c.has_value.ensures))

@@ -4,7 +4,11 @@ use Rattle.engine_pages.specs.declared.view.KeptWhy.TheVariants.{Locked, Unlike}
 use Rattle.engine_pages.specs.declared.view.View.{View}
 use Rattle.engine_pages.specs.Passes.{view}
 use Rattle.page_drops.proofs.Entries.{reads_glanced, reads_more, reads_noted}
-use Rattle.tree_drops.specs.Leaves.{found_of, IsKnownCause, IsLike, IsUnlike}
+use Rattle.dual_pointer.specs.Installs.{tree_records}
+use Rattle.snapshot_store.specs.TreePages.{record_for}
+use Rattle.tree_drops.specs.Leaves.{found_of, IsKnownCause, IsLike, IsRecordCause, IsUnlike}
+use Rattle.tree_drops.proofs.Causes.{record_unlike}
+use Rattle.tree_drops.proofs.Dues.{head_read, record_foreign, seen_read}
 use Rattle.tree_drops.proofs.Places.{at_then, compared, is_locked, is_unlike, known_cause, tree_here, word_here}
 use Rattle.tree_drops.proofs.Works.{keeps_it, key_worked, last_seen, noted_known, only_glanced, saw_read, tree_worked}
 use Rattle.tree_drops.proofs.records.compare.Goals as goal
@@ -125,3 +129,65 @@ returns-clause-reads c =
     reads_more c.args.leaf.slot (17 + 3 * c.args.index) c.word_at-at.result c.load_word-word.result v b (view c.load_word-word.new.pass)
     (let few = c.requires.index in omega (arith, few)) (word_here c.args.engine.now c.args.pass.now c.args.leaf.slot (17 + 3 * c.args.index) c.word_at-at.result c.requires.of c.word_at-at.ensures) (reads_glanced c.args.leaf.slot v b glanced)
     (ap (λ (y : View). y.reads) c.load_word-word.ensures.loads.is)
+
+pub keep-locked-requires-clause-due : goal.keep-locked-requires-clause-due
+keep-locked-requires-clause-due c =
+    let v = view c.args.pass.now in
+    let b = view c.find-stored.new.pass in
+    let only = only_glanced v b c.find-stored.ensures.glances in
+    let w = view c.load_word-word.new.pass in
+    let saw = saw_read c.word_at-at.result c.load_word-word.result v b w only c.load_word-word.ensures.loads.is in
+    record_foreign c.args.leaf.slot c.args.index c.word_at-at.result c.load_word-word.result v w saw.only c.requires.index
+    (word_here c.args.engine.now c.args.pass.now c.args.leaf.slot (17 + 3 * c.args.index) c.word_at-at.result c.requires.of c.word_at-at.ensures) c.requires.own
+
+pub returns-then-word-eq1-clause-causes : goal.returns-then-word-eq1-clause-causes
+returns-then-word-eq1-clause-causes c =
+    let v = view c.args.pass.now in
+    let b = view c.find-stored.new.pass in
+    let only = only_glanced v b c.find-stored.ensures.glances in
+    let w = view c.load_word-word.new.pass in
+    let t = c.args.leaf.slot in
+    let n = c.load_word-word.result in
+    let saw = saw_read c.word_at-at.result n v b w only c.load_word-word.ensures.loads.is in
+    keeps_it (IsRecordCause v.layout.slots t c.args.index (record_for (tree_records v.pages c.args.leaf.page) c.args.key.key) c.args.leaf.epoch)
+    v w (view c.keep-locked.new.pass) c.word_at-at.result n Locked c.keep-locked.result c.keep-locked.ensures.is saw
+    c.keep-locked.ensures.notes (
+      (word_here c.args.engine.now c.args.pass.now c.args.leaf.slot (17 + 3 * c.args.index) c.word_at-at.result c.requires.of c.word_at-at.ensures),
+      (let odd = c.if-word-eq1.true in omega (arith, odd)),
+    )
+
+pub returns-then-not-is_like-clause-causes : goal.returns-then-not-is_like-clause-causes
+returns-then-not-is_like-clause-causes c =
+    let v = view c.args.pass.now in
+    let b = view c.find-stored.new.pass in
+    let only = only_glanced v b c.find-stored.ensures.glances in
+    let w = view c.load_word-word.new.pass in
+    let t = c.args.leaf.slot in
+    let n = c.load_word-word.result in
+    let s = c.find-stored.result in
+    let saw = saw_read c.word_at-at.result n v b w only c.load_word-word.ensures.loads.is in
+    keeps_it (IsRecordCause v.layout.slots t c.args.index (record_for (tree_records v.pages c.args.leaf.page) c.args.key.key) c.args.leaf.epoch)
+    v w (view c.keep-other.new.pass) c.word_at-at.result n Unlike c.keep-other.result c.keep-other.ensures.is saw
+    c.keep-other.ensures.notes
+    (record_unlike v.layout.slots t c.args.index c.word_at-at.result n c.args.leaf.page c.args.leaf.epoch v.pages c.args.key s
+    (word_here c.args.engine.now c.args.pass.now c.args.leaf.slot (17 + 3 * c.args.index) c.word_at-at.result c.requires.of c.word_at-at.ensures)
+    (λ odd. c.if-word-eq1.false (omega (arith, odd))) c.find-stored.ensures.finds
+    (subst (λ q. MatchBool q (IsLike (option_map found_of s) c.args.leaf.epoch n) (IsUnlike (option_map found_of s) c.args.leaf.epoch n))
+    c.if-not-is_like.true c.is_like.ensures))
+
+pub returns-clause-seen : goal.returns-clause-seen
+returns-clause-seen c =
+    let v = view c.args.pass.now in
+    let b = view c.find-stored.new.pass in
+    let only = only_glanced v b c.find-stored.ensures.glances in
+    seen_read c.args.leaf.slot (17 + 3 * c.args.index) c.word_at-at.result c.load_word-word.result b (view c.load_word-word.new.pass)
+    (at_then c.args.leaf.slot (17 + 3 * c.args.index) c.word_at-at.result v b only (word_here c.args.engine.now c.args.pass.now c.args.leaf.slot (17 + 3 * c.args.index) c.word_at-at.result c.requires.of c.word_at-at.ensures))
+    c.load_word-word.ensures.loads.is
+
+pub returns-clause-head : goal.returns-clause-head
+returns-clause-head c =
+    let v = view c.args.pass.now in
+    let b = view c.find-stored.new.pass in
+    head_read c.args.leaf.slot c.args.index c.word_at-at.result c.load_word-word.result v b (view c.load_word-word.new.pass)
+    c.find-stored.ensures.glances c.requires.index (word_here c.args.engine.now c.args.pass.now c.args.leaf.slot (17 + 3 * c.args.index) c.word_at-at.result c.requires.of c.word_at-at.ensures)
+    c.load_word-word.ensures.loads.is

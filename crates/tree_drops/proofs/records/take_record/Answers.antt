@@ -11,7 +11,8 @@ use Rattle.engine_pages.specs.Passes.{view}
 use Rattle.engine_pages.specs.Words.{spot}
 use Rattle.page_records.specs.Locks.{took_at}
 use Rattle.page_drops.proofs.Entries.{reads_then}
-use Rattle.tree_drops.specs.Leaves.{IsKnownCause, IsLike}
+use Rattle.tree_drops.specs.Leaves.{IsKnownCause, IsLike, IsRecordCause}
+use Rattle.tree_drops.proofs.Causes.{record_open}
 use Rattle.tree_drops.specs.Works.{KeepsIt}
 use Rattle.tree_drops.proofs.Covers.{count_on, err_is, ok_is}
 use Rattle.tree_drops.proofs.Drops.{known_open, looked_on, reads_reopened}
@@ -176,3 +177,28 @@ returns-clause-reads c =
     let works = works_locked c.args.key (spot c.args.leaf.slot c.args.index) at c.args.word v u c.requires.at.keeper c.in_ok-lock_record.ensures.locks in
     let more = lock_more c.args.key (spot c.args.leaf.slot c.args.index) at c.args.word v v u c.requires.at.keeper (only_self v) c.in_ok-lock_record.ensures.locks in
     reads_then c.args.leaf.slot v u (view c.check_value.new.pass) (layout_worked v u works) c.lock_record.ensures.reads c.check_value.ensures.reads
+
+pub returns-in_err-lock_record-clause-causes : goal.returns-in_err-lock_record-clause-causes
+returns-in_err-lock_record-clause-causes c =
+    let p = err_from_is_err_and c.from_residual.result c.from_residual.ensures.1 in
+    let told : c.from_residual.result ≡ Err c.in_err-lock_record.field-0.0 = let a = p.1 in let b = p.2 in cc in
+    rw told c.in_err-lock_record.ensures.causes
+
+pub returns-in-Err-clause-causes : goal.returns-in-Err-clause-causes
+returns-in-Err-clause-causes c =
+    let v = view c.args.pass.now in
+    let u = view c.lock_record.new.pass in
+    let t = c.args.leaf.slot in
+    let at = page_at v.layout.slots t (17 + 3 * c.args.index) in
+    let works = works_locked c.args.key (spot t c.args.index) at c.args.word v u c.requires.at.keeper c.in_ok-lock_record.ensures.locks in
+    let more = lock_more c.args.key (spot t c.args.index) at c.args.word v v u c.requires.at.keeper (only_self v) c.in_ok-lock_record.ensures.locks in
+    let e = view c.check_value.new.pass in
+    let causes = err_is c.check_value.result (λ k. KeepsIt (IsRecordCause u.layout.slots t c.args.index
+    (record_for (tree_records u.pages c.args.leaf.page) c.args.key.key) c.args.leaf.epoch) k u e) c.in-Err.kept
+    c.check_value.ensures.causes c.in-Err.is in
+    let all = works_then v u e works causes.looks.works in
+    let tree = tree_worked t c.args.leaf.page c.args.leaf.span v e all c.requires.at in
+    let w = view c.open_record.new.pass in
+    record_open t c.args.leaf.page c.args.leaf.epoch (page_at e.layout.slots t (17 + 3 * c.args.index)) c.args.word c.args.index c.in-Err.kept
+    c.args.key v u e w more c.requires.new causes
+    (opened_is c.args.key (page_at e.layout.slots t (17 + 3 * c.args.index)) c.args.word e w tree.idle c.open_record.ensures.opens)

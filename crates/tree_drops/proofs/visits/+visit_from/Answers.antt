@@ -1,9 +1,9 @@
-use Rattle.std.proofs.Common.{◌+◌, ◌-◌, ◌*◌, ◌<◌, ◌≤◌, ap, sym, subst, arith}
+use Rattle.std.proofs.Common.{◌+◌, ◌-◌, ap, sym, subst, arith}
 use Rattle.engine_pages.specs.Passes.{view}
 use Rattle.tree_drops.specs.Turns.{CanGoFrom}
 use Rattle.tree_drops.specs.declared.branches.Branch.{Branch}
 use Rattle.tree_drops.proofs.Asks.{close_opened, close_work, go_inside, go_over}
-use Rattle.tree_drops.proofs.Rows.{gone_as, gone_few, gone_next, gone_none, inner_as, visited_branch, visited_few}
+use Rattle.tree_drops.proofs.Rows.{gone_as, gone_next, gone_none, inner_as, visited_branch, visited_few}
 use Rattle.tree_drops.proofs.visits.+visit_from.Goals as goal
 
 pub returns-then-index-branch-clause-goes : goal.returns-then-index-branch-clause-goes

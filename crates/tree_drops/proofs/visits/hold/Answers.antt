@@ -1,10 +1,12 @@
-use Rattle.std.proofs.Common.{◌+◌, ◌-◌, ◌*◌, ◌/◌, ◌^◌, ap, ◌∙◌, arith, sym, subst}
+use Rattle.std.proofs.Common.{ℕ, ◌+◌, ◌-◌, ◌*◌, ◌/◌, ◌^◌, ◌∷◌, ap, ◌∙◌, arith, sym, subst}
 use Rattle.engine_pages.specs.declared.view.View.{View}
 use Rattle.engine_pages.specs.declared.view.KeptWhy.TheVariants.{Locked}
 use Rattle.engine_pages.specs.Passes.{view}
 use Rattle.engine_pages.specs.Steps.{seen_at}
 use Rattle.page_drops.specs.declared.visits.Held.{Held}
 use Rattle.page_drops.specs.Calls.{HasIn}
+use Rattle.page_drops.proofs.Dues.{looked_from}
+use Rattle.tree_drops.proofs.Dues.{pointer_foreign}
 use Rattle.page_drops.proofs.Holds.{keeps_shut, none_looked, seen_last}
 use Rattle.tree_drops.proofs.HoldInners.{inners_renewed, keeps_left, keeps_same}
 use Rattle.tree_drops.proofs.TreeHolds.{again_other, can_renew_so, fresh_slot, holds_renewed, holds_so, keeps_missed, keeps_other, look_first}
@@ -171,3 +173,33 @@ returns-clause-inners c =
     (view c.renew-found.new.pass) c.renew-found.ensures.renews
     ∙ (ap (λ (z : View). z.inners) c.follow-word.ensures.follows.is
     ∙ (ap (λ (z : View). z.inners) c.enter.ensures.enters ∙ ap (λ (z : View). z.inners) c.follow-seen.ensures.follows.is)))
+
+pub keep-locked-requires-clause-due : goal.keep-locked-requires-clause-due
+keep-locked-requires-clause-due c =
+    let v = view c.args.pass.now in
+    pointer_foreign c.args.target.epoch c.args.target.place c.args.target.span c.args.target.at c.args.target.page c.follow-seen.result
+    (seen_at v.reads c.args.target.at) v (view c.follow-seen.new.pass) c.requires.visit
+    (look_first c.args.target.epoch c.args.target.place c.args.target.span c.args.target.at c.args.target.page c.follow-seen.result v
+    (view c.follow-seen.new.pass) c.requires.visit c.follow-seen.ensures.follows)
+
+pub keep-turned-requires-clause-due : goal.keep-turned-requires-clause-due
+keep-turned-requires-clause-due c =
+    let v = view c.args.pass.now in
+    looked_from c.args.target.at c.follow-seen.result c.follow-word.result ((c.follow-seen.result / 2 ^ 32 - 1) ∷ v.grip.holds) v.ways v
+    (view c.follow-word.new.pass) (λ one. c.if-word-seen.true (ap (λ (q : ℕ). q / 2 ^ 32) one))
+    (again_other c.args.target.epoch c.args.target.place c.args.target.span c.args.target.at c.args.target.page c.follow-seen.result
+    (view c.args.pass.now) (view c.follow-seen.new.pass) c.requires.visit c.follow-seen.ensures.follows
+    c.if-seen-lt-SLOT.false c.if-seen-ge-SHUT.false (view c.enter.new.pass) c.enter.ensures.enters c.follow-word.result
+    (view c.follow-word.new.pass) c.follow-word.ensures.follows c.if-word-seen.true)
+
+pub keep-changed-requires-clause-due : goal.keep-changed-requires-clause-due
+keep-changed-requires-clause-due c =
+    let v = view c.args.pass.now in
+    looked_from c.args.target.at c.follow-word.result c.renew-found.result ((c.follow-seen.result / 2 ^ 32 - 1) ∷ v.grip.holds)
+    (record { slot = c.follow-seen.result / 2 ^ 32 - 1; span = c.args.target.span } ∷ v.ways) v (view c.renew-found.new.pass)
+    c.if-found-word.true
+    (missed_so c.args.target.epoch c.args.target.place c.args.target.span c.args.target.at c.args.target.page c.follow-seen.result
+    (view c.args.pass.now) (view c.follow-seen.new.pass) c.requires.visit c.follow-seen.ensures.follows
+    c.if-seen-lt-SLOT.false c.if-seen-ge-SHUT.false (view c.enter.new.pass) c.enter.ensures.enters c.follow-word.result
+    (view c.follow-word.new.pass) c.follow-word.ensures.follows c.if-word-seen.false c.renew-found.result
+    (view c.renew-found.new.pass) c.renew-found.ensures.renews c.if-found-word.true)

@@ -1,4 +1,3 @@
-use Rattle.std.proofs.Common.{refl}
 use Rattle.engine_pages.specs.Passes.{view}
 use Rattle.page_drops.proofs.LeafTurns.{held_in, none_in}
 use Rattle.tree_drops.proofs.Asks.{can_work}

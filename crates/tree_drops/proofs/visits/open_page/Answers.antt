@@ -1,37 +1,66 @@
+use Rattle.std.proofs.Common.{refl}
 use Rattle.engine_pages.specs.Passes.{view}
-use Rattle.tree_drops.proofs.Pages.{branch_ended, branch_last, branch_opened, branch_parts, leaf_ended, leaf_known, leaf_last, leaf_work}
+use Rattle.tree_drops.proofs.Pages.{branch_ended, branch_last, branch_opened, branch_parts, leaf_bits, leaf_chain, leaf_ended}
+use Rattle.tree_drops.proofs.Pages.{leaf_known, leaf_last, leaf_met, leaf_work}
 use Rattle.tree_drops.proofs.Places.{word_here}
 use Rattle.tree_drops.proofs.visits.open_page.Goals as goal
 
-pub take_leaf-found-requires-clause-work : goal.take_leaf-found-requires-clause-work
-take_leaf-found-requires-clause-work c =
+pub end_leaf-requires-clause-work : goal.end_leaf-requires-clause-work
+end_leaf-requires-clause-work c =
     leaf_work c.args.target.place c.args.target.span c.args.target.at c.args.held.slot c.args.target.page c.args.held.word
     c.args.target.epoch c.load_header-header.result c.word_at-at.result (view c.args.pass.now) (view c.word_of-wanted.new.pass)
     (view c.load_header-header.new.pass) c.requires.work c.word_of-wanted.ensures.glances (word_here c.args.engine.now
-    c.word_of-wanted.new.pass c.args.held.slot 0 c.word_at-at.result c.word_of-wanted.ensures.of c.word_at-at.ensures) c.load_header-header.ensures.loads c.if-header-eq1.true
+    c.word_of-wanted.new.pass c.args.held.slot 0 c.word_at-at.result c.word_of-wanted.ensures.of c.word_at-at.ensures)
+    c.load_header-header.ensures.loads c.if-header-eq1.true
 
-pub take_leaf-found-requires-clause-known : goal.take_leaf-found-requires-clause-known
-take_leaf-found-requires-clause-known c =
+pub end_leaf-requires-clause-known : goal.end_leaf-requires-clause-known
+end_leaf-requires-clause-known c =
     leaf_known c.args.target.place c.args.target.span c.args.target.at c.args.held.slot c.args.target.page c.args.held.word
     c.args.target.epoch c.load_header-header.result c.word_at-at.result (view c.args.pass.now) (view c.word_of-wanted.new.pass)
     (view c.load_header-header.new.pass) c.requires.work c.word_of-wanted.ensures.glances (word_here c.args.engine.now
-    c.word_of-wanted.new.pass c.args.held.slot 0 c.word_at-at.result c.word_of-wanted.ensures.of c.word_at-at.ensures) c.load_header-header.ensures.loads c.if-header-eq1.true
+    c.word_of-wanted.new.pass c.args.held.slot 0 c.word_at-at.result c.word_of-wanted.ensures.of c.word_at-at.ensures)
+    c.load_header-header.ensures.loads c.if-header-eq1.true
 
-pub take_leaf-found-requires-clause-last : goal.take_leaf-found-requires-clause-last
-take_leaf-found-requires-clause-last c =
+pub end_leaf-requires-clause-last : goal.end_leaf-requires-clause-last
+end_leaf-requires-clause-last c =
     leaf_last c.args.target.place c.args.target.span c.args.target.at c.args.held.slot c.args.target.page c.args.held.word
     c.args.target.epoch c.load_header-header.result c.word_at-at.result (view c.args.pass.now) (view c.word_of-wanted.new.pass)
     (view c.load_header-header.new.pass) c.requires.work c.word_of-wanted.ensures.glances (word_here c.args.engine.now
-    c.word_of-wanted.new.pass c.args.held.slot 0 c.word_at-at.result c.word_of-wanted.ensures.of c.word_at-at.ensures) c.load_header-header.ensures.loads c.if-header-eq1.true
+    c.word_of-wanted.new.pass c.args.held.slot 0 c.word_at-at.result c.word_of-wanted.ensures.of c.word_at-at.ensures)
+    c.load_header-header.ensures.loads c.if-header-eq1.true
+
+pub end_leaf-requires-clause-met : goal.end_leaf-requires-clause-met
+end_leaf-requires-clause-met c =
+    leaf_met c.args.target.place c.args.target.span c.args.target.at c.args.held.slot c.args.target.page c.args.held.word
+    c.args.target.epoch c.load_header-header.result c.word_at-at.result (view c.args.pass.now) (view c.word_of-wanted.new.pass)
+    (view c.load_header-header.new.pass) c.requires.work c.word_of-wanted.ensures.glances (word_here c.args.engine.now
+    c.word_of-wanted.new.pass c.args.held.slot 0 c.word_at-at.result c.word_of-wanted.ensures.of c.word_at-at.ensures)
+    c.load_header-header.ensures.loads c.if-header-eq1.true
+
+pub end_leaf-requires-clause-bits : goal.end_leaf-requires-clause-bits
+end_leaf-requires-clause-bits c =
+    leaf_bits c.args.target.place c.args.target.span c.args.target.at c.args.held.slot c.args.target.page c.args.held.word
+    c.args.target.epoch c.load_header-header.result c.word_at-at.result (view c.args.pass.now) (view c.word_of-wanted.new.pass)
+    (view c.load_header-header.new.pass) c.requires.work c.word_of-wanted.ensures.glances (word_here c.args.engine.now
+    c.word_of-wanted.new.pass c.args.held.slot 0 c.word_at-at.result c.word_of-wanted.ensures.of c.word_at-at.ensures)
+    c.load_header-header.ensures.loads c.if-header-eq1.true
+
+pub end_leaf-requires-clause-chain : goal.end_leaf-requires-clause-chain
+end_leaf-requires-clause-chain c =
+    leaf_chain c.args.target.place c.args.target.span c.args.target.at c.args.held.slot c.args.target.page c.args.held.word
+    c.args.target.epoch c.load_header-header.result c.word_at-at.result (view c.args.pass.now) (view c.word_of-wanted.new.pass)
+    (view c.load_header-header.new.pass) c.requires.work c.word_of-wanted.ensures.glances (word_here c.args.engine.now
+    c.word_of-wanted.new.pass c.args.held.slot 0 c.word_at-at.result c.word_of-wanted.ensures.of c.word_at-at.ensures)
+    c.load_header-header.ensures.loads c.if-header-eq1.true c.args.target refl refl refl refl refl
 
 pub returns-then-header-eq1-clause-ends : goal.returns-then-header-eq1-clause-ends
 returns-then-header-eq1-clause-ends c =
     leaf_ended c.args.target.place c.args.target.span c.args.target.at c.args.held.slot c.args.target.page c.args.held.word
     c.args.target.epoch c.load_header-header.result c.word_at-at.result (view c.args.pass.now) (view c.word_of-wanted.new.pass)
     (view c.load_header-header.new.pass) c.requires.work c.word_of-wanted.ensures.glances (word_here c.args.engine.now
-    c.word_of-wanted.new.pass c.args.held.slot 0 c.word_at-at.result c.word_of-wanted.ensures.of c.word_at-at.ensures) c.load_header-header.ensures.loads c.if-header-eq1.true
-    c.args.before c.and.result c.take_leaf-found.result (view c.take_leaf-found.new.pass) (view c.leave.new.pass)
-    c.leave.ensures.leaves c.take_leaf-found.ensures.takes c.and.ensures.drops c.and.ensures.keeps
+    c.word_of-wanted.new.pass c.args.held.slot 0 c.word_at-at.result c.word_of-wanted.ensures.of c.word_at-at.ensures)
+    c.load_header-header.ensures.loads c.if-header-eq1.true
+    c.args.before c.end_leaf.result (view c.end_leaf.new.pass) c.end_leaf.ensures.ends
 
 pub compare_branch-requires-clause-parts : goal.compare_branch-requires-clause-parts
 compare_branch-requires-clause-parts c =
@@ -61,5 +90,5 @@ returns-in-Err-clause-ends c =
     c.args.target.epoch c.load_header-header.result c.word_at-at.result (view c.args.pass.now) (view c.word_of-wanted.new.pass)
     (view c.load_header-header.new.pass) c.requires.work c.word_of-wanted.ensures.glances (word_here c.args.engine.now
     c.word_of-wanted.new.pass c.args.held.slot 0 c.word_at-at.result c.word_of-wanted.ensures.of c.word_at-at.ensures) c.load_header-header.ensures.loads c.if-header-eq1.false
-    c.in-Err.kept c.args.before c.and_kept.result (view c.compare_branch.new.pass) (view c.leave-in-Err.new.pass)
-    c.in-Err.ensures.keeps c.leave-in-Err.ensures.leaves c.and_kept.ensures.counts
+    c.in-Err.kept c.args.before c.and_kept.result (view c.compare_branch.new.pass) (view c.leave.new.pass)
+    c.in-Err.ensures.keeps c.leave.ensures.leaves c.and_kept.ensures.counts

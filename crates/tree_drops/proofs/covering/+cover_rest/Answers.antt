@@ -1,0 +1,67 @@
+use Rattle.std.proofs.Common.{◌+◌, ◌*◌, suc, length, subst, sym, inr, arith}
+use Rattle.engine_pages.specs.Passes.{view}
+use Rattle.page_drops.proofs.Looks.{glanced_then}
+use Rattle.tree_drops.specs.ChainKeys.{IsCoveredOr}
+use Rattle.tree_drops.specs.Leaves.{HasCount}
+use Rattle.tree_drops.proofs.BelowCovers.{covered_later, cover_on, kept_first, rest_then, uncovered_here}
+use Rattle.tree_drops.proofs.BelowKeys.{glanced_reads, take_glanced}
+use Rattle.tree_drops.proofs.Chaining.{chained_glanced, pages_chained}
+use Rattle.tree_drops.proofs.Covers.{index_less}
+use Rattle.tree_drops.proofs.covering.+cover_rest.Goals as goal
+
+pub is_covered-requires-clause-take : goal.is_covered-requires-clause-take
+is_covered-requires-clause-take t c =
+    take_glanced c.args.root c.args.halves.now c.args.headers.now (17 * suc (length c.args.halves.now)) (view c.args.pass.now)
+    (view c.word_of-key.new.pass) c.word_of-key.ensures.glances c.requires.cover.take
+
+pub returns-then-not-is_covered-clause-covers : goal.returns-then-not-is_covered-clause-covers
+returns-then-not-is_covered-clause-covers t c =
+    let v = view c.args.pass.now in
+    let a = view c.word_of-key.new.pass in
+    let b = view c.is_covered.new.pass in
+    let all = glanced_then v a b c.word_of-key.ensures.glances c.is_covered.ensures.glances in
+    kept_first c.args.root c.args.halves.now c.args.headers.now c.args.leaf.span c.args.leaf.page c.keep_first-other.result v b
+    (view c.keep_first-other.new.pass) (chained_glanced v b all) (glanced_reads v b all)
+    (inr (uncovered_here c.args.root c.args.halves.now c.args.headers.now c.args.leaf c.args.index c.word_of-key.result v a
+    (chained_glanced v a c.word_of-key.ensures.glances) c.requires.cover.storage c.requires.count
+    (index_less c.args.index c.args.leaf.count c.requires.within c.if-index-leaf.false) c.word_of-key.ensures.word
+    (subst (λ x. IsCoveredOr c.args.root c.args.halves.now c.args.headers.now c.args.leaf.span c.word_of-key.result x a)
+    c.if-not-is_covered.true c.is_covered.ensures.finds)))
+    c.keep_first-other.ensures.keeps c.keep_first-other.ensures.reads
+
+pub cover_rest-requires : goal.cover_rest-requires
+cover_rest-requires t c =
+    let v = view c.args.pass.now in
+    let a = view c.word_of-key.new.pass in
+    let b = view c.is_covered.new.pass in
+    let all = glanced_then v a b c.word_of-key.ensures.glances c.is_covered.ensures.glances in
+    let less = index_less c.args.index c.args.leaf.count c.requires.within c.if-index-leaf.false in (
+      omega (arith, less),
+      (
+        c.is_covered.ensures.of,
+        (
+          cover_on c.args.root c.args.halves.now c.args.headers.now c.args.leaf.span c.args.leaf.page v b (chained_glanced v b all)
+              (glanced_reads v b all) c.requires.cover,
+          (
+            subst (λ ps. HasCount ps c.args.leaf.span c.args.leaf.page c.args.leaf.count)
+                (sym (pages_chained v b (chained_glanced v b all).looks.on)) c.requires.count,
+            omega (arith, less),
+          ),
+        ),
+      ),
+    )
+
+pub returns-clause-covers : goal.returns-clause-covers
+returns-clause-covers t c =
+    let v = view c.args.pass.now in
+    let a = view c.word_of-key.new.pass in
+    let b = view c.is_covered.new.pass in
+    let all = glanced_then v a b c.word_of-key.ensures.glances c.is_covered.ensures.glances in
+    rest_then c.args.root c.args.halves.now c.args.headers.now c.args.leaf c.args.index c.word_of-key.result c.cover_rest.result v b
+    (view c.cover_rest.new.pass) (chained_glanced v b all) (glanced_reads v b all) c.requires.cover.storage c.if-index-leaf.false
+    c.word_of-key.ensures.word
+    (covered_later c.args.root c.args.halves.now c.args.headers.now c.args.leaf.span c.word_of-key.result a b
+    (chained_glanced a b c.is_covered.ensures.glances)
+    (subst (λ x. IsCoveredOr c.args.root c.args.halves.now c.args.headers.now c.args.leaf.span c.word_of-key.result x a)
+    c.if-not-is_covered.false c.is_covered.ensures.finds))
+    c.cover_rest.ensures.covers

@@ -1,7 +1,7 @@
--- What follows from the main theorem. No round draws more numbers than its lines have tries, and where a tree is
--- declared each number is a commit's. No run ends at the limit of the draws while each line has few tries, or a tree is
--- declared. A run with nothing in its way is done; and of one that is done each line is committed, in conflict at each
--- of its tries, or found no usable slot at the last one, and each round is durable.
+-- What follows from the main theorem. No round draws more numbers than its lines have tries. No run ends at the limit of
+-- the draws while each line has few tries. A run with nothing in its way is done; and of one that is done each line is
+-- committed, in conflict at each of its tries, or at the last one found no usable slot or filled a set, and each round
+-- is durable.
 use Rattle.std.specs.Prelude.{◌≡◌, ◌+◌, ◌≤◌, ℕ, List, [], ◌∷◌, ◌++◌, IfSome, IsSome, Option, Some, None}
 use Rattle.std.specs.List.{AllByRecursion}
 use Rattle.std.proofs.Common.{inl, inr, ◌∙◌, refl, sym, subst, arith}

@@ -54,7 +54,6 @@ pub mod Swapping
 mod NothingRun
 mod WhoseLines
 mod Called
-mod Declared
 pub mod Taking
 pub mod FirstContents
 pub mod FirstNumbers

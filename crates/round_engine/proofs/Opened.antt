@@ -32,7 +32,7 @@ use Rattle.page_opening.specs.Making.{CanMake}
 use Rattle.recovery_core.specs.NewestSnapshot.{AreUpTo, IsNewestSnapshot}
 use Rattle.shared_rounds.specs.OpenedLaws.{opened_is}
 use Rattle.shared_rounds.specs.SharedState.{opened}
-use Rattle.round_engine.proofs.Declared.{opens_declared}
+use Rattle.shared_rounds.proofs.Declared.{opens_declared}
 use Rattle.round_engine.specs.FirstRecords.{first_layout, root_in, stands_in}
 use Rattle.round_engine.proofs.FirstContents.{content_in, declared_in, opens_with}
 use Rattle.round_engine.proofs.FirstNumbers.{IsOlder, all_below}

@@ -90,8 +90,8 @@ pub record AreClosed (r : RuntimeState) : Type 0 where
   pub counted : AllByRecursion (λ n. n < 2 ^ 40) r.counted
   pub before : r.closed_at < r.stands.clock.epoch
 
--- Where words that threads share run the lines, which alone have slots, all pages of the store are published to them, and
--- they have room for as many as are let in.
+-- All pages of the store are published to an engine with slots, as each one is, and it has room for as many as are let
+-- in.
 abbrev pub IsPublished : RuntimeState → Type 0
 IsPublished r = 0 < r.stands.slots → (r.stands.pages ≡ words_of r.store.pages) × (r.stands.resident ≡ r.room)
 

@@ -7,7 +7,7 @@ mod Conflicts
 mod Contents
 mod Counted
 mod Counts
-mod Declared
+pub mod Declared
 mod Draws
 mod Drops
 mod Ending

@@ -29,8 +29,6 @@ use Rattle.resident_pages.specs.Fills.{AreClaimed}
 use Rattle.engine_pages.specs.Views.{bare_seat, IsResting}
 use Rattle.shared_rounds.specs.Contents.{after_commits, with_value}
 
--- ---- what an engine begins with
-
 -- ---- what it is between two rounds
 
 -- the values of what stands at keys at first, where the first of a key counts

@@ -1,5 +1,6 @@
--- What the workers' lines of a round come to: what came of each line, and an order in which the commits are serial. Nothing is said of the order in which the workers ran: their commits may lie among each
--- other, in any order of their numbers.
+-- What the workers' lines of a round come to: what came of each line, and an order in which the commits are serial.
+-- Nothing is said of the order in which the workers ran: their commits may lie among each other, in any order of their
+-- numbers.
 use Rattle.std.specs.Prelude.{◌≡◌, ◌<◌, ◌≤◌, ◌+◌, ◌-◌, ℕ, zero, suc, List, [], ◌∷◌, filter, length, map, sum_by, Option}
 use Rattle.std.specs.Prelude.{None, Some}
 use Rattle.std.specs.List.{AllByRecursion}

@@ -8,11 +8,10 @@ use Rattle.homes.specs.declared.places.Content.{Content}
 use Rattle.commit_core.specs.declared.attempt.Attempt.{Attempt}
 use Rattle.engine_pages.specs.declared.view.Dropped.{Dropped}
 
--- the storages and their contents, and where words that threads share run the lines (none else) what stood at keys as
--- they were made, with its numbers; the number that the next commit gets, the attempts that count on such words, in
--- order of number, how many tries were refused with a conflict so far, how many slots such words have for pages in
--- memory, the snapshot pages that are published to them, for how many such pages they have room, what each drop of
--- pages came to so far, and whether a round ended the run
+-- the storages and their contents, what stood at keys as the engine was made, with its numbers; the number that the next
+-- commit gets, the attempts that count, in order of number, how many tries were refused with a conflict so far, how many
+-- slots there are for pages in memory, the snapshot pages that are published, for how many such pages there is room,
+-- what each drop of pages came to so far, and whether a round ended the run
 pub record Standing : Type 0 where
   pub decls : List Decl
   pub state : State

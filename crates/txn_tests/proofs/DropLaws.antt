@@ -1,4 +1,4 @@
--- The keeper drops the pages of an array that is in no snapshot.
+-- The keeper drops pages of storages that are in no snapshot.
 use Rattle.std.proofs.Common.{◌≡◌, ℕ, zero, suc, ◌<◌, ◌≤◌, List, [], ◌∷◌, get_or, length, refl, sym, ap, ◌∙◌, subst, arith}
 use Rattle.serial_model.specs.declared.decl.Decl.{Decl}
 use Rattle.serial_model.specs.Decls.{AreDecls}
@@ -7,18 +7,15 @@ use Rattle.engine_pages.specs.declared.view.View.{View}
 use Rattle.engine_pages.specs.Passes.{view, IsPassOf, Pass}
 use Rattle.page_drops.specs.declared.calls.Dropped.{Dropped}
 use Rattle.page_drops.specs.Calls.{slots_on, CanDropAll, HasDroppedAll}
-use Rattle.txn_tests.specs.Standing.{IsDropper}
+use Rattle.txn_tests.specs.Standing.{no_roots, IsDropper}
 use Rattle.txn_tests.proofs.OpeningLaws.{are_declared}
 
--- the root's page is none
-abbrev pub no_page : List ℕ
-no_page = 0 ∷ []
-
-none_at : (r : ℕ) → get_or no_page r 0 ≡ 0
+none_at : (r : ℕ) → get_or no_roots r 0 ≡ 0
 none_at zero = refl
-none_at (suc r) = refl
+none_at (suc zero) = refl
+none_at (suc (suc r)) = refl
 
-pub can_drop : (e : Engine) (keeper : Pass) → IsDropper e keeper → CanDropAll no_page (view keeper)
+pub can_drop : (e : Engine) (keeper : Pass) → IsDropper e keeper → CanDropAll no_roots (view keeper)
 can_drop e keeper can = record {
   bare = can.bare;
   ways = can.ways;
@@ -30,7 +27,7 @@ can_drop e keeper can = record {
 }
 
 pub keeps_on : (e : Engine) (keeper later : Pass) (tally : Dropped) → IsDropper e keeper → IsPassOf e later
-    → HasDroppedAll no_page (view keeper) tally (view later) → IsDropper e later
+    → HasDroppedAll no_roots (view keeper) tally (view later) → IsDropper e later
 keeps_on e keeper later tally can of h = record {
   keeps = record { of = of; role = ap (λ (v : View). v.role) h.is ∙ can.keeps.role };
   bare = record {

@@ -1,9 +1,9 @@
--- The root of an array without a page stands, whatever its size.
+-- The root of an array without a page stands, whatever its size, and so does a tree's.
 use Rattle.std.proofs.Common.{◌≡◌, ℕ, zero, suc, ◌+◌, ◌-◌, ◌/◌, ◌≤◌, true, false, List, [], refl, sym, subst, arith}
 use Rattle.std.specs.Prelude.{nat_le, cond}
 use Rattle.std.specs.List.{AllByRecursion}
 use Rattle.std.proofs.lemmas.Bool.Decides.{nat_tests}
-use Rattle.serial_model.specs.declared.decl.Decl.TheVariants.{Array}
+use Rattle.serial_model.specs.declared.decl.Decl.TheVariants.{Array, Tree}
 use Rattle.snapshot_store.specs.declared.place.PagePlace.{PagePlace}
 use Rattle.snapshot_store.specs.ArrayPages.{fan, leaf_room, row, array_below, array_format, IsArrayPage}
 use Rattle.snapshot_store.specs.Content.{deepest, root_place, RootStands}
@@ -115,3 +115,18 @@ root_stands size =
 pub no_leads : (size d : ℕ) → led_places (Array 1 size) [] d (root_place (Array 1 size) 0) ≡ []
 no_leads size zero = refl
 no_leads size (suc d) = refl
+
+-- ---- a tree
+
+pub tree_stands : RootStands [] (record { decl = Tree 2; root = 0 })
+unfolding deepest
+tree_stands = record {
+  there = omega arith;
+  right = record { none = λ _. refl; page = λ some. absurd (omega (arith, some)) };
+  tiles = tt;
+  below = tt;
+}
+
+pub tree_leads : (d : ℕ) → led_places (Tree 2) [] d (root_place (Tree 2) 0) ≡ []
+tree_leads zero = refl
+tree_leads (suc d) = refl

@@ -4,3 +4,4 @@ mod KeyLaws
 mod OpeningLaws
 mod SeatLaws
 mod DropLaws
+mod OverLaws

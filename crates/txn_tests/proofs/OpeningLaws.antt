@@ -2,11 +2,12 @@
 use Rattle.std.proofs.Common.{◌≡◌, ℕ, zero, suc, ◌+◌, ◌<◌, ◌≤◌, List, [], ◌∷◌, ◌++◌, refl, sym, ap, ◌∙◌, subst, arith}
 use Rattle.std.specs.Prelude.{get_or, replicate}
 use Rattle.serial_model.specs.Decls.{AreDecls}
+use Rattle.serial_model.specs.declared.decl.Decl.TheVariants.{Tree}
 use Rattle.serial_model.specs.declared.number.Number.{Number}
-use Rattle.snapshot_store.specs.Content.{deepest}
+use Rattle.snapshot_store.specs.Content.{deepest, root_place}
 use Rattle.views.specs.Sums.{times}
 use Rattle.commit_core.specs.Opening.{fresh_seat}
-use Rattle.engine_rule.specs.Reading.{IsOpening, RecordsAreBelow}
+use Rattle.engine_rule.specs.Reading.{led_places, named_places, storages, IsOpening, RecordsAreBelow}
 use Rattle.engine_pages.specs.declared.engine.Engine.{Engine}
 use Rattle.engine_pages.specs.declared.layout.Layout.{Layout}
 use Rattle.engine_pages.specs.declared.view.View.{View}
@@ -15,31 +16,35 @@ use Rattle.engine_pages.specs.Views.{bare_seat, opening_view, IsResting}
 use Rattle.page_opening.specs.Making.{CanMake}
 use Rattle.page_drops.specs.Calls.{IsBare}
 use Rattle.txn_tests.specs.declared.worker.Plan.{Plan}
-use Rattle.txn_tests.specs.Standing.{blank, declared, CanSeat, IsPlan, IsSize}
-use Rattle.txn_tests.proofs.EmptyLaws.{no_leads, root_stands}
+use Rattle.txn_tests.specs.Standing.{blank, declared, no_roots, CanSeat, IsPlan, IsSize}
+use Rattle.txn_tests.proofs.EmptyLaws.{no_leads, root_stands, tree_leads, tree_stands}
 
 pub are_declared : (size : ℕ) → IsSize size → AreDecls (declared size)
 are_declared size is = record {
   few = omega arith;
-  each = ((omega arith, is.0, is.1), tt);
-  distinct = (tt, tt);
+  each = ((omega arith, is.0, is.1), (omega arith, tt));
+  distinct = ((λ same. omega (arith, same), tt), (tt, tt));
 }
 
+no_places : (size : ℕ) → named_places [] (storages (declared size) no_roots) ≡ []
+no_places size =
+    ap (λ l. l ++ (led_places (Tree 2) [] deepest (root_place (Tree 2) 0) ++ [])) (no_leads size deepest)
+    ∙ ap (λ l. l ++ []) (tree_leads deepest)
+
 opens_blank : (p : Plan) → IsPlan p
-    → IsOpening [] (declared p.size) (0 ∷ []) (record { epoch = 1; draw = p.draw })
+    → IsOpening [] (declared p.size) no_roots (record { epoch = 1; draw = p.draw })
 opens_blank p is = record {
   few = omega arith;
   declared = are_declared p.size is.size;
   each = refl;
-  stand = (root_stands p.size, tt);
+  stand = (root_stands p.size, (tree_stands, tt));
   number = record {
     some_epoch = omega arith;
     most_epoch = omega arith;
     some_draw = is.first;
     most_draw = is.draw;
   };
-  below = subst (RecordsAreBelow (record { epoch = 1; draw = p.draw }) [])
-      (sym (ap (λ l. l ++ []) (no_leads p.size deepest))) tt;
+  below = subst (RecordsAreBelow (record { epoch = 1; draw = p.draw }) []) (sym (no_places p.size)) tt;
 }
 
 can_make : (p : Plan) → IsPlan p → CanMake (blank p)

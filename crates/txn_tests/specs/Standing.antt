@@ -4,7 +4,7 @@ use Rattle.std.specs.Prelude.{⊤}
 use Rattle.std.specs.List.{AllByRecursion}
 use Rattle.serial_model.specs.Decls.{AreDecls}
 use Rattle.serial_model.specs.declared.decl.Decl.{Decl}
-use Rattle.serial_model.specs.declared.decl.Decl.TheVariants.{Array}
+use Rattle.serial_model.specs.declared.decl.Decl.TheVariants.{Array, Tree}
 use Rattle.serial_model.specs.declared.key.Key.{Key}
 use Rattle.commit_core.specs.declared.seat.Stage.TheVariants.{Idle}
 use Rattle.views.specs.Sums.{times}
@@ -47,13 +47,17 @@ pub record IsPlan (p : Plan) : Type 0 where
   pub first : 1 ≤ p.draw
   pub draw : p.draw < 2 ^ 40
 
--- one array, storage 1, with so many values
+-- one array, storage 1, with so many values, and a tree, storage 2
 abbrev pub declared : ℕ → List Decl
-declared size = Array 1 size ∷ []
+declared size = Array 1 size ∷ Tree 2 ∷ []
 
--- an engine of it begins in epoch 1 and without a page
+-- neither has a page
+abbrev pub no_roots : List ℕ
+no_roots = 0 ∷ 0 ∷ []
+
+-- an engine of them begins in epoch 1 and without a page
 abbrev pub blank : Plan → Layout
-blank p = layout_of (record { epoch = 1; draw = p.draw }) (declared p.size) (0 ∷ []) p.slots 0 []
+blank p = layout_of (record { epoch = 1; draw = p.draw }) (declared p.size) no_roots p.slots 0 []
 
 -- ---- a transaction by hand, which writes the first key
 
@@ -129,7 +133,7 @@ pub record IsKeeper (e : Engine) (keeper : Pass) : Type 0 where
   pub of : IsPassOf e keeper
   pub role : (view keeper).role ≡ roles.Keeper
 
--- The same, where it holds nothing, so that it may drop pages of the one array.
+-- The same, where it holds nothing, so that it may drop pages of the array.
 pub record IsDropper (e : Engine) (keeper : Pass) : Type 0 where
   pub keeps : IsKeeper e keeper
   pub bare : IsBare (view keeper)

@@ -1,10 +1,10 @@
 //! Schedules of transactions, worked by hand, made from numbers and run in threads.
 //!
-//! Promises: `Workers` has an engine with one array, storage 1, the keeper's pass and at most eight workers. It makes
-//! their calls in whatever order they are asked for; one that may not be made where a worker's transaction stands is
-//! answered `Wrong`, and is not made (`AreWorkers`). Between them the keeper may take pages out of memory. `Hands` is
-//! the same of slots alone: passes that are given slots, publish them, give them up, and hold them (`AreHands`). So
-//! tests ask for nothing, and are proved in seconds.
+//! Promises: `Workers` has an engine with one array, storage 1, and a tree, storage 2, the keeper's pass and at most
+//! eight workers. It makes their calls in whatever order they are asked for; one that may not be made where a worker's
+//! transaction stands is answered `Wrong`, and is not made (`AreWorkers`). Between them the keeper may take pages of the
+//! array out of memory. `Hands` is the same of slots alone: passes that are given slots, publish them, give them up, and
+//! hold them (`AreHands`). So tests ask for nothing, and are proved in seconds.
 //! Terms: *call*, what a worker is asked for; *phase*, where its transaction stands; *hold*, to lock key 0 by hand;
 //! *hand*, a pass that has one slot at most, and holds one at most.
 //! It stands above the crates that it tests, because a crate with tests is proved a second time; and all but the types

@@ -10,8 +10,9 @@ use engine_pages::{Engine, RefusalCause};
 use page_drops::Kept;
 use serial_model::{Change, Key, Verdict};
 use std::thread::yield_now;
+use tree_writes::write;
 
-/// What a worker is asked for. Keys are those of storage 1, each modulo the size of the array.
+/// What a worker is asked for. Keys are those of the array, each modulo its size, but where the tree is named.
 #[derive(Clone, Copy, Debug, PartialEq, Eq)]
 pub enum Call {
     Begin,
@@ -19,6 +20,8 @@ pub enum Call {
     Write(u64, u64),
     Add(u64, u64),
     Take(u64, u64),
+    /// Writes a key of the tree.
+    Grow(u64, u64),
     /// With the writes, or without them.
     Commit(bool),
     Abort,
@@ -116,6 +119,7 @@ impl Worker {
             Call::Write(k, value) => self.write(engine, k, value),
             Call::Add(k, amount) => self.add(engine, k, amount),
             Call::Take(k, amount) => self.take(engine, k, amount),
+            Call::Grow(k, value) => self.grow(engine, k, value),
             Call::Commit(keep) => self.commit(engine, keep),
             Call::Abort => self.abort(engine),
             _ => Answer::Wrong,
@@ -194,6 +198,21 @@ impl Worker {
             .take(engine, &mut self.pass, key_of(self.size, k), amount)
         {
             Ok(verdict) => answer_of(verdict),
+            Err(why) => {
+                self.phase = Phase::Over;
+                Answer::No(why)
+            }
+        }
+    }
+
+    fn grow(&mut self, engine: &Engine, k: u64, value: u64) -> Answer
+        requires stands { Stands engine.now self.old }
+        requires live { self.old.phase ≡ phases.Live }
+        ensures { Stands engine.now self.new }
+    {
+        let key = Key { storage: 2, key: k };
+        match write(engine, &mut self.pass, &mut self.txn.sets, key, value) {
+            Ok(()) => Answer::Fine,
             Err(why) => {
                 self.phase = Phase::Over;
                 Answer::No(why)

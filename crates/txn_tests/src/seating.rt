@@ -41,8 +41,9 @@ fn new_start(alloc: Global, plan: Plan) -> Result<Start, Memory>
         id: 1,
         size: plan.size,
     };
-    let decls = Sequence::from_slice(alloc, &[array])?;
-    let roots = Sequence::from_slice(alloc, &[0])?;
+    let tree = Decl::Tree { id: 2 };
+    let decls = Sequence::from_slice(alloc, &[array, tree])?;
+    let roots = Sequence::from_slice(alloc, &[0, 0])?;
     let first = Number {
         epoch: 1,
         draw: plan.draw,
@@ -86,10 +87,10 @@ pub(crate) fn hand_next(engine: &Engine, keeper: &mut Pass, number: u8, size: u3
     }
 }
 
-/// Takes the pages that are what the newest snapshot has, which has none of the array, out of memory.
+/// Takes the pages that are what the newest snapshot has, which has none, out of memory.
 pub(crate) fn drop_pages(engine: &Engine, keeper: &mut Pass) -> Dropped
     requires { IsDropper engine.now keeper.old }
     ensures { IsDropper engine.now keeper.new }
 {
-    drop_all(engine, keeper, &[0])
+    drop_all(engine, keeper, &[0, 0])
 }

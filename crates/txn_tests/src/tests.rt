@@ -258,18 +258,20 @@ fn changes_stand_in_order_of_key(rt: HostRuntime) -> Result<(), Fail> {
     Ok(())
 }
 
-// Begins, and makes a call for each of the first keys, a read or an addition. Answers the last answer, or a refusal.
-fn many(workers: &mut Workers, count: u64, reads: bool) -> Answer {
+// The same call at another key.
+fn at_key(call: Call, k: u64) -> Call {
+    match call {
+        Call::Add(_, v) => Call::Add(k, v),
+        Call::Grow(_, v) => Call::Grow(k, v),
+        _ => Call::Read(k),
+    }
+}
+
+// Begins, and makes the call for each of the first keys. Answers the last answer: behind a refusal each is `Wrong`.
+fn many(workers: &mut Workers, count: u64, call: Call) -> Answer {
     let mut last = workers.play(0, Call::Begin);
     for k in 0..count {
-        last = workers.play(
-            0,
-            if reads {
-                Call::Read(k)
-            } else {
-                Call::Add(k, 7)
-            },
-        );
+        last = workers.play(0, at_key(call, k));
     }
     last
 }
@@ -282,13 +284,23 @@ const fn wide(set: SetName) -> Answer {
 fn sets_are_full_at_16_and_256(rt: HostRuntime) -> Result<(), Fail> {
     let mut workers = Workers::new(rt.alloc(), plan(1), 1)?;
     bring_up(&mut workers, 256);
-    assert_eq!(rt; many(&mut workers, 16, false), Answer::Fine);
+    assert_eq!(rt; many(&mut workers, 16, Call::Add(0, 7)), Answer::Fine);
     assert_eq!(rt; workers.play(0, Call::Commit(true)), Answer::Draw(1));
-    assert_eq!(rt; many(&mut workers, 17, false), wide(SetName::Writes));
-    assert_eq!(rt; many(&mut workers, 256, true), Answer::Value(0));
+    assert_eq!(rt;
+        many(&mut workers, 17, Call::Add(0, 7)),
+        wide(SetName::Writes)
+    );
+    assert_eq!(rt;
+        many(&mut workers, 17, Call::Grow(0, 7)),
+        wide(SetName::Writes)
+    );
+    assert_eq!(rt; many(&mut workers, 256, Call::Read(0)), Answer::Value(0));
     assert_eq!(rt; workers.play(0, Call::Read(3)), Answer::Value(7));
     assert_eq!(rt; workers.play(0, Call::Commit(true)), Answer::Draw(2));
-    assert_eq!(rt; many(&mut workers, 257, true), wide(SetName::Reads));
+    assert_eq!(rt;
+        many(&mut workers, 257, Call::Read(0)),
+        wide(SetName::Reads)
+    );
     Ok(())
 }
 

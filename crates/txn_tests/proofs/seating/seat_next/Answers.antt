@@ -3,7 +3,7 @@ use Rattle.serial_model.specs.Decls.{AreDecls}
 use Rattle.engine_pages.specs.declared.view.View.{View}
 use Rattle.engine_pages.specs.Passes.{view}
 use Rattle.page_commit.specs.Live.{IsOver}
-use Rattle.tx_runner.specs.OwnThreads.{seat_over}
+use Rattle.txn_tests.proofs.OverLaws.{seat_over}
 use Rattle.txn_tests.proofs.OpeningLaws.{are_declared}
 use Rattle.txn_tests.proofs.SeatLaws.{seats_next}
 use Rattle.txn_tests.proofs.seating.seat_next.Goals as goal

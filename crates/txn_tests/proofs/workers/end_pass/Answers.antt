@@ -1,5 +1,5 @@
 use Rattle.engine_pages.specs.Passes.{view}
-use Rattle.tx_runner.specs.OwnThreads.{over_done}
+use Rattle.txn_tests.proofs.OverLaws.{over_done}
 use Rattle.txn_tests.proofs.workers.end_pass.Goals as goal
 
 pub end-requires-clause-over : goal.end-requires-clause-over

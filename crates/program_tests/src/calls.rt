@@ -70,7 +70,7 @@ const CALLS: [(First, &str); 42] = [
     (First::Fresh, drops::GIVEN_AGAIN),
     (First::Fresh, trees::A_LEAF_EACH),
     (First::Fresh, trees::SPLIT),
-    (First::Fresh, trees::KEPT),
+    (First::Fresh, trees::OF_CHAINS),
     (First::Fresh, trees::ENDED_BY_ITS_OWN),
 ];
 

@@ -2,12 +2,16 @@
 use super::*;
 
 // The first key of a tree takes a slot, reads take none. Slots of leaves that are what the snapshot has are given again.
+// To remove a key that isn't there adds none, and so splits no leaf.
 pub(super) const A_LEAF_EACH: &str = "\
 run --slots 4 # tree 1|tree 2|tree 3|tree 4|tree 5|0 w 1 1 1; w 2 1 2; w 3 1 3; w 4 1 4|0 r 5 1; r 4 1|0 w 5 1 1|\
 0 w 4 2 2; s 4 0 9|join|k glean|k drop|join|0 w 5 1 5; r 1 1|join|k glean|k drop # 0 # 0.0 ok 1:1|0.1 ok 1:2 - 4|\
 0.2 full|0.3 ok 1:3 1=4,2=2|durable 1|k.0 snap 1 new 5|k.1 drop 4 kept 0|durable 2|0.0 ok 3:4 1|durable 3|\
 k.0 snap 3 new 2|k.1 drop 1 kept 0|durable 4|
 dump # # 0 # epoch 4|1 1 1|2 1 2|3 1 3|4 1 4|4 2 2|5 1 5|
+run # tree 1|tree 2|tree 3|tree 4|tree 5|0 w 1 2 1; w 1 3 1; w 1 4 1; w 1 5 1; w 1 6 1; w 1 7 1; w 1 8 1; w 1 9 1; \
+w 1 10 1; w 1 11 1; w 1 12 1; w 1 13 1; w 1 14 1; w 1 15 1; w 1 16 1|0 d 1 99; d 1 0; s 1 15 99|join|k glean|k drop # 0 # \
+0.0 ok 5:1|0.1 ok 5:2 15=1,16=1|durable 5|k.0 snap 5 new 2|k.1 drop 1 kept 0|durable 6|
 ";
 
 // The seventeenth key splits a leaf in two, and takes two slots, as the twenty-fifth would. Records of removed keys are
@@ -24,15 +28,25 @@ run --slots 4 # tree 2|1 s 2 0 24; s 2 20 99 # 0 # 1.0 ok 3:1 3=33,4=4,5=5,6=6,7
 15=15,16=16,17=17,18=18 20=20,21=21,22=22,23=23,24=24,25=25|durable 3|
 ";
 
-// A leaf that was split stays in memory with its halves, though the snapshot has what they have: they count as one page.
-pub(super) const KEPT: &str = "\
+// A leaf that was split is taken out of memory with its halves where the snapshot has what they have, and else stays
+// with them: each page counts. What the snapshot has may lie in a leaf, or below a page above leaves; a value or an
+// absence that is newer keeps all.
+pub(super) const OF_CHAINS: &str = "\
 run # tree 2|0 w 2 1 1; w 2 2 2; w 2 3 3; w 2 4 4; w 2 5 5; w 2 6 6; w 2 7 7; w 2 8 8; w 2 9 9; w 2 10 10; w 2 11 11; \
-w 2 12 12; w 2 13 13; w 2 14 14; w 2 15 15; w 2 16 16|0 w 2 17 17|join|k glean|join|k drop|0 s 2 8 10 # 0 # 0.0 ok 1:1|\
-0.1 ok 1:2|durable 1|k.0 snap 1 new 4|durable 2|0.0 ok 3:3 8=8,9=9,10=10|k.0 drop 0 kept 1|durable 3|
+w 2 12 12; w 2 13 13; w 2 14 14; w 2 15 15; w 2 16 16|0 w 2 17 17|join|k glean|join|k drop # 0 # 0.0 ok 1:1|0.1 ok 1:2|\
+durable 1|k.0 snap 1 new 4|durable 2|k.0 drop 3 kept 0|durable 3|
 run # tree 2|0 w 2 3 4|0 w 2 17 5|k drop|join|k glean|k drop|join|0 s 2 1 3; s 2 16 18 # 0 # 0.0 ok 4:1|0.1 ok 4:2|\
 k.0 drop 0 kept 3|durable 4|k.0 snap 4 new 4|k.1 drop 3 kept 0|durable 5|0.0 ok 6:3 1=1,2=2,3=4 16=16,17=5|durable 6|
 run # tree 2|0 w 2 3 4|k drop|join|k glean|0 a 2 3 1|k drop|join|0 s 2 3 4 # 0 # 0.0 ok 7:1|k.0 drop 0 kept 2|durable 7|\
 0.0 ok 8:2|k.0 snap 7 new 3|k.1 drop 0 kept 2|durable 8|0.0 ok 9:3 3=5,4=4|durable 9|
+run # tree 2|0 w 2 18 1; w 2 19 1; w 2 20 1; w 2 21 1; w 2 22 1; w 2 23 1; w 2 24 1; w 2 25 1|0 d 2 18; d 2 19|\
+0 w 2 26 1|k drop|join|k glean|k drop|join|0 s 2 16 30 # 0 # 0.0 ok 10:1|0.1 ok 10:2|0.2 ok 10:3|k.0 drop 0 kept 4|\
+durable 10|k.0 snap 10 new 3|k.1 drop 4 kept 0|durable 11|0.0 ok 12:4 16=16,17=5,20=1,21=1,22=1,23=1,24=1,25=1,26=1|\
+durable 12|
+run # tree 2|0 w 2 27 1; w 2 28 1|join|0 a 2 10 1|k glean|k drop|join|0 d 2 28|k glean|k drop|join|k glean|k drop|join|\
+0 s 2 10 11; s 2 26 30 # 0 # 0.0 ok 13:1|durable 13|0.0 ok 14:2|k.0 snap 13 new 5|k.1 drop 0 kept 4|durable 14|\
+0.0 ok 15:3|k.0 snap 14 new 4|k.1 drop 0 kept 4|durable 15|k.0 snap 15 new 4|k.1 drop 4 kept 0|durable 16|\
+0.0 ok 17:4 10=11,11=11 26=1,27=1|durable 17|
 ";
 
 // A pass of its own that a try changes ends it: what was read below a pointer that then leads to a page, and the header
@@ -61,10 +75,14 @@ const ASCENDING: [(&str, u64, &str); 4] = [
     ("run --slots 4", 24, "full"),
 ];
 
+// Keys come from below this number, each so far behind the one before.
+const SPREAD: u64 = 4_099;
+
 // Lines that write so many keys, one after another, and others behind them.
-fn ascending(alloc: Global, more: &str) -> Result<String, AllocError> {
+fn writes(alloc: Global, (keys, step): (u64, u64), more: &str) -> Result<String, AllocError> {
     let mut script = String::from_str(alloc, "tree 2\n")?;
-    for key in 0..KEYS {
+    for line in 0..keys {
+        let key = line.wrapping_mul(step) % SPREAD;
         let line = format!(in alloc; "0 w 2 {key} 1\n")?;
         script.push_str(line.as_str())?;
     }
@@ -72,10 +90,14 @@ fn ascending(alloc: Global, more: &str) -> Result<String, AllocError> {
     Ok(script)
 }
 
-// What is told where the first so many commit.
-fn told_ascending(alloc: Global, commits: u64, refused: &str) -> Result<String, AllocError> {
+// What is told of them where the first so many commit.
+fn told_writes(
+    alloc: Global,
+    keys: u64,
+    (commits, refused): (u64, &str),
+) -> Result<String, AllocError> {
     let mut text = String::new(alloc);
-    for line in 0..KEYS {
+    for line in 0..keys {
         let told = if line < commits {
             format!(in alloc; "0.{line} ok 1:{}\n", line.wrapping_add(1))?
         } else {
@@ -87,17 +109,28 @@ fn told_ascending(alloc: Global, commits: u64, refused: &str) -> Result<String, 
 }
 
 // Runs them, and what stands behind them, over a fresh database.
-fn check_ascending<R: Threads + Wait + Sync + AllocGlobal>(
+fn check_writes<R: Threads + Wait + Sync + AllocGlobal>(
     rt: &R,
-    (asked, commits, refused): (&str, u64, &str),
+    asked: &str,
+    (keys, step): (u64, u64),
+    came: (u64, &str),
     (more, more_told): (&str, &str),
 ) -> Result<(), Fail> {
     let mut vault = fresh_vault(rt.alloc())?;
-    let script = ascending(rt.alloc(), more)?;
-    let mut told = told_ascending(rt.alloc(), commits, refused)?;
+    let script = writes(rt.alloc(), (keys, step), more)?;
+    let mut told = told_writes(rt.alloc(), keys, came)?;
     told.push_str(more_told)?;
     let wanted = (0, told.as_bytes());
     check_answer(rt, &mut vault, asked, script.as_bytes(), wanted)
+}
+
+// The same of keys in ascending order.
+fn check_ascending<R: Threads + Wait + Sync + AllocGlobal>(
+    rt: &R,
+    (asked, commits, refused): (&str, u64, &str),
+    behind: (&str, &str),
+) -> Result<(), Fail> {
+    check_writes(rt, asked, (KEYS, 1), (commits, refused), behind)
 }
 
 #[test]
@@ -145,6 +178,48 @@ fn lines_that_meet_too_much_are_wide(rt: HostRuntime) -> Result<(), Fail> {
     check_ascending(&rt, ASCENDING[0], (BEHIND, BEHIND_TOLD))
 }
 
+// How many keys, how far each is behind the one before, how many new pages the snapshot of them has, and what a drop
+// tells then of the leaf with all that came of it, 1, 3, 61, 63 or 65 pages: of keys in ascending order, in descending
+// order, and mixed. A split makes two pages more, so there are no other counts; more than 63 stay.
+const CHAINS: [(u64, u64, u64, &str); 10] = [
+    (16, 1, 2, "drop 1 kept 0"),
+    (17, 1, 4, "drop 3 kept 0"),
+    (249, 1, 18, "drop 61 kept 0"),
+    (257, 1, 19, "drop 63 kept 0"),
+    (265, 1, 19, "drop 0 kept 65"),
+    (17, 4_098, 4, "drop 3 kept 0"),
+    (287, 4_098, 20, "drop 63 kept 0"),
+    (296, 4_098, 21, "drop 0 kept 65"),
+    (399, 1_597, 27, "drop 63 kept 0"),
+    (416, 1_597, 28, "drop 0 kept 65"),
+];
+
+// The first and the last key are read behind the drop, and another one is written.
+fn check_chain<R: Threads + Wait + Sync + AllocGlobal>(
+    rt: &R,
+    (keys, step, new, dropped): (u64, u64, u64, &str),
+) -> Result<(), Fail> {
+    let alloc = rt.alloc();
+    let last = keys.wrapping_sub(1).wrapping_mul(step) % SPREAD;
+    let more = format!(in alloc;
+        "join\nk glean\njoin\nk drop\njoin\n0 r 2 0; r 2 {last}; w 2 5000 1\n"
+    )?;
+    let draw = keys.wrapping_add(1);
+    let told = format!(in alloc;
+        "durable 1\nk.0 snap 1 new {new}\ndurable 2\nk.0 {dropped}\ndurable 3\n0.0 ok 4:{draw} 1 1\ndurable 4\n"
+    )?;
+    let behind = (more.as_str(), told.as_str());
+    check_writes(rt, "run", (keys, step), (keys, ""), behind)
+}
+
+#[test]
+fn chains_of_63_pages_are_dropped(rt: HostRuntime) -> Result<(), Fail> {
+    for row in &CHAINS {
+        check_chain(&rt, *row)?;
+    }
+    Ok(())
+}
+
 // The same keys over several runs, of which each begins without leaves that were split in memory.
 fn next_run(alloc: Global, first: u64, count: u64) -> Result<String, AllocError> {
     let mut script = String::from_str(alloc, "tree 2\n")?;
@@ -185,4 +260,36 @@ run # tree 2|0 s 2 998 1001 # 0 # 0.0 ok 6:1 998=1,1001=1|durable 6|
 fn a_later_run_begins_without_chains(rt: HostRuntime) -> Result<(), Fail> {
     let mut vault = fresh_vault(rt.alloc())?;
     check_runs(&rt, &mut vault)
+}
+
+// Lines that write 64 keys of a part of their own.
+fn add_part(alloc: Global, script: &mut String, round: u64) -> Result<(), AllocError> {
+    let first = (round.wrapping_mul(37) % 101).wrapping_mul(1_000);
+    for line in 0..64u64 {
+        let key = first.wrapping_add(line);
+        let text = format!(in alloc; "{} w 2 {key} {round}\n", line % 8)?;
+        script.push_str(text.as_str())?;
+    }
+    Ok(())
+}
+
+// Rounds of such lines, behind each of which all pages are taken out of memory.
+fn grown_again(alloc: Global, rounds: u64) -> Result<String, AllocError> {
+    let mut script = String::from_str(alloc, "tree 2\n")?;
+    for round in 0..rounds {
+        add_part(alloc, &mut script, round)?;
+        script.push_str("join\nk glean\nk drop\njoin\n")?;
+    }
+    Ok(script)
+}
+
+const GROWN: &[u8] = b"commits 6400\ntotal 316800\ndurable 200\n";
+
+// In all 1,908 pages come into memory, at most 22 of them at once: 13 of one leaf, and those above it.
+#[test]
+fn a_tree_grows_a_hundred_times_in_22_slots(rt: HostRuntime) -> Result<(), Fail> {
+    let script = grown_again(rt.alloc(), 100)?;
+    let mut vault = fresh_vault(rt.alloc())?;
+    let asked = "run --brief --slots 22";
+    check_answer(&rt, &mut vault, asked, script.as_bytes(), (0, GROWN))
 }

@@ -222,13 +222,14 @@ fn mixed(alloc: Global, seed: u64, rounds: u32, count: u32) -> Result<String, Al
     Ok(script)
 }
 
-// Where the clock and the saves stand between two lines of the maintenance thread, and how many pages were dropped, of at
-// most so many at a time.
+// Where the clock and the saves stand between two lines of the maintenance thread, how many pages were dropped, and how
+// many were kept by the last drop, of at most so many at a time.
 #[derive(Clone, Copy)]
 pub(crate) struct KeptSoFar {
     pub(crate) epoch: u32,
     pub(crate) saved: u32,
     pub(crate) dropped: u32,
+    pub(crate) kept: u32,
     pub(crate) pages: u32,
 }
 
@@ -239,6 +240,7 @@ impl KeptSoFar {
             epoch: 1,
             saved: 0,
             dropped: 0,
+            kept: 0,
             pages,
         }
     }
@@ -264,6 +266,7 @@ fn check_keeper(line: &str, so_far: &mut KeptSoFar) -> Result<(), Fail> {
             let kept = words.nth(1).unwrap_or("").parse::<u32>()?;
             is_so(line, number.wrapping_add(kept) <= so_far.pages)?;
             so_far.dropped = so_far.dropped.wrapping_add(number);
+            so_far.kept = kept;
         }
         "snap" | "none" => {}
         _ => return Err(Fail::from(line)),

@@ -44,39 +44,99 @@ fn eight_workers_are_serial_on_a_few_keys(rt: HostRuntime) -> Result<(), Fail> {
 // The lines are on so many keys, for which 25 leaves are the least.
 const KEYS: u64 = 400;
 
-// A line of a worker that changes a key or two, or scans, or both.
-fn tree_line(alloc: Global, seed: &mut u64) -> Result<String, AllocError> {
+// A line of a worker that changes a key or two of a tree, or scans another one, or both.
+fn tree_line(
+    alloc: Global,
+    seed: &mut u64,
+    (tree, other): (u64, u64),
+) -> Result<String, AllocError> {
     let pick = next(seed);
     let (one, two) = (next(seed) % KEYS, next(seed) % KEYS);
     let (worker, more) = (pick % 8, pick % 9);
     let behind = two.wrapping_add(40);
     match pick / 8 % 8 {
-        0 => format!(in alloc; "{worker} w 2 {one} {more}; r 2 {two}\n"),
-        1 => format!(in alloc; "{worker} d 2 {one}; r 2 {two}; r 2 {one}\n"),
-        2 => format!(in alloc; "{worker} d 2 {one}; a 2 {two} {more}\n"),
-        3 => format!(in alloc; "{worker} s 2 {two} {behind}\n"),
-        4 => format!(in alloc; "{worker} s 2 {one} 999; r 2 {two}\n"),
+        0 => format!(in alloc; "{worker} w {tree} {one} {more}; r {other} {two}\n"),
+        1 => format!(in alloc; "{worker} d {tree} {one}; r {other} {two}; r {tree} {one}\n"),
+        2 => format!(in alloc; "{worker} d {tree} {one}; a {other} {two} {more}\n"),
+        3 => format!(in alloc; "{worker} s {other} {two} {behind}\n"),
+        4 => format!(in alloc; "{worker} s {other} {one} 999; r {tree} {two}\n"),
         5 => format!(in alloc;
-            "{worker} s 2 {two} {behind}; w 2 {one} {more}; s 2 {two} {behind}\n"
+            "{worker} s {other} {two} {behind}; w {tree} {one} {more}; s {other} {two} {behind}\n"
         ),
-        6 => format!(in alloc; "{worker} r 2 {one}; w 2 {one} {more}; d 2 {two}; s 2 0 {one}\n"),
-        _ => format!(in alloc; "{worker} t 2 {one} 1; w 2 {two} {more}\n"),
+        6 => format!(in alloc;
+            "{worker} r {tree} {one}; w {tree} {one} {more}; d {tree} {two}; s {other} 0 {one}\n"
+        ),
+        _ => format!(in alloc; "{worker} t {other} {one} 1; w {tree} {two} {more}\n"),
     }
 }
 
-// Adds so many such lines to a script, and lines of the maintenance thread between them where that is asked for.
-fn add_lines(
+const DECLARED: &str = "array 1 3\ntree 2\ntree 3\n";
+
+// A script of so many such lines on one tree.
+fn tree_lines(alloc: Global, seed: u64, count: u32) -> Result<String, AllocError> {
+    let mut seed = seed;
+    let mut script = String::from_str(alloc, DECLARED)?;
+    for _ in 0..count {
+        let line = tree_line(alloc, &mut seed, (2, 2))?;
+        script.push_str(line.as_str())?;
+    }
+    Ok(script)
+}
+
+// Scans beside keys that are added and removed.
+#[test]
+fn scans_meet_no_phantom(rt: HostRuntime) -> Result<(), Fail> {
+    for first in 1..5u64 {
+        let script = tree_lines(rt.alloc(), first, 1_500)?;
+        let _vault = run_checked(&rt, MANY_SLOTS, script.as_bytes())?;
+    }
+    Ok(())
+}
+
+// The keys lie in so many blocks, each of 20 keys, of which eight are there.
+const BLOCKS: u64 = 20;
+
+// A line of a worker that removes the keys of a block that are there, and adds eight others: a leaf gets more than
+// sixteen records, and the snapshot's has no more keys than before.
+fn block_line(
+    alloc: Global,
+    seed: &mut u64,
+    tree: u64,
+    (block, turn): (u64, u64),
+) -> Result<String, AllocError> {
+    let worker = next(seed) % 8;
+    let first = block.wrapping_mul(20);
+    let mut line = format!(in alloc; "{worker} ")?;
+    for place in 0..8u64 {
+        let new = turn.wrapping_mul(8).wrapping_add(place);
+        let old = first.wrapping_add(new.wrapping_add(12) % 20);
+        let new = first.wrapping_add(new % 20);
+        let end = if place < 7 { "; " } else { "\n" };
+        let text = format!(in alloc; "d {tree} {old}; w {tree} {new} {turn}{end}")?;
+        line.push_str(text.as_str())?;
+    }
+    Ok(line)
+}
+
+// Adds a round's lines to a script: one tree's keys change, block by block, and there and in the other tree others
+// read, scan and write. Lines of the maintenance thread take pages of the round before out of memory meanwhile.
+fn add_round(
     alloc: Global,
     script: &mut String,
     seed: &mut u64,
-    count: u32,
-    is_kept: bool,
+    round: u64,
 ) -> Result<(), AllocError> {
-    for _ in 0..count {
-        let line = tree_line(alloc, seed)?;
+    let tree = round % 2;
+    let trees = (tree.wrapping_add(2), 3u64.wrapping_sub(tree));
+    script.push_str("k glean\nk drop\n")?;
+    for block in 0..BLOCKS {
+        let line = tree_line(alloc, seed, trees)?;
+        script.push_str(line.as_str())?;
+        let block = block.wrapping_mul(7) % BLOCKS;
+        let line = block_line(alloc, seed, trees.0, (block, round / 2))?;
         script.push_str(line.as_str())?;
         let pick = next(seed);
-        if is_kept && pick % 16 == 0 {
+        if pick % 16 == 0 {
             script.push_str(KEEPER_LINES[pick as usize / 16 % 8])?;
             script.push('\n')?;
         }
@@ -84,35 +144,23 @@ fn add_lines(
     Ok(())
 }
 
-const DECLARED: &str = "array 1 3\ntree 2\n";
-
-// Scans beside keys that are added and removed.
-#[test]
-fn scans_meet_no_phantom(rt: HostRuntime) -> Result<(), Fail> {
-    for first in 1..5u64 {
-        let mut seed = first;
-        let mut script = String::from_str(rt.alloc(), DECLARED)?;
-        add_lines(rt.alloc(), &mut script, &mut seed, 1_500, false)?;
-        let _vault = run_checked(&rt, MANY_SLOTS, script.as_bytes())?;
-    }
-    Ok(())
-}
-
-// Two rounds in which no worker has a line: behind them the newest snapshot has all that was committed, and pages of
-// leaves that weren't split are taken out of memory.
+// Two rounds in which no worker has a line: behind them the newest snapshot has all that was committed, and no page
+// stays in memory.
 const QUIET: &str = "join\nk glean\njoin\nk glean\nk drop\njoin\n";
 
-// A script of rounds with lines of the maintenance thread at random places, and such rounds between them.
-fn kept_rounds(alloc: Global, seed: &mut u64, rounds: u32) -> Result<String, AllocError> {
+// A script of such rounds. Behind the first round of each tree, which is one leaf with all that came of it, and behind
+// the last one all pages are taken out of memory.
+fn kept_rounds(alloc: Global, seed: &mut u64, rounds: u64) -> Result<String, AllocError> {
     let mut script = String::from_str(alloc, DECLARED)?;
-    for _ in 0..rounds {
-        add_lines(alloc, &mut script, seed, 200, true)?;
-        script.push_str(QUIET)?;
+    for round in 0..rounds {
+        add_round(alloc, &mut script, seed, round)?;
+        script.push_str(if round < 2 { QUIET } else { "join\n" })?;
     }
+    script.push_str(QUIET)?;
     Ok(script)
 }
 
-// Runs a script over a database that keeps what the model has.
+// Runs a script over a database that keeps what the model has. In the end no page is kept in memory.
 fn run_over<R: Threads + Wait + Sync + AllocGlobal>(
     rt: &R,
     vault: &mut Vault<MemDisk>,
@@ -122,7 +170,9 @@ fn run_over<R: Threads + Wait + Sync + AllocGlobal>(
     let Ok(script) = read_script(rt.alloc(), bytes) else {
         return Err(Fail::from("no script"));
     };
-    run_next(rt, vault, (MANY_SLOTS, bytes), &script, plain, so_far)
+    let (plain, so_far) = run_next(rt, vault, (MANY_SLOTS, bytes), &script, plain, so_far)?;
+    is_so("no page is kept", so_far.kept == 0)?;
+    Ok((plain, so_far))
 }
 
 // What the model has before the first run.
@@ -133,19 +183,20 @@ fn nothing_yet(alloc: Global) -> Result<Plain, Fail> {
     Ok(Plain::new(alloc, script.decls())?)
 }
 
-// Three runs over one database, of which each but the first begins with the pages of a snapshot.
+// Three runs over one database, of which each but the first begins with the pages of a snapshot. One after another they
+// drop some 450 leaves that were split, with their halves, of some 2,500 pages.
 fn check_kept<R: Threads + Wait + Sync + AllocGlobal>(rt: &R, seed: u64) -> Result<(), Fail> {
     let alloc = rt.alloc();
     let mut seed = seed;
     let mut vault = fresh_vault(alloc)?;
-    let first = kept_rounds(alloc, &mut seed, 5)?;
+    let first = kept_rounds(alloc, &mut seed, 20)?;
     let model = (nothing_yet(alloc)?, KeptSoFar::fresh(4_096));
     let model = run_over(rt, &mut vault, first.as_bytes(), model)?;
-    let second = kept_rounds(alloc, &mut seed, 5)?;
+    let second = kept_rounds(alloc, &mut seed, 20)?;
     let model = run_over(rt, &mut vault, second.as_bytes(), model)?;
-    let third = kept_rounds(alloc, &mut seed, 5)?;
+    let third = kept_rounds(alloc, &mut seed, 20)?;
     let (_plain, so_far) = run_over(rt, &mut vault, third.as_bytes(), model)?;
-    is_so("pages were dropped", so_far.dropped > 0)
+    is_so("pages were dropped", so_far.dropped > 500)
 }
 
 #[test]

@@ -1,4 +1,5 @@
 // Full sets, and writes in order.
+use super::checks::is_so;
 use serial_model::Key;
 use std::test::Fail;
 use tx_sets::{HeaderSet, ReadEntry, ReadSet, Seen, Sets, Write, WriteSet};
@@ -31,16 +32,13 @@ fn word_of(reads: &ReadSet, key: u64) -> Option<u64> {
 }
 
 #[test]
-fn a_read_set_has_room_for_256_records(rt: HostRuntime) -> Result<(), Fail> {
+fn a_read_set_has_room_for_256_records(_rt: HostRuntime) -> Result<(), Fail> {
     let mut sets = Sets::new();
-    let back = refused(&mut sets.reads, 32, 300);
-    assert_eq!(rt; back, 12);
-    assert_eq!(rt; word_of(&sets.reads, 287), Some(7));
-    assert_eq!(rt; word_of(&sets.reads, 288), None);
+    is_so("12 are back", refused(&mut sets.reads, 32, 300) == 12)?;
+    let (last, behind) = (word_of(&sets.reads, 287), word_of(&sets.reads, 288));
+    is_so("the last", (last == Some(7)) & behind.is_none())?;
     sets.clear();
-    let back = refused(&mut sets.reads, 0, 256);
-    assert_eq!(rt; back, 0);
-    Ok(())
+    is_so("room again", refused(&mut sets.reads, 0, 256) == 0)
 }
 
 // Writes the key with its number as the value, unless it is written already.
@@ -64,17 +62,19 @@ fn place_at(writes: &WriteSet, index: usize) -> u32 {
     }
 }
 
+// The writes stand at these records' places.
+fn stand_at(writes: &WriteSet, places: [u32; 4]) -> bool {
+    let first = (place_at(writes, 0) == places[0]) & (place_at(writes, 1) == places[1]);
+    first & (place_at(writes, 2) == places[2]) & (place_at(writes, 3) == places[3])
+}
+
 #[test]
-fn writes_stand_in_ascending_order_of_key(rt: HostRuntime) -> Result<(), Fail> {
+fn writes_stand_in_ascending_order_of_key(_rt: HostRuntime) -> Result<(), Fail> {
     let mut writes = WriteSet::new();
     write(&mut writes, 9, 50);
     write(&mut writes, 3, 38);
     write(&mut writes, 5, 42);
-    assert_eq!(rt; place_at(&writes, 0), 38);
-    assert_eq!(rt; place_at(&writes, 1), 42);
-    assert_eq!(rt; place_at(&writes, 2), 50);
-    assert_eq!(rt; place_at(&writes, 3), 0);
-    Ok(())
+    is_so("the places", stand_at(&writes, [38, 42, 50, 0]))
 }
 
 // Keeps a header with this word, unless it is kept already; else its word is another one from now on.
@@ -87,27 +87,42 @@ fn see(headers: &mut HeaderSet, at: u32, word: u64) {
 }
 
 #[test]
-fn a_renewed_header_has_the_new_word_alone(rt: HostRuntime) -> Result<(), Fail> {
+fn a_renewed_header_has_the_new_word_alone(_rt: HostRuntime) -> Result<(), Fail> {
     let mut headers = HeaderSet::new();
     see(&mut headers, 96, 0x103);
     see(&mut headers, 160, 0x110);
     see(&mut headers, 96, 0x104);
-    assert_eq!(rt; headers.find(96), Some(0x104));
-    assert_eq!(rt; headers.find(160), Some(0x110));
-    assert_eq!(rt; headers.find(97), None);
-    Ok(())
+    let (renewed, other) = (headers.find(96), headers.find(160));
+    is_so(
+        "the words",
+        (renewed == Some(0x104)) & (other == Some(0x110)),
+    )?;
+    is_so("no header", headers.find(97).is_none())
+}
+
+// The record's place of a write, and of a read, of the page that begins with this word; 0 where there is none.
+fn written_in(sets: &Sets, page: u32) -> u32 {
+    match sets.writes.find_in(page) {
+        Some(write) => write.at,
+        None => 0,
+    }
+}
+
+fn read_in(sets: &Sets, page: u32) -> u32 {
+    match sets.reads.find_in(page) {
+        Some(entry) => entry.at,
+        None => 0,
+    }
 }
 
 // The page from 96 on ends with the word 159.
 #[test]
-fn reads_and_writes_of_a_page_are_found_by_its_first_word(rt: HostRuntime) -> Result<(), Fail> {
+fn reads_and_writes_of_a_page_are_found_by_its_first_word(_rt: HostRuntime) -> Result<(), Fail> {
     let mut sets = Sets::new();
     write(&mut sets.writes, 5, 160);
     write(&mut sets.writes, 7, 159);
-    let back = refused(&mut sets.reads, 161, 163);
-    assert_eq!(rt; back, 0);
-    assert_eq!(rt; sets.writes.find_in(96).map(|write| write.at), Some(159));
-    assert_eq!(rt; sets.reads.find_in(96).map(|entry| entry.at), None);
-    assert_eq!(rt; sets.reads.find_in(98).map(|entry| entry.at), Some(161));
-    Ok(())
+    is_so("room", refused(&mut sets.reads, 161, 163) == 0)?;
+    is_so("the write", written_in(&sets, 96) == 159)?;
+    is_so("no read", read_in(&sets, 96) == 0)?;
+    is_so("the read", read_in(&sets, 98) == 161)
 }

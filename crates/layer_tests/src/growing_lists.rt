@@ -1,4 +1,5 @@
 // Lists that grow, and the refusals of memory that `?` turns into one error.
+use super::checks::is_so;
 use lists::{Memory, OrMemory, Sequence};
 use std::alloc::{AllocError, Global};
 use std::collections::{BTreeMap, BTreeSet};
@@ -27,10 +28,11 @@ fn stored(alloc: Global) -> Result<usize, OrMemory<u8>> {
 #[test]
 fn a_list_grows(rt: HostRuntime) -> Result<(), Fail> {
     let mut list = grown(rt.alloc())?;
-    assert_eq!(rt; list.as_slice(), [7, 2, 3, 4, 5].as_slice());
-    assert_eq!(rt; stored(rt.alloc()), Ok(7));
+    is_so("five items", list.as_slice() == [7, 2, 3, 4, 5].as_slice())?;
+    is_so("what is stored", stored(rt.alloc()) == Ok(7))?;
     list.clear();
-    assert!(rt; list.is_empty());
-    assert_eq!(rt; Memory::from(AllocError), Memory);
-    Ok(())
+    is_so(
+        "none",
+        list.is_empty() & (Memory::from(AllocError) == Memory),
+    )
 }

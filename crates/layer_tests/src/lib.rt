@@ -14,6 +14,8 @@
 #[cfg(test)]
 mod call_words;
 #[cfg(test)]
+mod checks;
+#[cfg(test)]
 mod decimal_texts;
 #[cfg(test)]
 mod full_sets;

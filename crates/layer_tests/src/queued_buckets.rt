@@ -1,4 +1,5 @@
 // Buckets of worked log files on their way through two queues.
+use super::checks::is_so;
 use super::mapped_logs::{commit, disk};
 use bucket_queues::{
     BucketQueue, Ends, Mapper, Maps, map_into, open_queue, reduce_from, through_queues,
@@ -9,7 +10,6 @@ use outside::MemDisk;
 use serial_model::{Decl, Key, Number};
 use std::alloc::{AllocError, Global};
 use std::collections::BTreeMap;
-use std::process::Abort;
 use std::sync::Wait;
 use std::sync::atomic::{AtomicBool, AtomicU64, Ordering};
 use std::test::Fail;
@@ -122,16 +122,17 @@ fn one_file<'a>(alloc: Global, bank: u8, decls: &'a [Decl]) -> OneFile<'a> {
     }
 }
 
-fn check_run<R: Threads + Wait + Sync + Abort>(
+// How many buckets are kept back on the way of this run.
+fn kept_back<R: Threads + Wait + Sync>(
     rt: &R,
     alloc: Global,
     storages: u8,
     wanted: [u32; 2],
 ) -> Result<u64, Fail> {
     let (run, kept_back) = run_through(rt, alloc, storages, wanted)?;
-    let run = run.expect(rt, "memory");
+    let run = run.ok_or("memory")?;
     let want = [entry(1, 2, 2), entry(storages, 4, 4), entry(storages, 5, 3)];
-    assert_eq!(rt; run.as_slice(), want.as_slice());
+    is_so("the run", run.as_slice() == want.as_slice())?;
     Ok(kept_back)
 }
 
@@ -140,10 +141,13 @@ fn check_run<R: Threads + Wait + Sync + Abort>(
 #[test]
 fn full_queues_make_the_same_run(rt: HostRuntime) -> Result<(), Fail> {
     let alloc = rt.alloc();
-    assert_eq!(rt; check_run(&rt, alloc, 40, [0, 0])?, 48);
-    check_run(&rt, alloc, 40, [40, 40])?;
-    check_run(&rt, alloc, 40, [40, 0])?;
-    check_run(&rt, alloc, 40, [41, 41])?;
+    is_so(
+        "48 of 40 storages",
+        kept_back(&rt, alloc, 40, [0, 0])? == 48,
+    )?;
+    kept_back(&rt, alloc, 40, [40, 40])?;
+    kept_back(&rt, alloc, 40, [40, 0])?;
+    kept_back(&rt, alloc, 40, [41, 41])?;
     Ok(())
 }
 
@@ -151,10 +155,12 @@ fn full_queues_make_the_same_run(rt: HostRuntime) -> Result<(), Fail> {
 #[test]
 fn none_is_kept_back_while_there_is_room(rt: HostRuntime) -> Result<(), Fail> {
     let alloc = rt.alloc();
-    assert_eq!(rt; check_run(&rt, alloc, 16, [0, 0])?, 0);
-    assert_eq!(rt; check_run(&rt, alloc, 2, [0, 0])?, 0);
-    assert_eq!(rt; check_run(&rt, alloc, 17, [0, 0])?, 2);
-    Ok(())
+    is_so(
+        "none of 16 storages",
+        kept_back(&rt, alloc, 16, [0, 0])? == 0,
+    )?;
+    is_so("none of 2 storages", kept_back(&rt, alloc, 2, [0, 0])? == 0)?;
+    is_so("2 of 17 storages", kept_back(&rt, alloc, 17, [0, 0])? == 2)
 }
 
 // Maps a log file of 15 storages into two queues, and then takes what is in the first one.
@@ -208,8 +214,7 @@ fn taken_after<R: Wait>(rt: &R, alloc: Global) -> Result<usize, AllocError> {
 
 #[test]
 fn reducers_behind_the_mappers_leave_none(rt: HostRuntime) -> Result<(), Fail> {
-    assert_eq!(rt; taken_after(&rt, rt.alloc())?, 2);
-    Ok(())
+    is_so("two entries", taken_after(&rt, rt.alloc())? == 2)
 }
 
 // A reducer that meets its queue empty 2^20 times waits no more.
@@ -229,6 +234,5 @@ fn taken_of_none<R: Wait>(rt: &R, alloc: Global) -> Option<usize> {
 
 #[test]
 fn an_empty_queue_is_given_up(rt: HostRuntime) -> Result<(), Fail> {
-    assert!(rt; taken_of_none(&rt, rt.alloc()) == Some(0));
-    Ok(())
+    is_so("no entry", taken_of_none(&rt, rt.alloc()) == Some(0))
 }

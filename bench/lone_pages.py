@@ -4,6 +4,7 @@ LEAF, FAN = 32, 64  # records of an array's leaf, pointers of its page above lea
 TREE_LEAF = 16  # records of a tree's leaf
 ROWS = 16  # of a scan, at most
 HELD, READ, POINTERS = 128, 256, 128  # what one transaction can keep
+CHAIN = 63  # pages that came of one leaf: more are kept
 
 
 class Ends(Exception):
@@ -33,6 +34,10 @@ class Leaf:
 
     def __init__(self, low, high, keys):
         self.low, self.high, self.keys, self.halves = low, high, list(keys), None
+
+    def chain(self):
+        """The leaf with all that came of it."""
+        return [self, *(page for half in self.halves or () for page in half.chain())]
 
 
 class Inner:
@@ -74,20 +79,28 @@ class Pages:
         if page is None:
             return 0, 0
         if isinstance(page, Leaf):
-            stored = new[3] if new else []
-            is_kept = page.halves or stored is None or any(is_new(key, stored or []) for key in page.keys)
-            return self.taken(pointer, is_kept)
+            pages, stored = page.chain(), keys_below(new)
+            is_new_in = any(is_new(key, stored) for leaf in pages if not leaf.halves for key in leaf.keys)
+            return self.taken(pointer, len(pages) > CHAIN or is_new_in, len(pages))
         if new is None or new[2] is None or [below[0] for below in new[2]] != page.lows:
             return 0, 1
         counts = [self.drop_below(below, child, is_new) for below, child in zip(page.pointers, new[2])]
-        last = self.taken(pointer, any(below.page for below in page.pointers))
+        last = self.taken(pointer, any(below.page for below in page.pointers), 1)
         return tuple(map(sum, zip(last, *counts)))
 
-    def taken(self, pointer, is_kept):
+    def taken(self, pointer, is_kept, count):
+        """Pages that came of one leaf go whole, or stay."""
         if is_kept:
-            return 0, 1
-        pointer.page, self.in_trees = None, self.in_trees - 1
-        return 1, 0
+            return 0, count
+        pointer.page, self.in_trees = None, self.in_trees - count
+        return count, 0
+
+
+def keys_below(stored):
+    """All keys of a tree's page of a snapshot, in it or below."""
+    if stored is None:
+        return []
+    return stored[3] if stored[2] is None else [key for below in stored[2] for key in keys_below(below)]
 
 
 class Try:

@@ -3,15 +3,16 @@
 pages are all in memory as the newest snapshot has them, and a small one to whose values four workers add.
 
 The same lines are run with no line of the maintenance thread, with an epoch, for which they get threads of their own
-as beside any other, with a save, with a snapshot of the lines before, and with a drop; a drop is also run alone. There are so many
-lines that they take about three times as long as a drop alone. Then 60,000 lines are run beside an epoch, and beside
-some drops, one after another, of pages whose last values were written since the snapshot: each goes over all of them
-and keeps them. These are run alone, too, so that it can be told how many commits fewer there are while drops run,
-which has to be in less time than the lines. A round's seconds go from the last byte of the round before to its first,
-since a round is written behind its end; of each kind the middle of some rounds of one run is told. At last the workers
-add to values of the very pages that are dropped: how many lines come to no end in so many tries, with nothing beside
-them and with a drop. A drop gives its core away to workers that wait for one, so where there are no more cores than
-workers it may last longer than the lines beside it: bench/measure_waits.py tells what it costs while it runs.
+as beside any other, with a save, with a snapshot of the lines before, and with a drop; a drop is also run alone.
+There are so many lines that they take about three times as long as a drop alone. Then 60,000 lines are run beside an
+epoch, and beside some drops, one after another, of pages whose last values were written since the snapshot: each goes
+over all of them and keeps them. These are run alone, too, so that it can be told how many commits fewer there are
+while drops run, which has to be in less time than the lines. A round's seconds go from the last byte of the round
+before to its first, since a round is written behind its end; of each kind the middle of some rounds of one run is
+told. At last the workers add to values of the very pages that are dropped: how many lines come to no end in so many
+tries, with nothing beside them and with a drop. Of trees it is told how many pages a drop takes out that came of one
+leaf each. A drop gives its core away to workers that wait for one, so where there are no more cores than workers it
+may last longer than the lines beside it: bench/measure_waits.py tells what it costs while it runs.
 Usage: bench/measure_drops.py PROGRAM [FOLDER [WORKERS]], where PROGRAM is the built program and FOLDER lies on the disk
 that is to be measured; without it, in memory. WORKERS is 1 to 4, and 4 if it is left out: where there are no more cores
 than workers, a drop takes its share of one from them.
@@ -33,6 +34,7 @@ TIMES = 15
 MANY_LINES, MANY_DROPS = 60000, 6
 TRIES = (1, 2, 3, 4, 1000)
 DROPS = 7  # for each of them; so the pages of all snapshots are let in
+TREES, CHAIN_KEYS = 16, {1: 240, 1597: 384}  # of each tree, by how far each key is behind the one before
 OPTIONS = ["run", "--slots", "4096", "--snap", "65536"]
 MANY = ["--tries", "1000000"]
 DECLARED = [f"array 1 {LEAVES * LEAF}", f"array 2 {WORKERS * OWN * LEAF}"]
@@ -173,11 +175,36 @@ def measure_tries(program, folder):
         row(tries, *[str(count) for count in vain + pages])
 
 
+def chains(step):
+    """Lines of the workers that write keys of new trees, so many that some 60 pages come of the one leaf of each."""
+    for line in range(CHAIN_KEYS[step] // 16):
+        for tree in range(TREES):
+            keys = [(16 * line + place) * step % 4099 for place in range(16)]
+            yield f"{tree % WORKERS} " + "; ".join(f"w {tree} {key} 1" for key in keys)
+
+
+def measure_chains(program, folder):
+    """Pages of trees that are dropped a second, where all of them came of one leaf each."""
+    global DECLARED
+    DECLARED = [f"tree {tree}" for tree in range(TREES)]
+    print(f"\na drop of what came of {TREES} leaves, alone:\n")
+    row("keys", "middle, ms", "least, ms", "pages dropped", "kept", "pages dropped a second")
+    for step, name in (1, "ascending"), (1597, "mixed"):
+        rounds = [[*chains(step)], ["k glean"], ["k drop"], ["k epoch"]]
+        told = [run(program, folder, MANY, rounds) for _ in range(TIMES)]
+        drops, epoch = [of_run[2] for of_run in told], middle([of_run[3] for of_run in told])
+        pages = [statistics.median(each) for each in zip(*[counts(text) for _, text in drops])]
+        least = min(took for took, _ in drops)
+        row(name, f"{middle(drops) * 1000:.2f}", f"{least * 1000:.2f}", *[f"{count:.0f}" for count in pages],
+            f"{pages[0] / max(middle(drops) - epoch, 1e-9):,.0f}")
+
+
 def main(program, folder="/dev/shm", workers="4"):
     global WORKERS
     program, WORKERS = os.path.abspath(program), int(workers)
     measure(program, folder)
     measure_tries(program, folder)
+    measure_chains(program, folder)
 
 
 if __name__ == "__main__":

@@ -140,7 +140,9 @@ pub record ReadsSo (k : Key) (r : Result Found RefusalCause) (v w : View) : Type
   pub met : IfOk r (λ f. MeetsRecord f v w)
   pub cause : IfErr r (λ why. RefusesRead k why v w)
 
--- The record of the key was found by at most so many steps, and with at most so many holds, or why not.
+-- The record of the key was found by at most so many steps, and with at most so many holds, or why not. Each way that
+-- is new is one to the key. Where it was found, each slot that is held newly is led to by one, and the set's pointers
+-- are met as it has them.
 pub record FindsSo
     (bound few : ℕ) (k : Key) (pointers : List Seen) (slots : List ℕ) (r : Result Found RefusalCause) (v w : View)
     : Type 0 where
@@ -246,7 +248,8 @@ pub record ChecksSo
       → RefusesMake k pointers slots why v w)
 
 -- By at most so many steps, and with at most so many holds, the pages on the way to the record of the key are in slots
--- that the pass holds, or why not.
+-- that the pass holds, or why not. Nothing is kept. Each way that is new is one to the key; where the pages are there,
+-- each slot that is held newly is led to by one.
 pub record MakesSo
     (bound few : ℕ) (k : Key) (pointers : List Seen) (slots : List ℕ) (r : Result ℕ RefusalCause) (v w : View)
     : Type 0 where

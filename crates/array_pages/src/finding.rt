@@ -1,9 +1,9 @@
 // The record of a key.
-ghost use Rattle.std.specs.Prelude.{◌≡◌, ◌+◌, ◌%◌, ◌<◌, ◌≤◌, ℕ, List, false, length, Contains, IfOk, IfErr, OnOk};
-ghost use Rattle.array_pages.specs.Finding.{IsContentBelow, IsFound, RefusesFind};
+ghost use Rattle.std.specs.Prelude.{◌≡◌, ◌+◌, ◌%◌, ◌<◌, ◌≤◌, ℕ, List, false, length, Contains};
+ghost use Rattle.array_pages.specs.Finding.{IsContentBelow};
 ghost use Rattle.array_pages.specs.Spans.{find_steps, keys_above, walk_holds, IsArrayKey, IsOver};
 ghost use Rattle.array_pages.specs.Steps.{FindsSo, ReadsSo};
-ghost use Rattle.array_pages.specs.Walks.{AreLedTo, CanWalk, HasWalked, IsWayPlace, KeepsMet, OnlyWaysTo};
+ghost use Rattle.array_pages.specs.Walks.{CanWalk, IsWayPlace};
 ghost use Rattle.commit_core.specs.CoreState.{is_trying};
 ghost use Rattle.engine_pages.specs.Layout.{words_of};
 ghost use Rattle.engine_pages.specs.Passes.{view, IsPassOf};
@@ -60,35 +60,8 @@ pub fn find(
     requires can { CanWalk holds.old (view pass.old) }
     requires fits { IsArrayKey (view pass.old).layout.decls key }
     ensures of { IsPassOf engine.now pass.new }
-    ensures can { CanWalk holds.new (view pass.new) }
-    ensures walked { HasWalked (view pass.old) (view pass.new) }
-    ensures most { (view pass.new).steps ≤ (view pass.old).steps + find_steps }
-    ensures grows { length holds.new ≤ length holds.old + walk_holds }
-    ensures only { OnlyWaysTo key (view pass.old) (view pass.new) }
-    ensures led { OnOk result (AreLedTo key (view pass.old) (view pass.new)) }
-    ensures keeps { OnOk result (KeepsMet pointers.now (view pass.old) (view pass.new)) }
-    ensures found { IfOk result (λ found.
-        IsFound key pointers.now found (view pass.old) (view pass.new)) }
-    ensures cause { IfErr result (λ why.
-        RefusesFind key pointers.now holds.new why (view pass.old) (view pass.new)) }
-{
-    find_from_root(engine, pass, key, holds, pointers)
-}
-
-#[inline(always)]
-fn find_from_root(
-    engine: &Engine,
-    pass: &mut Pass,
-    key: Key,
-    holds: &mut Holds,
-    pointers: &PointerSet,
-) -> Result<Found, RefusalCause>
-    requires of { IsPassOf engine.now pass.old }
-    requires can { CanWalk holds.old (view pass.old) }
-    requires fits { IsArrayKey (view pass.old).layout.decls key }
-    ensures of { IsPassOf engine.now pass.new }
-    ensures finds { FindsSo 12 (length holds.old + 3) key pointers.now holds.new result
-        (view pass.old) (view pass.new) }
+    ensures finds { FindsSo find_steps (length holds.old + walk_holds) key pointers.now holds.new
+        result (view pass.old) (view pass.new) }
 {
     let (root, size) = array_of(engine, key.storage);
     let place = At::Root(root);

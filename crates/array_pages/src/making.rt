@@ -1,9 +1,9 @@
 // The record of a key is brought into a page in memory.
-ghost use Rattle.std.specs.Prelude.{◌≡◌, ◌+◌, ◌*◌, ◌%◌, ◌<◌, ◌≤◌, true, length, IfOk, IfErr, OnOk};
-ghost use Rattle.array_pages.specs.Making.{CanMake, HasMade, RefusesMake};
+ghost use Rattle.std.specs.Prelude.{◌≡◌, ◌+◌, ◌*◌, ◌%◌, ◌<◌, ◌≤◌, true, length};
+ghost use Rattle.array_pages.specs.Making.{CanMake};
 ghost use Rattle.array_pages.specs.Spans.{keys_above, make_steps, walk_holds, IsArrayKey, IsOver};
 ghost use Rattle.array_pages.specs.Steps.{CanCopy, ChecksSo, MakesSo, SettlesSo};
-ghost use Rattle.array_pages.specs.Walks.{AreLedTo, HasWalked, IsWayPlace, KeepsWords, OnlyWaysTo};
+ghost use Rattle.array_pages.specs.Walks.{IsWayPlace};
 ghost use Rattle.engine_pages.specs.Layout.{words_of};
 ghost use Rattle.engine_pages.specs.Pages.{is_array};
 ghost use Rattle.engine_pages.specs.Passes.{view, IsPassOf};
@@ -45,35 +45,7 @@ pub fn make_volatile(
     requires can { CanMake holds.old (view pass.old) }
     requires fits { IsArrayKey (view pass.old).layout.decls key }
     ensures of { IsPassOf engine.now pass.new }
-    ensures can { CanMake holds.new (view pass.new) }
-    ensures walked { HasWalked (view pass.old) (view pass.new) }
-    ensures kept { (view pass.new).seat.kept ≡ (view pass.old).seat.kept }
-    ensures words { KeepsWords (view pass.old) (view pass.new) }
-    ensures most { (view pass.new).steps
-        ≤ (view pass.old).steps + make_steps (view pass.old).layout.slots }
-    ensures grows { length holds.new ≤ length holds.old + walk_holds }
-    ensures only { OnlyWaysTo key (view pass.old) (view pass.new) }
-    ensures led { OnOk result (AreLedTo key (view pass.old) (view pass.new)) }
-    ensures made { IfOk result (λ at. HasMade key pointers.now at (view pass.old) (view pass.new)) }
-    ensures cause { IfErr result (λ why.
-        RefusesMake key pointers.now holds.new why (view pass.old) (view pass.new)) }
-{
-    make_from_root(engine, pass, key, holds, pointers)
-}
-
-#[inline(always)]
-fn make_from_root(
-    engine: &Engine,
-    pass: &mut Pass,
-    key: Key,
-    holds: &mut Holds,
-    pointers: &PointerSet,
-) -> Result<u32, RefusalCause>
-    requires of { IsPassOf engine.now pass.old }
-    requires can { CanMake holds.old (view pass.old) }
-    requires fits { IsArrayKey (view pass.old).layout.decls key }
-    ensures of { IsPassOf engine.now pass.new }
-    ensures makes { MakesSo (3 * ((view pass.old).layout.slots + 135)) (length holds.old + 3)
+    ensures makes { MakesSo (make_steps (view pass.old).layout.slots) (length holds.old + walk_holds)
         key pointers.now holds.new result (view pass.old) (view pass.new) }
 {
     let (root, size) = array_of(engine, key.storage);

@@ -1,14 +1,12 @@
 // The pages on the way to a key are brought into memory.
-ghost use Rattle.std.specs.Prelude.{◌≡◌, ◌+◌, ◌*◌, ◌<◌, ◌≤◌, true, IfOk, IfErr, List, OnOk};
+ghost use Rattle.std.specs.Prelude.{◌≡◌, ◌+◌, ◌*◌, ◌<◌, ◌≤◌, true, List, OnOk};
 ghost use Rattle.array_pages.specs.Finding.{HasGlanced};
 ghost use Rattle.engine_pages.specs.Layout.{page_at};
 ghost use Rattle.engine_pages.specs.Pages.{is_tree};
 ghost use Rattle.engine_pages.specs.Passes.{view, IsPassOf};
 ghost use Rattle.engine_pages.specs.Views.{IsActive};
 ghost use Rattle.tree_making.specs.Making.{make_steps, page_steps, way_steps, CanMake, IsMade, MakesSo};
-ghost use Rattle.tree_making.specs.Making.{RefusesMake};
 ghost use Rattle.tree_making.specs.Pages.{HoldsMore};
-ghost use Rattle.tree_walks.specs.Walks.{AreLedTo, HasWalked, KeepsMet, KeepsWords, OnlyTrees, OnlyWaysOn};
 ghost use Rattle.tree_walks.specs.Ways.{HasCome, IsBareOn, IsLeafOn};
 ghost use Rattle.tx_sets.specs.declared.seen.Seen.{Seen};
 
@@ -40,36 +38,6 @@ pub enum Made {
 /// refused. The slots are searched at most once for each page that is put in, and at most 4,615 steps more are made for
 /// it.
 pub fn make_volatile(
-    engine: &Engine,
-    pass: &mut Pass,
-    key: Key,
-    holds: &mut Holds,
-    pointers: &PointerSet,
-    headers: &HeaderSet,
-) -> Result<Made, RefusalCause>
-    requires of { IsPassOf engine.now pass.old }
-    requires can { CanMake holds.old (view pass.old) }
-    requires tree { is_tree (view pass.old).layout.decls key.storage ≡ true }
-    ensures of { IsPassOf engine.now pass.new }
-    ensures can { CanMake holds.new (view pass.new) }
-    ensures walked { HasWalked (view pass.old) (view pass.new) }
-    ensures most { (view pass.new).steps
-        ≤ (view pass.old).steps + make_steps (view pass.old).layout.slots }
-    ensures kept { (view pass.new).seat.kept ≡ (view pass.old).seat.kept }
-    ensures words { KeepsWords (view pass.old) (view pass.new) }
-    ensures met { OnlyTrees (view pass.old) (view pass.new) }
-    ensures led { OnOk result (AreLedTo key (view pass.old) (view pass.new)) }
-    ensures paths { OnlyWaysOn key (view pass.old) (view pass.new) }
-    ensures keeps { OnOk result
-        (KeepsMet pointers.now headers.now (view pass.old) (view pass.new)) }
-    ensures made { IfOk result (λ made. IsMade key headers.now made (view pass.new)) }
-    ensures cause { IfErr result (λ why.
-        RefusesMake key pointers.now headers.now holds.new why (view pass.old) (view pass.new)) }
-{
-    make_all(engine, pass, key, holds, pointers, headers)
-}
-
-fn make_all(
     engine: &Engine,
     pass: &mut Pass,
     key: Key,

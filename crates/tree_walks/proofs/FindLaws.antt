@@ -18,14 +18,16 @@ use Rattle.tree_records.specs.Reads.{IsThat}
 use Rattle.tree_walks.specs.declared.finding.Found.{Found}
 use Rattle.tree_walks.specs.declared.finding.Found.TheVariants as places
 use Rattle.tree_walks.specs.Finding.{IsAbsentIn, IsFound, IsFoundBelow, IsFoundIn, IsRecordChanged, MeetsOnly, RefusesFind}
-use Rattle.tree_walks.specs.Finds.{KeepsSo}
-use Rattle.tree_walks.specs.Steps.{Went}
-use Rattle.tree_walks.specs.Walks.{AreLedTo, HasWalked, KeepsMet, OnlyTrees, OnlyWaysOn}
-use Rattle.tree_walks.specs.Ways.{RefusesWalk}
+use Rattle.tree_walks.specs.declared.ways.End.{End}
+use Rattle.tree_walks.specs.Finds.{find_steps, FindsSo, KeepsSo}
+use Rattle.tree_walks.specs.Steps.{GoesSo, Went}
+use Rattle.tree_walks.specs.Walks.{walk_steps, AreLedTo, HasWalked, KeepsMet, OnlyTrees, OnlyWaysOn}
+use Rattle.tree_walks.specs.Ways.{HasCome, RefusesWalk}
 use Rattle.tree_walks.proofs.KeepLaws.{keeps_then}
 use Rattle.tree_walks.proofs.PathLaws.{paths_then}
 use Rattle.tree_walks.proofs.RefusalLaws.{refuses_back, saw_back}
-use Rattle.tree_walks.proofs.StepLaws.{layout_stays, led_none, led_then, only_but_then, only_for_then, only_then, walked_then}
+use Rattle.tree_walks.proofs.StepLaws.{layout_stays, led_none, led_then, only_but_then, only_for, only_for_then}
+use Rattle.tree_walks.proofs.StepLaws.{only_then, walked_then}
 
 -- ---- what was found behind some steps that kept nothing was found behind them all
 
@@ -201,3 +203,40 @@ pub finds_led : (k : Key) (r : Result Found RefusalCause) (v u w : View) → Has
     → OnOk r (AreLedTo k v w)
 finds_led k (Ok f) v u w walk grip led = led_then k v u w walk led (led_none k u w grip)
 finds_led k (Err why) v u w walk grip led = tt
+
+-- ---- the whole search
+
+-- what comes behind a walk that came to its end
+pub finds_then : (c : ℕ) (k : Key) (pointers headers : List Seen) (slots : List ℕ) (x : End)
+    (r : Result Found RefusalCause) (v u w : View) → walk_steps + c ≤ find_steps
+    → GoesSo walk_steps k pointers headers slots (HasCome k pointers headers) (Ok x) v u
+    → KeepsSo c k pointers headers slots r u w → FindsSo k pointers headers slots r v w
+finds_then c k pointers headers slots x r v u w few g h = record {
+  can = h.can;
+  walked = walked_then v u w g.went.walked h.walked;
+  most = let one = g.went.most in let two = h.most in omega (arith, few, one, two);
+  met = only_for_then k v u w h.walked g.went.met h.met;
+  only = find_only r v u w h.walked g.went.met h.only;
+  led = finds_led k r v u w h.walked h.grip g.led;
+  keeps = find_keeps pointers headers r v u w g.went.walked g.keeps h.keeps;
+  paths = paths_then k v u w h.walked g.paths h.paths;
+  found = find_found walk_steps k pointers headers slots r v u w g.went h.found;
+  cause = find_cause walk_steps k pointers headers slots r v u w g.went g.led h.walked h.cause;
+}
+
+-- a walk that was refused
+pub finds_refused : (k : Key) (pointers headers : List Seen) (slots : List ℕ) (why : RefusalCause) (v w : View)
+    → GoesSo walk_steps k pointers headers slots (HasCome k pointers headers) (Err why) v w
+    → FindsSo k pointers headers slots (Err why) v w
+finds_refused k pointers headers slots why v w g = record {
+  can = g.went.can;
+  walked = g.went.walked;
+  most = let one = g.went.most in omega (arith, one);
+  met = only_for k v w g.went.met;
+  only = tt;
+  led = tt;
+  keeps = tt;
+  paths = g.paths;
+  found = tt;
+  cause = walk_finds k pointers headers slots why v w g.cause;
+}

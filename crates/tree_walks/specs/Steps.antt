@@ -50,8 +50,9 @@ pub record Went (bound : ℕ) (slots : List ℕ) (v w : View) : Type 0 where
   pub words : KeepsWords v w
   pub met : OnlyTrees v w
 
--- A part of a walk to the key went on so, met what the sets have as they have it, and came to what is told; or it was
--- refused.
+-- A part of a walk to the key went on so, met what the sets have as they have it, was led to each slot that it holds
+-- newly, and came to what is told; or it was refused. Each way that is new is over the key, or into a half of a page on
+-- the way to it.
 pub record GoesSo {A : Type 0}
     (bound : ℕ) (k : Key) (pointers headers : List Seen) (slots : List ℕ) (comes : A → View → Type 0)
     (r : Result A RefusalCause) (v w : View) : Type 0 where

@@ -1,11 +1,10 @@
 // Down the pages in memory to the end of the way to a key.
-ghost use Rattle.std.specs.Prelude.{◌≡◌, ◌+◌, ◌≤◌, true, IfOk, IfErr, OnOk};
+ghost use Rattle.std.specs.Prelude.{◌≡◌, true};
 ghost use Rattle.engine_pages.specs.Pages.{is_tree};
 ghost use Rattle.engine_pages.specs.Passes.{view, IsPassOf};
 ghost use Rattle.tree_walks.specs.Steps.{GoesSo, IsFurther};
-ghost use Rattle.tree_walks.specs.Walks.{walk_steps, AreLedTo, CanWalk, HasWalked, KeepsMet, KeepsWords, OnlyTrees};
-ghost use Rattle.tree_walks.specs.Walks.{OnlyWaysOn};
-ghost use Rattle.tree_walks.specs.Ways.{HasCome, IsOnWay, RefusesWalk};
+ghost use Rattle.tree_walks.specs.Walks.{walk_steps, CanWalk};
+ghost use Rattle.tree_walks.specs.Ways.{HasCome, IsOnWay};
 
 use crate::children::go_to_child;
 use crate::halves::{MOVED, go_to_half};
@@ -45,19 +44,8 @@ pub fn go_down(
     requires can { CanWalk holds.old (view pass.old) }
     requires tree { is_tree (view pass.old).layout.decls key.storage ≡ true }
     ensures of { IsPassOf engine.now pass.new }
-    ensures can { CanWalk holds.new (view pass.new) }
-    ensures walked { HasWalked (view pass.old) (view pass.new) }
-    ensures most { (view pass.new).steps ≤ (view pass.old).steps + walk_steps }
-    ensures kept { (view pass.new).seat.kept ≡ (view pass.old).seat.kept }
-    ensures words { KeepsWords (view pass.old) (view pass.new) }
-    ensures met { OnlyTrees (view pass.old) (view pass.new) }
-    ensures led { OnOk result (AreLedTo key (view pass.old) (view pass.new)) }
-    ensures keeps { OnOk result
-        (KeepsMet pointers.now headers.now (view pass.old) (view pass.new)) }
-    ensures paths { OnlyWaysOn key (view pass.old) (view pass.new) }
-    ensures came { IfOk result (λ end. HasCome key pointers.now headers.now end (view pass.new)) }
-    ensures cause { IfErr result (λ why.
-        RefusesWalk key pointers.now headers.now holds.new why (view pass.old) (view pass.new)) }
+    ensures goes { GoesSo walk_steps key pointers.now headers.now holds.new
+        (HasCome key pointers.now headers.now) result (view pass.old) (view pass.new) }
 {
     walk_down(engine, pass, key, key.key, holds, pointers, headers)
 }

@@ -1,11 +1,11 @@
 // The record of a key.
-ghost use Rattle.std.specs.Prelude.{◌≡◌, ◌+◌, ◌<◌, ◌≤◌, true, false, IfOk, IfErr, OnOk, slice_get, Some, None, length};
+ghost use Rattle.std.specs.Prelude.{◌≡◌, ◌<◌, true, false, IfOk, IfErr, OnOk, slice_get, Some, None, length};
 ghost use Rattle.homes.specs.Homes.{has_key};
 ghost use Rattle.engine_pages.specs.Pages.{is_tree};
 ghost use Rattle.engine_pages.specs.Passes.{view, IsPassOf};
-ghost use Rattle.tree_walks.specs.Finding.{IsFound, IsVolatile, MeetsOnly, RefusesFind};
-ghost use Rattle.tree_walks.specs.Finds.{find_steps, IsPointersFull, KeepsSo};
-ghost use Rattle.tree_walks.specs.Walks.{AreLedTo, CanWalk, HasWalked, KeepsMet, OnlyTreesFor, OnlyWaysOn};
+ghost use Rattle.tree_walks.specs.Finding.{IsVolatile};
+ghost use Rattle.tree_walks.specs.Finds.{FindsSo, IsPointersFull, KeepsSo};
+ghost use Rattle.tree_walks.specs.Walks.{CanWalk};
 ghost use Rattle.tree_walks.specs.Ways.{IsBareOn, IsLeafAt, IsLeafOn};
 ghost use Rattle.tx_sets.specs.Entries.{word_at};
 
@@ -71,19 +71,8 @@ pub fn find(
     requires can { CanWalk holds.old (view pass.old) }
     requires tree { is_tree (view pass.old).layout.decls key.storage ≡ true }
     ensures of { IsPassOf engine.now pass.new }
-    ensures can { CanWalk holds.new (view pass.new) }
-    ensures walked { HasWalked (view pass.old) (view pass.new) }
-    ensures most { (view pass.new).steps ≤ (view pass.old).steps + find_steps }
-    ensures met { OnlyTreesFor key (view pass.old) (view pass.new) }
-    ensures only { IfOk result (λ found. MeetsOnly found (view pass.old) (view pass.new)) }
-    ensures led { OnOk result (AreLedTo key (view pass.old) (view pass.new)) }
-    ensures keeps { OnOk result
-        (KeepsMet pointers.now headers.now (view pass.old) (view pass.new)) }
-    ensures paths { OnlyWaysOn key (view pass.old) (view pass.new) }
-    ensures found { IfOk result (λ found.
-        IsFound key pointers.now headers.now found (view pass.old) (view pass.new)) }
-    ensures cause { IfErr result (λ why.
-        RefusesFind key pointers.now headers.now holds.new why (view pass.old) (view pass.new)) }
+    ensures finds { FindsSo key pointers.now headers.now holds.new result
+        (view pass.old) (view pass.new) }
 {
     let end = walk_down(engine, pass, key, key.key, holds, pointers, headers)?;
     match end {

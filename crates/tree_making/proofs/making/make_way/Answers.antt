@@ -23,21 +23,7 @@ returns-in_err-end-clause-makes c =
     (IsLeafOn c.args.key c.args.headers.now) _ v (view c.go_down.new.pass) (omega arith)
     (walk_makes walk_steps c.args.key c.args.pointers.now c.args.headers.now c.args.holds.now c.go_down.new.holds
     (HasCome c.args.key c.args.pointers.now c.args.headers.now) (Err _) v (view c.go_down.new.pass) c.requires.can
-    record {
-      went = record {
-        can = c.in_err-end.ensures.can;
-        walked = c.in_err-end.ensures.walked;
-        most = c.in_err-end.ensures.most;
-        kept = c.in_err-end.ensures.kept;
-        words = c.in_err-end.ensures.words;
-        met = c.in_err-end.ensures.met;
-      };
-      led = tt;
-      keeps = tt;
-      paths = c.in_err-end.ensures.paths;
-      came = tt;
-      cause = c.in_err-end.ensures.cause;
-    }))
+    c.in_err-end.ensures.goes))
 
 pub loop-end-init : goal.loop-end-init
 loop-end-init c = record {
@@ -46,22 +32,7 @@ loop-end-init c = record {
       (view c.args.pass.now) (view c.go_down.new.pass)
       (walk_makes walk_steps c.args.key c.args.pointers.now c.args.headers.now c.args.holds.now c.go_down.new.holds
       (HasCome c.args.key c.args.pointers.now c.args.headers.now) (Ok c.in_ok-end.end) (view c.args.pass.now)
-      (view c.go_down.new.pass) c.requires.can
-      record {
-        went = record {
-          can = c.in_ok-end.ensures.can;
-          walked = c.in_ok-end.ensures.walked;
-          most = c.in_ok-end.ensures.most;
-          kept = c.in_ok-end.ensures.kept;
-          words = c.in_ok-end.ensures.words;
-          met = c.in_ok-end.ensures.met;
-        };
-        led = c.in_ok-end.ensures.led;
-        keeps = c.in_ok-end.ensures.keeps;
-        paths = c.in_ok-end.ensures.paths;
-        came = c.in_ok-end.ensures.came;
-        cause = tt;
-      });
+      (view c.go_down.new.pass) c.requires.can c.in_ok-end.ensures.goes);
 }
 
 pub returns-in-Leaf-clause-makes : goal.returns-in-Leaf-clause-makes

@@ -4,7 +4,7 @@ use Rattle.engine_pages.specs.Passes.{view}
 use Rattle.tree_walks.specs.Ways.{IsLeafOn}
 use Rattle.tree_making.specs.Making.{make_steps, way_steps, IsMade}
 use Rattle.tree_making.proofs.LeafLaws.{leaf_done, refused_more}
-use Rattle.tree_making.proofs.making.make_all.Goals as goal
+use Rattle.tree_making.proofs.making.make_volatile.Goals as goal
 
 pub returns-in_err-leaf-clause-makes : goal.returns-in_err-leaf-clause-makes
 returns-in_err-leaf-clause-makes c =

@@ -1,7 +1,7 @@
 -- A live transaction behind a key that it added to a leaf of a tree: whose header it keeps no part of, or whose header it
 -- keeps and goes on with.
 use Rattle.std.proofs.Common.{◌≡◌, ◌≢◌, ◌⊎◌, inl, inr, ℕ, ◌+◌, ◌-◌, ◌*◌, ◌/◌, ◌%◌, ◌<◌, ◌≤◌, Bool, true, false, true≢false}
-use Rattle.std.proofs.Common.{List, [], ◌∷◌, ◌++◌, Some, refl, sym, ap, ◌∙◌, subst, arith}
+use Rattle.std.proofs.Common.{List, [], ◌∷◌, ◌++◌, Some, refl, sym, ap, ◌∙◌, subst, arith, length}
 use Rattle.std.specs.Prelude.{Contains, unwrap_or, ◌==◌}
 use Rattle.std.proofs.lemmas.Bool.{eqb-true, eq-eqb}
 use Rattle.lists.specs.Each.{AreDistinct}
@@ -193,6 +193,7 @@ module _ (sets : Sets) (v w : View) (k : Key) (at : ℕ) (live : IsLive sets v) 
     headers = headers_bare;
     only = only_walked_same sets sets v w live g.same refl refl;
     inside = inside_bare;
+    room = live.room;
   }
 
 -- ---- a key that was added under a header which is kept
@@ -219,6 +220,7 @@ pub record HasGrownKept (sets new : Sets) (v w : View) (h : Seen) (head : Part) 
   pub keeps : kept_at w.reads h.at ≡ Some h.word
   pub only : (a : ℕ) → a ≢ e.at → (seen_at w.reads a ≡ seen_at v.reads a) ⊎ (a ≡ h.at)
   pub same : (a : ℕ) → a ≢ h.at → kept_at w.reads a ≡ kept_at v.reads a
+  pub room : length new.reads + length new.headers ≤ 256
 
 module _ (sets new : Sets) (v w : View) (h : Seen) (head : Part) (e : ReadEntry) (c : Content) (live : IsLive sets v)
     (more : KnowsMore v w) (agree : WaysAgree w.ways) (trees : TreesAgree w)
@@ -340,4 +342,5 @@ module _ (sets new : Sets) (v w : View) (h : Seen) (head : Part) (e : ReadEntry)
     headers = headers_kept;
     only = only_kept;
     inside = inside_entry sets v w e live more agree trees decls_now (inr g.place) none_read_there g.seen beside_one;
+    room = g.room;
   }

@@ -32,6 +32,7 @@ use Rattle.page_commit.specs.Steps.{HasLeft}
 use Rattle.page_commit.proofs.LeaveLaws.{holds_stay, left_agree, left_holds, same_then, SamePages}
 use Rattle.page_commit.proofs.LeaveLaws.{left_trees, trees_stay}
 use Rattle.page_commit.proofs.PageLaws.{forgotten_pages}
+use Rattle.page_commit.proofs.RoomLaws.{room_empty}
 
 -- ---- the begin
 
@@ -95,6 +96,7 @@ begun_live sets v u n over empty h =
       };
       only = λ at m kept. absurd (none_some m kept);
       inside = λ at m seen. absurd (none_some m seen);
+      room = room_empty sets empty;
     }
   where
     none_some : (m : ℕ) → None ≡ Some m → ⊥

@@ -20,6 +20,7 @@ use Rattle.page_commit.specs.Keeping.{HasBrought}
 use Rattle.page_commit.proofs.GrowLaws.{key_here, knows_more, met_pointer_grown, read_grown, spot_of_word}
 use Rattle.page_commit.proofs.GrowLaws.{KnowsMore}
 use Rattle.page_commit.proofs.HeaderLaws.{header_grown}
+use Rattle.page_commit.proofs.RoomLaws.{room_same}
 use Rattle.page_commit.proofs.WalkedLaws.{headers_walked, held_to, inside_only, kept_walked, live_walked, met_only, only_walked}
 use Rattle.page_commit.proofs.WalkedLaws.{beside_arrays}
 use Rattle.page_commit.proofs.WalkedLaws.{only_walked_same, points_walked}
@@ -83,6 +84,7 @@ brought sets new v w k at live walk can kept words paths led made reads pointers
             (headers_walked sets v w live more agree decls made.others (λ h has. words h.at));
         only = only_walked_same sets new v w live words pointers headers;
         inside = inside_only sets v w live more decls (beside_arrays v w made.others);
+        room = room_same sets new reads headers live.room;
       };
       only = only_walked v w walk;
       paths = paths;

@@ -31,7 +31,7 @@ use Rattle.engine_pages.specs.declared.view.Touch.{Touch}
 use Rattle.engine_pages.specs.Views.{seat_number, IsActive}
 use Rattle.page_commit.specs.Committing.{changes_of, touches_of, HasCommitted, RefusesCommit, TookOnly, IsRecordOf}
 use Rattle.page_commit.specs.Live.{AreMet, IsWriteOf, IsLive, HasHolds}
-use Rattle.page_commit.specs.Refusing.{HasRefused, IsConflictAt, IsPointerConflict, IsTreeConflict}
+use Rattle.page_commit.specs.Refusing.{HasRefused, IsConflictAt, IsHeaderConflict, IsPointerConflict, IsTreeConflict}
 use Rattle.page_commit.specs.Steps.{AreAsRead, AreSmall, KeepOthers, CanCommit, HasLocked, HasLockedAll, HasLocks}
 use Rattle.page_commit.specs.Steps.{HasGivenUp, HasTried, HasChecked, HasFailed, HasDecided, HasPublished}
 use Rattle.page_commit.specs.Steps.{CheckConflict, HasLeft, HasMet, IsRecordConflict, IsUnkept, StaysAside, TellsOf}
@@ -258,7 +258,7 @@ stopped_cause sets n all found at expected seen why v w x live is h apart g c sa
         ⊎ (((Rattle.tx_sets.specs.Entries.has_word at sets.pointers ≡ true)
         × IsPointerConflict sets.pointers at expected seen v x × (x.blamed ≡ v.blamed))
         ⊎ (((Rattle.tx_sets.specs.Entries.has_word at sets.headers ≡ true)
-        × IsPointerConflict sets.headers at expected seen v x × (x.blamed ≡ v.blamed))
+        × IsHeaderConflict sets.headers at expected seen v x × (x.blamed ≡ v.blamed))
         ⊎ ((k : Key) × IsRecordOf sets.reads sets.writes k at × IsTreeConflict sets.reads at expected seen v x
         × (x.blamed ≡ v.blamed) × (is_array v.layout.decls k.storage ≡ false))))
     by_side (inl p) (inl r) = inl (
@@ -547,13 +547,26 @@ check_cause sets found ws changes n at expected seen why v w x y z can d f is ap
       cause = m.cause;
     }
 
+    on_header : (l : List Seen) → IsHeaderConflict l at expected seen x y → IsHeaderConflict l at expected seen v z
+    on_header l m = record {
+      step = m.step;
+      last = last_same sets.writes why y z g' ∙ m.last;
+      since = let low = m.since in let low' = since in omega (arith, low, low');
+      was = m.was;
+      kept = m.kept;
+      stands = kept_others sets.writes why y z g'
+          (record { word = at; seen = seen; was = m.was; kept = m.kept }) m.stands apart;
+      known = m.known;
+      cause = m.cause;
+    }
+
     by_conflict : CheckConflict sets at expected seen x y
         → ((k : Key) × IsRecordOf sets.reads sets.writes k at × IsConflictAt sets.reads k at expected seen v z
         × (is_array v.layout.decls k.storage ≡ true))
         ⊎ (((Rattle.tx_sets.specs.Entries.has_word at sets.pointers ≡ true)
         × IsPointerConflict sets.pointers at expected seen v z × (z.blamed ≡ v.blamed))
         ⊎ (((Rattle.tx_sets.specs.Entries.has_word at sets.headers ≡ true)
-        × IsPointerConflict sets.headers at expected seen v z × (z.blamed ≡ v.blamed))
+        × IsHeaderConflict sets.headers at expected seen v z × (z.blamed ≡ v.blamed))
         ⊎ ((k : Key) × IsRecordOf sets.reads sets.writes k at × IsTreeConflict sets.reads at expected seen v z
         × (z.blamed ≡ v.blamed) × (is_array v.layout.decls k.storage ≡ false))))
     by_conflict (inl m) = inl (
@@ -573,7 +586,7 @@ check_cause sets found ws changes n at expected seen why v w x y z can d f is ap
     ))
     by_conflict (inr (inr (inl m))) = inr (inr (inl (
       m.0,
-      on_word sets.headers m.1,
+      on_header sets.headers m.1,
       told_tree sets.writes why (slot_of x.layout.slots at) 0 at expected seen v y z blamed same m.2.place.word g',
     )))
     by_conflict (inr (inr (inr m))) = inr (inr (inr (

@@ -20,8 +20,9 @@ use Rattle.page_commit.specs.Committing.{RefusesCommit, TookOnly, IsRecordOf, Is
 use Rattle.page_commit.specs.HeaderParts.{AreHeaders}
 use Rattle.page_commit.specs.Live.{AreParts, AreMet, IsWriteOf, IsLive, entry_places, ArePointersKept, ArePointersMet}
 use Rattle.page_commit.specs.Live.{HasHolds, KeepsOnly}
-use Rattle.page_commit.specs.Refusing.{HasRefused, IsConflictAt, IsPointerConflict, IsTreeConflict}
+use Rattle.page_commit.specs.Refusing.{HasRefused, IsConflictAt, IsHeaderConflict, IsPointerConflict, IsTreeConflict}
 use Rattle.page_commit.specs.Steps.{CanCommit}
+use Rattle.page_commit.proofs.RoomLaws.{room_same}
 use Rattle.page_commit.proofs.StepLaws.{all_steps, all_most}
 use Rattle.lists.specs.Each.{AreDistinct}
 use Rattle.commit_core.specs.declared.part.Part.{Part}
@@ -81,6 +82,7 @@ live_dropped sets new keep v live d = record {
   headers = subst (λ (l : List Seen). AreHeaders l v) (sym d.headers) live.headers;
   only = keeps_only sets new v d.pointers d.headers live.only;
   inside = live.inside;
+  room = room_same sets new d.reads d.headers live.room;
 }
 
 pub refuses_dropped : (sets new : Sets) (ws : List Write) (why : RefusalCause) (v w : View) → new.reads ≡ sets.reads
@@ -104,7 +106,7 @@ refuses_dropped sets new ws (Conflict at expected seen) v w reads pointers heade
       | inr n ↦ inr (elim n [
         | inl m ↦ inl (
           subst (λ (l : List Seen). Rattle.tx_sets.specs.Entries.has_word at l ≡ true) headers m.0,
-          subst (λ (l : List Seen). IsPointerConflict l at expected seen v w) headers m.1,
+          subst (λ (l : List Seen). IsHeaderConflict l at expected seen v w) headers m.1,
           m.2,
         )
         | inr m ↦ inr (

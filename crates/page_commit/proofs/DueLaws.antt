@@ -392,7 +392,7 @@ seen_in (f ∷ reads) at n is = by_test (f.word == at) refl is (seen_in reads at
 -- ---- the cause of a read
 
 -- the layout stays behind the end
-given_layout : (why : RefusalCause) (w x : View) → HasGivenUp [] why w x → x.layout ≡ w.layout
+pub given_layout : (why : RefusalCause) (w x : View) → HasGivenUp [] why w x → x.layout ≡ w.layout
 given_layout why w x g = ap (λ (y : View). y.layout) g.left.is ∙ ap (λ (y : View). y.layout) g.forgot
 
 -- and so does where a pointer on the way stands

@@ -1,5 +1,5 @@
 -- A read of a key that was not met before: what was found, the sets with it, and the value.
-use Rattle.std.proofs.Common.{◌≡◌, ◌⊎◌, inl, inr, ℕ, ◌<◌, Bool, true, false, true≢false, List, [], ◌∷◌, ◌++◌, length}
+use Rattle.std.proofs.Common.{◌≡◌, ◌⊎◌, inl, inr, ℕ, ◌+◌, ◌<◌, ◌≤◌, Bool, true, false, true≢false, List, [], ◌∷◌, ◌++◌, length}
 use Rattle.std.proofs.Common.{refl, sym, ap, ◌∙◌, subst, cond, Option, Some, None, arith}
 use Rattle.std.specs.Prelude.{Contains, unwrap_or, ◌==◌, ◌||◌, not, Result, Ok, Err, OnOk, IsOk, is_some}
 use Rattle.std.specs.List.{find}
@@ -54,6 +54,7 @@ use Rattle.page_commit.proofs.KeepLaws.{same_pointer}
 use Rattle.page_commit.proofs.WalkedLaws.{held_same, held_to, inside_entry, inside_only, kept_walked, live_walked}
 use Rattle.page_commit.proofs.WalkedLaws.{headers_beside, headers_walked, met_entry, met_only}
 use Rattle.page_commit.proofs.HeaderLaws.{header_grown, no_head_pointer}
+use Rattle.page_commit.proofs.RoomLaws.{room_entry, room_same}
 use Rattle.page_commit.proofs.WalkedLaws.{beside_arrays, beside_but}
 use Rattle.page_commit.proofs.BelowLaws.{below_array}
 use Rattle.page_commit.proofs.WalkedLaws.{only_walked, only_walked_same, places_push, pointers_push, points_beside}
@@ -162,7 +163,7 @@ module _ (sets new : Sets) (v w : View) (k : Key) (at word value : ℕ) (live : 
     (none : has_read k sets.reads ≡ false)
     (reads : new.reads ≡ sets.reads ++ record { key = k; at = at; word = word; value = value } ∷ [])
     (pointers : new.pointers ≡ sets.pointers) (writes : new.writes ≡ sets.writes)
-    (headers : new.headers ≡ sets.headers) where
+    (headers : new.headers ≡ sets.headers) (room : length new.reads + length new.headers ≤ 256) where
   abbrev e : ReadEntry
   e = record { key = k; at = at; word = word; value = value }
 
@@ -207,6 +208,7 @@ module _ (sets new : Sets) (v w : View) (k : Key) (at word value : ℕ) (live : 
     only = only_walked_same sets new v w live f.words pointers headers;
     inside = inside_entry sets v w e live (knows_more v w walk) can.agree can.trees can.declared (inl place) other f.met
         (beside_but at v w f.others);
+    room = room;
   }
 
   pub value_in : HasValue k value sets new v w
@@ -355,6 +357,7 @@ module _ (sets new : Sets) (v w : View) (k : Key) (c : Content) (p : Seen) (answ
         f.words h.at (λ same. head_other h has same)));
     only = only_below;
     inside = inside_only sets v w live (knows_more v w walk) can.declared (beside_arrays v w f.others);
+    room = room_same sets new reads headers live.room;
   }
 
   pub value_below : HasValue k answer sets new v w
@@ -401,19 +404,22 @@ fits_now v w k walk fits =
 pub value_found : (f : Found) (answer : ℕ) (sets mid new : Sets) (v w : View) (k : Key) → mid.reads ≡ sets.reads
     → mid.pointers ≡ sets.pointers → mid.writes ≡ sets.writes → mid.headers ≡ sets.headers → IsLive sets v → HasWalked v w → CanWalk mid.holds w
     → IsArrayKey v.layout.decls k → OnlyWaysTo k v w → AreLedTo k v w → KeepsMet sets.pointers v w
-    → IsFound k sets.pointers f v w → has_read k sets.reads ≡ false → KeepsFound k f answer mid new
+    → IsFound k sets.pointers f v w → has_read k sets.reads ≡ false → HasRoomFor sets f → KeepsFound k f answer mid new
     → HasValue k answer sets new v w
-value_found (places.Volatile at word value) answer sets mid new v w k reads pointers writes headers live walk can fits paths led keeps f none h =
+value_found (places.Volatile at word value) answer sets mid new v w k reads pointers writes headers live walk can fits paths led keeps f none room h =
     subst (λ (n : ℕ). HasValue k n sets new v w) (sym h.0)
     (value_in sets new v w k at word value live walk (subst (λ l. CanWalk l w) (sym h.1.holds) can) paths led keeps f none
     (h.3 ∙ ap (λ l. l ++ record { key = k; at = at; word = word; value = value } ∷ []) reads) (h.2 ∙ pointers)
-    (h.1.writes ∙ writes) (h.1.headers ∙ headers))
-value_found (places.Snapshot value number p) answer sets mid new v w k reads pointers writes headers live walk can fits paths led keeps f none h =
+    (h.1.writes ∙ writes) (h.1.headers ∙ headers)
+    (room_entry sets new (record { key = k; at = at; word = word; value = value })
+    (h.3 ∙ ap (λ l. l ++ record { key = k; at = at; word = word; value = value } ∷ []) reads)
+    (ap (λ (l : List Seen). length l) (h.1.headers ∙ headers)) room))
+value_found (places.Snapshot value number p) answer sets mid new v w k reads pointers writes headers live walk can fits paths led keeps f none room h =
     value_below sets new v w k (record { number = number_in number; value = Some value }) p answer live walk
     (subst (λ l. CanWalk l w) (sym h.1.holds) can) (fits_now v w k walk fits) paths led keeps f none (h.3 ∙ reads)
     (h.1.writes ∙ writes) (h.1.headers ∙ headers)
     (subst (λ (l : List Seen). MeetsPointer p l new.pointers) pointers h.2) h.0
-value_found (places.Zero p) answer sets mid new v w k reads pointers writes headers live walk can fits paths led keeps f none h =
+value_found (places.Zero p) answer sets mid new v w k reads pointers writes headers live walk can fits paths led keeps f none room h =
     value_below sets new v w k nothing p answer live walk (subst (λ l. CanWalk l w) (sym h.1.holds) can)
     (fits_now v w k walk fits) paths led keeps f none (h.3 ∙ reads) (h.1.writes ∙ writes)
     (h.1.headers ∙ headers) (subst (λ (l : List Seen). MeetsPointer p l new.pointers) pointers h.2) h.0

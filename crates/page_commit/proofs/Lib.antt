@@ -1,4 +1,5 @@
 pub mod Lists
+pub mod RoomLaws
 pub mod ReadLaws
 pub mod Settling
 pub mod PlaceLaws
@@ -19,6 +20,7 @@ pub mod CommitResults
 pub mod BeginLaws
 pub mod BelowLaws
 pub mod GrowLaws
+pub mod KnownOver
 pub mod AnyPlaces
 pub mod TreePointers
 pub mod KeepLaws

@@ -54,6 +54,7 @@ use Rattle.page_commit.specs.Turning.{IsReadBy, OnlyWalked, OnlyWaysOf, PartsSta
 use Rattle.page_commit.proofs.PointerLaws.{has_pointer}
 use Rattle.page_commit.proofs.CommitResults.{keeps_only, parts_dropped}
 use Rattle.page_commit.proofs.FoundLaws.{nothing_walked}
+use Rattle.page_commit.proofs.RoomLaws.{room_same}
 use Rattle.page_commit.proofs.WriteLaws.{value_none, word_apart, writes_more, writes_only, HasWritten}
 use Rattle.page_commit.proofs.WriteLaws.{inserted_all, inserted_writes}
 
@@ -102,6 +103,7 @@ same_live sets new v live reads pointers holds headers all = record {
   headers = subst (λ (l : List Seen). AreHeaders l v) (sym headers) live.headers;
   only = keeps_only sets new v pointers headers live.only;
   inside = live.inside;
+  room = room_same sets new reads headers live.room;
 }
 
 -- ---- walks

@@ -1,6 +1,6 @@
 -- A live transaction behind a walk: what it needs to walk, and what it is then.
 use Rattle.std.proofs.Common.{◌≡◌, ◌≢◌, ◌⊎◌, inl, inr, ℕ, ◌+◌, Bool, true, false, true≢false, List, [], ◌∷◌, ◌++◌, map}
-use Rattle.std.proofs.Common.{refl, sym, ap, ◌∙◌, subst, Some}
+use Rattle.std.proofs.Common.{refl, sym, ap, ◌∙◌, subst, Some, length, ◌≤◌}
 use Rattle.std.specs.Prelude.{Contains, ◌==◌}
 use Rattle.std.specs.List.{AllByRecursion}
 use Rattle.std.proofs.lemmas.Bool.{eqb-true, eq-eqb}
@@ -130,6 +130,7 @@ pub record HasGrown (sets new : Sets) (w : View) : Type 0 where
   pub headers : AreHeaders new.headers w
   pub only : KeepsOnly new w
   pub inside : AreInside w
+  pub room : length new.reads + length new.headers ≤ 256
 
 -- so it is behind a walk of either kind
 pub live_grown : (sets new : Sets) (v w : View) → IsLive sets v → OnlyWalked v w → KnowsMore v w
@@ -156,6 +157,7 @@ live_grown sets new v w live walk more can g = record {
   headers = g.headers;
   only = g.only;
   inside = g.inside;
+  room = g.room;
 }
 
 pub live_walked : (sets new : Sets) (v w : View) → IsLive sets v → HasWalked v w → CanWalk new.holds w

@@ -1,5 +1,5 @@
 -- What is refused for a full set had one.
-use Rattle.std.proofs.Common.{◌≡◌, inl, ◌+◌, ◌≤◌, Bool, true, false, true≢false, length, refl, sym, ◌∙◌, arith}
+use Rattle.std.proofs.Common.{◌≡◌, inl, inr, ◌+◌, ◌≤◌, Bool, true, false, true≢false, length, refl, sym, ◌∙◌, arith}
 use Rattle.std.specs.Prelude.{not}
 use Rattle.std.proofs.lemmas.Bool.Decides.{nat_tests}
 use Rattle.serial_model.specs.declared.key.Key.{Key}
@@ -16,6 +16,7 @@ use Rattle.array_pages.specs.Finding.{RefusesFind}
 use Rattle.array_pages.specs.Making.{IsMadeWide, RefusesMake}
 use Rattle.array_pages.specs.Walks.{IsWide}
 use Rattle.page_commit.specs.Keeping.{lacks_entry}
+use Rattle.page_commit.specs.Needs.{IsRefusedOn, NeedsOne}
 use Rattle.page_commit.specs.Refusing.{IsWideDue, LacksRoom}
 
 -- ---- a record was not found
@@ -67,3 +68,19 @@ entry_wide_due (places.Volatile at word value) b sets v test full =
     no_entries sets (not_true (has_read_room sets) (sym test ∙ full))
 entry_wide_due (places.Snapshot value number p) b sets v test full = absurd (true≢false (sym full ∙ test))
 entry_wide_due (places.Zero p) b sets v test full = absurd (true≢false (sym full ∙ test))
+
+-- ---- an entry more was needed on the way to a key of a tree
+
+needs_lacks : (set : SetName) (k : Key) (sets : Sets) (v : View) → NeedsOne set k sets v → LacksRoom set sets v
+needs_lacks Reads k sets v h = h.0
+needs_lacks Writes k sets v h = h.0
+needs_lacks Pointers k sets v h = h.full
+needs_lacks Holds k sets v (inl full) = inl full.0
+needs_lacks Holds k sets v (inr long) = inr (k, long)
+
+pub on_wide_due : (why : RefusalCause) (k : Key) (sets : Sets) (v : View) → IsRefusedOn why k sets v
+    → IsWideDue why sets v
+on_wide_due (refusals.Conflict at expected seen) k sets v h = tt
+on_wide_due (refusals.Full held) k sets v h = tt
+on_wide_due (refusals.Wide set) k sets v h = needs_lacks set k sets v h
+on_wide_due (refusals.NumberLimit clock) k sets v h = tt

@@ -28,7 +28,7 @@ use Rattle.engine_pages.specs.Pages.{is_array}
 use Rattle.engine_pages.specs.Touches.{touch}
 use Rattle.engine_pages.specs.Views.{seat_number}
 use Rattle.page_commit.specs.Live.{IsLive, IsOver}
-use Rattle.page_commit.specs.Refusing.{IsConflictAt, IsPointerConflict, IsTreeConflict}
+use Rattle.page_commit.specs.Refusing.{IsConflictAt, IsHeaderConflict, IsPointerConflict, IsTreeConflict}
 
 -- ---- before the draw
 
@@ -144,7 +144,7 @@ RefusesCommit sets writes (refusals.Conflict at expected seen) v w =
     × (is_array v.layout.decls k.storage ≡ true))
     ⊎ (((has_word at sets.pointers ≡ true) × IsPointerConflict sets.pointers at expected seen v w
     × (w.blamed ≡ v.blamed))
-    ⊎ (((has_word at sets.headers ≡ true) × IsPointerConflict sets.headers at expected seen v w
+    ⊎ (((has_word at sets.headers ≡ true) × IsHeaderConflict sets.headers at expected seen v w
     × (w.blamed ≡ v.blamed))
     ⊎ ((k : Key) × IsRecordOf sets.reads writes k at × IsTreeConflict sets.reads at expected seen v w
     × (w.blamed ≡ v.blamed) × (is_array v.layout.decls k.storage ≡ false)))))

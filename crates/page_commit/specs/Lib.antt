@@ -3,6 +3,7 @@ pub mod HeaderParts
 pub mod Live
 pub mod Between
 pub mod Refusing
+pub mod Needs
 pub mod Committing
 pub mod Steps
 pub mod Turning

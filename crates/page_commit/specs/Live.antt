@@ -1,6 +1,6 @@
 -- A transaction and its pass: what the sets have, and what the view knows of it.
 use Rattle.std.specs.Prelude.{◌≡◌, ◌⊎◌, ℕ, ◌+◌, ◌<◌, ◌^◌, ◌==◌, Bool, true, false, is_some, Some, Option}
-use Rattle.std.specs.Prelude.{List, [], cond, unwrap_or, Contains, map}
+use Rattle.std.specs.Prelude.{List, [], cond, unwrap_or, Contains, map, length, ◌≤◌}
 use Rattle.std.specs.List.{AllByRecursion, find, list_any}
 use Rattle.std.specs.Option.{option_map}
 use Rattle.lists.specs.Each.{AreDistinct}
@@ -173,7 +173,7 @@ pub record HasHolds (slots : List ℕ) (v : View) : Type 0 where
 -- ---- transactions
 
 -- A transaction is under way, and no call of it was refused: it has yet to draw, what it read is kept as its parts, it
--- holds the slots of its set, and nothing is locked.
+-- holds the slots of its set, and nothing is locked. Records and headers that it keeps are together at most 256.
 pub record IsLive (sets : Sets) (v : View) : Type 0 where
   pub decls : AreDecls v.layout.decls
   pub worker : v.role ≡ Worker (worker_of v.role)
@@ -195,6 +195,7 @@ pub record IsLive (sets : Sets) (v : View) : Type 0 where
   pub headers : AreHeaders sets.headers v
   pub only : KeepsOnly sets v
   pub inside : AreInside v
+  pub room : length sets.reads + length sets.headers ≤ 256
 
 -- The pass of a worker without a transaction: it holds no slot, and each that it was given leads on or was given up.
 pub record IsOver (v : View) : Type 0 where

@@ -111,9 +111,9 @@ pub record IsConflictAt (reads : List ReadEntry) (k : Key) (at expected seen : �
   pub conflict : IsConflict reads at expected seen v w
   pub blamed : w.blamed ≡ v.blamed ++ touch (seat_number v.role) k ∷ []
 
--- The last load or compare_exchange is one of this call, of the word of a pointer or a header, and found it shut or not
--- the expected one. That is the word of the set of pointers or headers, and where the set has none, what the transaction
--- saw there before this step.
+-- The last load or compare_exchange is one of this call, of the word of a pointer, and found it shut or not the expected
+-- one. That is the word of the set of pointers, and where the set has none, what the transaction saw there before this
+-- step.
 pub record IsPointerConflict (pointers : List Seen) (at expected seen : ℕ) (v w : View) : Type 0 where
   pub step : ℕ
   pub last : w.last ≡ Some (glance step at seen)
@@ -123,3 +123,16 @@ pub record IsPointerConflict (pointers : List Seen) (at expected seen : ℕ) (v 
   pub stands : Contains w.reads (record { word = at; seen = seen; was = was; kept = kept })
   pub known : (word_at at pointers ≡ Some expected) ⊎ ((word_at at pointers ≡ None) × (was ≡ Some expected))
   pub cause : (2 ^ 60 ≤ seen) ⊎ (seen ≢ expected)
+
+-- So it is at the word of a header, which was found locked or not the expected one: that of the set of headers, and where
+-- the set has none, what the transaction saw there before this step. The header of a leaf that was split isn't locked by
+-- that.
+pub record IsHeaderConflict (headers : List Seen) (at expected seen : ℕ) (v w : View) : Type 0 where
+  pub step : ℕ
+  pub last : w.last ≡ Some (glance step at seen)
+  pub since : v.steps ≤ step
+  pub was : Option ℕ
+  pub kept : Option ℕ
+  pub stands : Contains w.reads (record { word = at; seen = seen; was = was; kept = kept })
+  pub known : (word_at at headers ≡ Some expected) ⊎ ((word_at at headers ≡ None) × (was ≡ Some expected))
+  pub cause : ((seen / 2 ^ 60) % 2 ≡ 1) ⊎ (seen ≢ expected)

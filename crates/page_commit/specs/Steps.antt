@@ -49,7 +49,7 @@ use Rattle.page_commit.specs.Live.{read_word, reads_at, AreMet, AreParts, ArePoi
 use Rattle.page_commit.specs.Live.{IsLive, KeepsOnly}
 use Rattle.page_commit.specs.Committing.{changes_of, touches_of}
 use Rattle.page_commit.specs.HeaderParts.{AreHeaders, HasCheckedHeads}
-use Rattle.page_commit.specs.Refusing.{IsConflict, IsPointerConflict, IsTreeConflict}
+use Rattle.page_commit.specs.Refusing.{IsConflict, IsHeaderConflict, IsPointerConflict, IsTreeConflict}
 
 -- ---- locks
 
@@ -404,7 +404,7 @@ CheckConflict sets at expected seen v w =
     × MetRecord e.key at expected seen w)
     ⊎ (((has_word at sets.pointers ≡ true) × IsPointerConflict sets.pointers at expected seen v w
     × MetPointer at expected seen w)
-    ⊎ (((has_word at sets.headers ≡ true) × IsPointerConflict sets.headers at expected seen v w
+    ⊎ (((has_word at sets.headers ≡ true) × IsHeaderConflict sets.headers at expected seen v w
     × MetTree (slot_of v.layout.slots at) 0 at expected seen w)
     ⊎ ((e : ReadEntry) × Contains sets.reads e × (e.at ≡ at) × IsTreeConflict sets.reads at expected seen v w
     × (t : ℕ) × (i : ℕ) × MetTree t i at expected seen w

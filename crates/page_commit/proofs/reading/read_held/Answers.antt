@@ -55,6 +55,7 @@ returns-else-is_wide-clause-value c =
     c.keep.new.sets (view c.args.pass.now)
     (view c.read_at.new.pass) c.args.key refl refl refl refl c.requires.live f.walked f.can c.requires.fits
     f.only ok.led ok.keeps ok.found c.requires.unread
+    (room_found c.in-Ok.found c.is_wide.result c.args.sets.now c.is_wide.ensures c.if-is_wide.false)
     c.keep.ensures.keeps
 
 -- ---- there was no room for its entry

@@ -59,8 +59,10 @@ returns-in-Ok-clause-room c =
 pub returns-in-Ok-clause-brings : goal.returns-in-Ok-clause-brings
 returns-in-Ok-clause-brings c =
     brought c.args.sets.now _ (view c.args.pass.now) (view c.make_volatile.new.pass) c.args.key c.in-Ok.at
-    c.requires.live c.make_volatile.ensures.walked c.make_volatile.ensures.can c.make_volatile.ensures.kept
-    c.make_volatile.ensures.words c.make_volatile.ensures.only c.in-Ok.ensures.led c.in-Ok.ensures.made refl refl refl refl
+    c.requires.live c.make_volatile.ensures.makes.walked c.make_volatile.ensures.makes.can
+    c.make_volatile.ensures.makes.kept
+    c.make_volatile.ensures.makes.words c.make_volatile.ensures.makes.only c.in-Ok.ensures.makes.led
+    c.in-Ok.ensures.makes.made refl refl refl refl
 
 -- ---- it was not
 
@@ -68,9 +70,11 @@ pub refuse-requires-in-Err-clause-can : goal.refuse-requires-in-Err-clause-can
 refuse-requires-in-Err-clause-can c =
     let v = view c.args.pass.now in
     let w = view c.make_volatile.new.pass in
-    can_refuse c.args.sets.now c.make_volatile.new.holds v w c.requires.live (only_walked v w c.make_volatile.ensures.walked)
-    (walked_holds c.args.sets.now.holds c.make_volatile.new.holds v w c.requires.live.holds c.make_volatile.ensures.walked
-    c.make_volatile.ensures.can.walks)
+    can_refuse c.args.sets.now c.make_volatile.new.holds v w c.requires.live
+    (only_walked v w c.make_volatile.ensures.makes.walked)
+    (walked_holds c.args.sets.now.holds c.make_volatile.new.holds v w c.requires.live.holds
+    c.make_volatile.ensures.makes.walked
+    c.make_volatile.ensures.makes.can.walks)
 
 pub refuse-requires-in-Err-clause-due : goal.refuse-requires-in-Err-clause-due
 refuse-requires-in-Err-clause-due c =
@@ -78,16 +82,16 @@ refuse-requires-in-Err-clause-due c =
     let w = view c.make_volatile.new.pass in
     let h : Walked c.args.sets.now v w = record {
       live = c.requires.live;
-      walk = c.make_volatile.ensures.walked;
-      agree = c.make_volatile.ensures.can.walks.agree;
-      decls = c.make_volatile.ensures.can.walks.declared;
+      walk = c.make_volatile.ensures.makes.walked;
+      agree = c.make_volatile.ensures.makes.can.walks.agree;
+      decls = c.make_volatile.ensures.makes.can.walks.declared;
     } in
-    make_due c.in-Err.why c.args.sets.now c.make_volatile.new.holds c.args.key v w h c.in-Err.ensures.cause
+    make_due c.in-Err.why c.args.sets.now c.make_volatile.new.holds c.args.key v w h c.in-Err.ensures.makes.cause
 
 pub refuse-requires-in-Err-clause-wide : goal.refuse-requires-in-Err-clause-wide
 refuse-requires-in-Err-clause-wide c =
     make_wide_due c.in-Err.why (record c.args.sets.now { holds = c.make_volatile.new.holds }) c.args.key
-    (view c.args.pass.now) (view c.make_volatile.new.pass) c.in-Err.ensures.cause
+    (view c.args.pass.now) (view c.make_volatile.new.pass) c.in-Err.ensures.makes.cause
 
 pub returns-in-Err-clause-cause : goal.returns-in-Err-clause-cause
 returns-in-Err-clause-cause c =
@@ -95,16 +99,16 @@ returns-in-Err-clause-cause c =
     let w = view c.make_volatile.new.pass in
     let h : Walked c.args.sets.now v w = record {
       live = c.requires.live;
-      walk = c.make_volatile.ensures.walked;
-      agree = c.make_volatile.ensures.can.walks.agree;
-      decls = c.make_volatile.ensures.can.walks.declared;
+      walk = c.make_volatile.ensures.makes.walked;
+      agree = c.make_volatile.ensures.makes.can.walks.agree;
+      decls = c.make_volatile.ensures.makes.can.walks.declared;
     } in
     let new : Sets = record c.args.sets.now { holds = c.make_volatile.new.holds } in
     subst (λ (r : RefusalCause). RefusesWrite c.args.sets.now new c.args.key r v (view c.refuse-in-Err.new.pass))
     (sym c.refuse-in-Err.ensures.why)
     (make_cause c.in-Err.why c.args.sets.now new c.args.key v w (view c.refuse-in-Err.new.pass) h
     (writes_room c.is_full.result _ c.is_full.ensures.value c.is_full.ensures.bound c.if-is_full.false) c.requires.unwritten
-    c.in-Err.ensures.cause c.refuse-in-Err.ensures.gives_up)
+    c.in-Err.ensures.makes.cause c.refuse-in-Err.ensures.gives_up)
 
 pub returns-in-Err-clause-refused : goal.returns-in-Err-clause-refused
 returns-in-Err-clause-refused c =
@@ -112,18 +116,20 @@ returns-in-Err-clause-refused c =
     let w = view c.make_volatile.new.pass in
     let h : Walked c.args.sets.now v w = record {
       live = c.requires.live;
-      walk = c.make_volatile.ensures.walked;
-      agree = c.make_volatile.ensures.can.walks.agree;
-      decls = c.make_volatile.ensures.can.walks.declared;
+      walk = c.make_volatile.ensures.makes.walked;
+      agree = c.make_volatile.ensures.makes.can.walks.agree;
+      decls = c.make_volatile.ensures.makes.can.walks.declared;
     } in
     subst (λ (r : RefusalCause). HasRefused r v (view c.refuse-in-Err.new.pass)) (sym c.refuse-in-Err.ensures.why)
     (walked_refused c.in-Err.why c.args.sets.now c.make_volatile.new.holds v w (view c.refuse-in-Err.new.pass) c.requires.live
-    (only_walked v w c.make_volatile.ensures.walked)
-    (walked_holds c.args.sets.now.holds c.make_volatile.new.holds v w c.requires.live.holds c.make_volatile.ensures.walked
-    c.make_volatile.ensures.can.walks)
-    c.make_volatile.ensures.can.walks.agree c.make_volatile.ensures.can.walks.trees
+    (only_walked v w c.make_volatile.ensures.makes.walked)
+    (walked_holds c.args.sets.now.holds c.make_volatile.new.holds v w c.requires.live.holds
+    c.make_volatile.ensures.makes.walked
+    c.make_volatile.ensures.makes.can.walks)
+    c.make_volatile.ensures.makes.can.walks.agree c.make_volatile.ensures.makes.can.walks.trees
     (λ met told.
-    make_told c.in-Err.why c.args.sets.now c.make_volatile.new.holds c.args.key v w met h c.in-Err.ensures.cause told)
+    make_told c.in-Err.why c.args.sets.now c.make_volatile.new.holds c.args.key v w met h c.in-Err.ensures.makes.cause
+    told)
     c.refuse-in-Err.ensures.gives_up)
 
 -- ---- steps
@@ -132,8 +138,8 @@ pub returns-then-is_full-clause-most : goal.returns-then-is_full-clause-most
 returns-then-is_full-clause-most c = let one = c.refuse.ensures.most in omega (arith, one)
 
 pub returns-in-Ok-clause-most : goal.returns-in-Ok-clause-most
-returns-in-Ok-clause-most c = let one = c.make_volatile.ensures.most in omega (arith, one)
+returns-in-Ok-clause-most c = let one = c.make_volatile.ensures.makes.most in omega (arith, one)
 
 pub returns-in-Err-clause-most : goal.returns-in-Err-clause-most
 returns-in-Err-clause-most c =
-    let one = c.make_volatile.ensures.most in let two = c.refuse-in-Err.ensures.most in omega (arith, one, two)
+    let one = c.make_volatile.ensures.makes.most in let two = c.refuse-in-Err.ensures.most in omega (arith, one, two)

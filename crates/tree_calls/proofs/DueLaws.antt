@@ -38,6 +38,7 @@ use Rattle.page_commit.proofs.GiveUpLaws.{none_left}
 use Rattle.page_commit.proofs.GrowLaws.{any_grown, entry_at, met_pointer_grown, KnowsMore}
 use Rattle.page_commit.proofs.HeaderLaws.{header_grown, no_head_tree}
 use Rattle.page_commit.proofs.KeepLaws.{in_pointers}
+use Rattle.page_commit.proofs.KnownOver.{header_known, pointer_known, ways_known}
 use Rattle.page_commit.proofs.PointerLaws.{pointer_word}
 use Rattle.page_commit.proofs.TreePointers.{any_pointer_here}
 use Rattle.tree_calls.specs.Causes.{IsWordConflict}
@@ -322,6 +323,8 @@ module _ (why : RefusalCause) (sets : Sets) (slots : List ℕ) (k : Key) (v w x 
           cause = p.cause;
         },
         pointer_over,
+        pointer_known k at v w (p.on).span (more_of sets slots v w h) (h.can).agree (h.can).trees
+            (pointer_place slots k w at h.can p.on) (p.on).over,
       ),
     ),
     told_none [] why (p.on).span at expected seen v w x blamed_walk same (pointer_place slots k w at h.can p.on) g,
@@ -354,12 +357,10 @@ module _ (why : RefusalCause) (sets : Sets) (slots : List ℕ) (k : Key) (v w x 
           stands = kept_others [] why w x g (record { word = at; seen = seen; was = c.was; kept = (c.saw).kept }) (c.saw).stands
               refl;
           known = c.known;
-          cause = elim c.cause [
-            | inl locked ↦ inl (omega (arith, locked))
-            | inr other ↦ inr other
-          ];
+          cause = c.cause;
         },
         header_over,
+        header_known k at v w (more_of sets slots v w h) (h.can).trees header_over,
       )),
     ),
     told_tree [] why c.slot 0 at expected seen v w x blamed_walk same (head_word sets slots k at expected seen v w h c) g,
@@ -400,13 +401,17 @@ module _ (why : RefusalCause) (sets : Sets) (slots : List ℕ) (k : Key) (v w x 
           read = λ n is. absurd (none_read_at n is);
           cause = c.cause;
         },
-        place sets slots k at expected seen v w h c,
+        there,
+        ways_known k at v w there.way (more_of sets slots v w h) (h.can).trees there.has there.slot there.kind there.over,
       )),
     ),
     told_tree [] why (c.spot).slot (word_in tree_leaf (c.spot).index) at expected seen v w x blamed_walk same
         (record_word sets slots k at expected seen v w h c) g,
   )
     where
+      there : IsTreeKeyIn (ground w) k at
+      there = place sets slots k at expected seen v w h c
+
       none_read_at : (n : ℕ) → read_word at sets.reads ≡ Some n → ⊥
       none_read_at n is =
           let e = entry_at sets.reads at n is in

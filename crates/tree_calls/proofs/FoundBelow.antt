@@ -31,6 +31,7 @@ use Rattle.page_commit.proofs.HeaderLaws.{header_grown, no_head_pointer}
 use Rattle.page_commit.proofs.KeepLaws.{kept_new, pointer_cases, pointer_has, pointer_old, pointer_parts, pointer_stays}
 use Rattle.page_commit.proofs.KeepLaws.{same_pointer}
 use Rattle.page_commit.proofs.PointerLaws.{has_pointer, pointer_word}
+use Rattle.page_commit.proofs.RoomLaws.{room_same}
 use Rattle.page_commit.proofs.TreePointers.{LiesBelow, any_place_of_word, any_pointer_here}
 use Rattle.page_commit.proofs.WalkedLaws.{held_to, inside_only, live_grown, met_only, pointers_push}
 use Rattle.tree_calls.specs.Keeping.{HasValue}
@@ -162,6 +163,7 @@ module _ (sets new : Sets) (v w : View) (k : Key) (c : Content) (p : Seen) (live
     headers = subst (λ (l : List Seen). AreHeaders l w) (sym headers) heads_below;
     only = only_below;
     inside = inside_only sets v w live more can.declared (beside_trees v w can.declared only);
+    room = room_same sets new reads headers live.room;
   }
 
   -- the pointer is on the way to the key

@@ -295,7 +295,7 @@ module _ (sets new : Sets) (v w : View) (k : Key) (at word : ℕ) (live : IsLive
     (can : CanWalk new.holds w) (only : OnlyTrees v w) (keeps : KeepsMet sets.pointers sets.headers v w)
     (f : IsAbsentIn k sets.headers at word v w) (reads : new.reads ≡ sets.reads) (pointers : new.pointers ≡ sets.pointers)
     (meets : MeetsPointer (record { at = at; word = word }) sets.headers new.headers)
-    (writes : new.writes ≡ sets.writes) where
+    (writes : new.writes ≡ sets.writes) (room : length new.reads + length new.headers ≤ 256) where
   abbrev h : Seen
   h = record { at = at; word = word }
 
@@ -394,6 +394,7 @@ module _ (sets new : Sets) (v w : View) (k : Key) (at word : ℕ) (live : IsLive
     headers = heads_now;
     only = only_heads;
     inside = inside_only sets v w live more can.declared (beside_trees v w can.declared only);
+    room = room;
   }
 
   -- the header is on the way to the key

@@ -1,6 +1,6 @@
 -- A record of a tree that was read joins the sets.
 use Rattle.std.proofs.Common.{◌≡◌, inl, inr, ℕ, ◌+◌, ◌^◌, ◌<◌, ◌≤◌, Bool, true, false, true≢false, ltb, List, [], ◌∷◌, ◌++◌}
-use Rattle.std.proofs.Common.{refl, sym, ap, ◌∙◌, subst, Option, Some, None, arith}
+use Rattle.std.proofs.Common.{refl, sym, ap, ◌∙◌, subst, Option, Some, None, arith, length}
 use Rattle.std.specs.Prelude.{Contains, unwrap_or, if◌then◌else◌, nat_lt}
 use Rattle.std.proofs.lemmas.Bool.Decides.{nat_tests}
 use Rattle.lists.specs.Each.{AreDistinct}
@@ -67,7 +67,7 @@ module _ (sets new : Sets) (v w : View) (k : Key) (at word value : ℕ) (live : 
     (f : IsFoundIn k at word value v w) (none : has_read k sets.reads ≡ false)
     (reads : new.reads ≡ sets.reads ++ record { key = k; at = at; word = word; value = value } ∷ [])
     (pointers : new.pointers ≡ sets.pointers) (headers : new.headers ≡ sets.headers)
-    (writes : new.writes ≡ sets.writes) where
+    (writes : new.writes ≡ sets.writes) (room : length new.reads + length new.headers ≤ 256) where
   abbrev e : ReadEntry
   e = record { key = k; at = at; word = word; value = value }
 
@@ -124,6 +124,7 @@ module _ (sets new : Sets) (v w : View) (k : Key) (at word value : ℕ) (live : 
     only = only_walked_same sets new v w live f.words pointers headers;
     inside = inside_entry sets v w e live more can.agree can.trees can.declared (inr place) other f.met
         (beside_trees_but at v w can.declared only);
+    room = room;
   }
 
   pub value_record : OnlyWaysOn k v w → AreLedTo k v w → HasValue k (value_in (places.Volatile at word value)) sets new v w

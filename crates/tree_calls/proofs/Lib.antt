@@ -5,9 +5,10 @@ pub mod FoundHeader
 pub mod FoundBelow
 pub mod OpLaws
 pub mod DoneLaws
+pub mod AnswerLaws
 pub mod DueLaws
 pub mod CauseLaws
-pub mod WideLaws
+pub mod OnLaws
 pub mod SinceLaws
 pub mod SetLaws
 pub mod ValueLaws

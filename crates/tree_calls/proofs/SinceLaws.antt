@@ -1,5 +1,5 @@
 -- A read of a key of a tree that was refused behind a walk which read and met nothing.
-use Rattle.std.proofs.Common.{◌≡◌, inl, inr, ℕ, ◌≤◌, false, List, length}
+use Rattle.std.proofs.Common.{◌≡◌, ◌⊎◌, inl, inr, ℕ, ◌≤◌, false, List, length}
 use Rattle.std.proofs.Common.{ap, ◌∙◌, subst, arith, None}
 use Rattle.serial_model.specs.declared.key.Key.{Key}
 use Rattle.tx_sets.specs.declared.reads.ReadEntry.{ReadEntry}
@@ -10,14 +10,29 @@ use Rattle.tx_sets.specs.Entries.{has_read, has_write, word_at}
 use Rattle.engine_pages.specs.declared.view.RefusalCause.{RefusalCause}
 use Rattle.engine_pages.specs.declared.view.RefusalCause.TheVariants as refusals
 use Rattle.engine_pages.specs.declared.view.View.{View}
-use Rattle.page_commit.specs.Refusing.{IsPointerConflict, IsTreeConflict}
+use Rattle.page_commit.specs.Refusing.{IsHeaderConflict, IsPointerConflict, IsTreeConflict}
 use Rattle.page_commit.specs.Turning.{OnlyWalked}
+use Rattle.page_commit.proofs.KnownOver.{pointers_before, ways_before}
 use Rattle.page_commit.proofs.TurnLaws.{walks_then}
-use Rattle.tree_calls.specs.Causes.{IsWordConflict, NeedsEntry, NeedsPointer, RefusesTreeRead, WasLong}
+use Rattle.tree_calls.specs.Causes.{IsNewHeader, IsNewRecord, IsWordConflict, NeedsEntry, NeedsPointer, NeedsSlot}
+use Rattle.tree_calls.specs.Causes.{RefusesTreeRead, WasLong}
 
 pub pointer_since : (pointers : List Seen) (at expected seen : ℕ) (v w x : View) → v.steps ≤ w.steps
     → IsPointerConflict pointers at expected seen w x → IsPointerConflict pointers at expected seen v x
 pointer_since pointers at expected seen v w x since c = record {
+  step = c.step;
+  last = c.last;
+  since = let low = c.since in omega (arith, since, low);
+  was = c.was;
+  kept = c.kept;
+  stands = c.stands;
+  known = c.known;
+  cause = c.cause;
+}
+
+pub head_since : (headers : List Seen) (at expected seen : ℕ) (v w x : View) → v.steps ≤ w.steps
+    → IsHeaderConflict headers at expected seen w x → IsHeaderConflict headers at expected seen v x
+head_since headers at expected seen v w x since c = record {
   step = c.step;
   last = c.last;
   since = let low = c.since in omega (arith, since, low);
@@ -42,6 +57,11 @@ record_since reads at expected seen v w x since c = record {
 pub long_since : (k : Key) (v w : View) → OnlyWalked v w → WasLong k w → WasLong k v
 long_since k v w only l = record { then = l.then; walked = walks_then v w l.then only l.walked; long = l.long }
 
+pub hold_since : (k : Key) (slots : List ℕ) (v w x : View) → OnlyWalked v w → NeedsSlot k slots w x
+    → NeedsSlot k slots v x
+hold_since k slots v w x only n =
+    record { then = n.then; walked = walks_then v w n.then only n.walked; met = n.met; needs = n.needs }
+
 -- what differs of the sets is their holds alone
 module _ (sets mid : Sets) (k : Key) (v w x : View) (only : OnlyWalked v w) (reads : mid.reads ≡ sets.reads)
     (pointers : mid.pointers ≡ sets.pointers) (headers : mid.headers ≡ sets.headers) where
@@ -55,17 +75,20 @@ module _ (sets mid : Sets) (k : Key) (v w x : View) (only : OnlyWalked v w) (rea
         subst (λ (l : List Seen). IsPointerConflict l at expected seen v x) pointers
             (pointer_since mid.pointers at expected seen v w x only.since p.0),
         p.1,
+        pointers_before k at v w only p.2,
       )
       | inr more ↦ inr (elim more [
         | inl h ↦ inl (
-          subst (λ (l : List Seen). IsPointerConflict l at expected seen v x) headers
-              (pointer_since mid.headers at expected seen v w x only.since h.0),
+          subst (λ (l : List Seen). IsHeaderConflict l at expected seen v x) headers
+              (head_since mid.headers at expected seen v w x only.since h.0),
           h.1,
+          ways_before k at v w only h.2,
         )
         | inr r ↦ inr (
           subst (λ (l : List ReadEntry). IsTreeConflict l at expected seen v x) reads
               (record_since mid.reads at expected seen v w x only.since r.0),
           r.1,
+          ways_before k at v w only r.2,
         )
       ])
     ],
@@ -75,7 +98,12 @@ module _ (sets mid : Sets) (k : Key) (v w x : View) (only : OnlyWalked v w) (rea
   entry_since n = record {
     read = n.read;
     met = n.met;
-    absent = subst (λ (l : List Seen). word_at n.read.word l ≡ None) headers n.absent;
+    is = subst
+        (λ (l : List Seen). IsNewRecord sets.reads x.layout.slots n.read.word n.read.seen
+        ⊎ IsNewHeader l x.layout.slots n.read.word n.read.seen) headers
+        (subst
+        (λ (l : List ReadEntry). IsNewRecord l x.layout.slots n.read.word n.read.seen
+        ⊎ IsNewHeader mid.headers x.layout.slots n.read.word n.read.seen) reads n.is);
   }
 
   needs_since : NeedsPointer mid x → NeedsPointer sets x
@@ -83,6 +111,7 @@ module _ (sets mid : Sets) (k : Key) (v w x : View) (only : OnlyWalked v w) (rea
     read = n.read;
     met = n.met;
     bare = n.bare;
+    apart = n.apart;
     absent = subst (λ (l : List Seen). word_at n.read.word l ≡ None) pointers n.absent;
   }
 
@@ -111,7 +140,13 @@ module _ (sets mid : Sets) (k : Key) (v w x : View) (only : OnlyWalked v w) (rea
         entry_since e.2,
       )
       | inr more ↦ inr (elim more [
-        | inl h ↦ inl (h.0, elim h.1 [ inl full ↦ inl full | inr long ↦ inr (long_since k v w only long) ])
+        | inl h ↦ inl (
+          h.0,
+          elim h.1 [
+            | inl full ↦ inl (full.0, hold_since k new.holds v w x only full.1)
+            | inr long ↦ inr (long_since k v w only long)
+          ],
+        )
         | inr p ↦ inr (
           p.0,
           subst (λ (l : List Seen). length l ≡ 128) pointers p.1,

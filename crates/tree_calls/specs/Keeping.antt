@@ -3,11 +3,12 @@ use Rattle.std.specs.Prelude.{◌≡◌, ◌⊎◌, ℕ, ◌+◌, ◌<◌, ◌^�
 use Rattle.std.specs.Prelude.{Contains, true, false, Bool, not, ◌&&◌}
 use Rattle.serial_model.specs.declared.key.Key.{Key}
 use Rattle.homes.specs.Homes.{in_span}
+use Rattle.commit_core.specs.Serial.{last_write}
 use Rattle.serial_bridge.specs.Transaction.{Vouched}
 use Rattle.tx_sets.specs.declared.reads.ReadEntry.{ReadEntry}
 use Rattle.tx_sets.specs.declared.seen.Seen.{Seen}
 use Rattle.tx_sets.specs.declared.sets.Sets.{Sets}
-use Rattle.tx_sets.specs.Entries.{has_word, word_at}
+use Rattle.tx_sets.specs.Entries.{has_word, read_of, value_of, word_at}
 use Rattle.tx_sets.specs.Gathered.{has_read_room}
 use Rattle.engine_pages.specs.declared.view.View.{View}
 use Rattle.engine_pages.specs.declared.view.Way.{Way}
@@ -75,6 +76,15 @@ KeepsFound k (places.Zero p) sets new =
     × (new.reads ≡ sets.reads)
 
 -- ---- reads
+
+-- What a read answers at a key of a tree: what the transaction wrote there last; else what it first read there; else what
+-- this call saw, the last decided write of the key, of all that was drawn and decided up to the step that saw it, or what
+-- stood there at first.
+pub record IsTreeValueRead (k : Key) (value : Option ℕ) (sets : Sets) (v w : View) : Type 0 where
+  pub own : (x : Option ℕ) → value_of k sets.writes ≡ Some x → value ≡ x
+  pub again : (e : ReadEntry) → value_of k sets.writes ≡ None → read_of k sets.reads ≡ Some e → value ≡ entry_value e
+  pub anew : value_of k sets.writes ≡ None → read_of k sets.reads ≡ None
+      → value ≡ (last_write v.layout.opening w.history w.decided k).value
 
 -- each way that is new is over the key, or into a half of a page on the way to it
 abbrev pub OnlyWaysOn : Key → View → View → Type 0

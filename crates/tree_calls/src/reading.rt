@@ -13,9 +13,10 @@ ghost use Rattle.page_commit.specs.Turning.{HasDone};
 ghost use Rattle.tree_walks.specs.Finds.{find_steps};
 ghost use Rattle.tree_calls.specs.Causes.{RefusesTreeRead};
 ghost use Rattle.tree_calls.specs.Keeping.{entry_value, lacks_entry, value_in, HasPlaceFor, HasRoomFor, HasValue, KeepsFound};
+ghost use Rattle.tree_calls.specs.Keeping.{IsTreeValueRead};
 
 use engine_pages::{Engine, Pass, RefusalCause, SetName};
-use page_commit::refuse;
+use page_commit::refuse_on;
 use serial_model::Key;
 use tree_walks::{Found, find};
 use tx_sets::{HeaderSet, PointerSet, ReadEntry, Seen, Sets};
@@ -38,6 +39,8 @@ pub fn read(
     ensures of { IsPassOf engine.now pass.new }
     ensures replies { IfOk result (λ value.
         HasDone (ops.Read key) (Some (reply_of true value)) sets.old sets.new (view pass.old) (view pass.new)) }
+    ensures answer { IfOk result (λ value.
+        IsTreeValueRead key value sets.old (view pass.old) (view pass.new)) }
     ensures cause { IfErr result (λ why.
         RefusesTreeRead sets.old sets.new key why (view pass.old) (view pass.new)) }
     ensures refused { IfErr result (λ why. HasRefused why (view pass.old) (view pass.new)) }
@@ -63,6 +66,8 @@ pub fn read_value(
     ensures of { IsPassOf engine.now pass.new }
     ensures value { IfOk result (λ value.
         HasValue key value sets.old sets.new (view pass.old) (view pass.new)) }
+    ensures answer { IfOk result (λ value.
+        IsTreeValueRead key value sets.old (view pass.old) (view pass.new)) }
     ensures cause { IfErr result (λ why.
         RefusesTreeRead sets.old sets.new key why (view pass.old) (view pass.new)) }
     ensures refused { IfErr result (λ why. HasRefused why (view pass.old) (view pass.new)) }
@@ -89,6 +94,8 @@ fn read_anew(
     ensures of { IsPassOf engine.now pass.new }
     ensures value { IfOk result (λ value.
         HasValue key value sets.old sets.new (view pass.old) (view pass.new)) }
+    ensures answer { IfOk result (λ value.
+        IsTreeValueRead key value sets.old (view pass.old) (view pass.new)) }
     ensures cause { IfErr result (λ why.
         RefusesTreeRead sets.old sets.new key why (view pass.old) (view pass.new)) }
     ensures refused { IfErr result (λ why. HasRefused why (view pass.old) (view pass.new)) }
@@ -107,11 +114,11 @@ fn read_anew(
                 let why = RefusalCause::Wide {
                     set: SetName::Reads,
                 };
-                return Err(refuse(engine, pass, sets, why));
+                return Err(refuse_on(engine, pass, sets, key, why));
             }
             Ok(keep(sets, key, found))
         }
-        Err(why) => Err(refuse(engine, pass, sets, why)),
+        Err(why) => Err(refuse_on(engine, pass, sets, key, why)),
     }
 }
 

@@ -31,13 +31,14 @@ use Rattle.page_commit.specs.Places.{slot_of}
 use Rattle.page_commit.specs.Turning.{AreWritesOf, HasDone, IsHeaderOver, IsPointerOf, IsReadBy, IsTreePointerOver}
 use Rattle.page_commit.specs.Turning.{MayRead}
 use Rattle.page_commit.specs.Turning.{OnlyWalked}
+use Rattle.page_commit.proofs.KnownOver.{pointers_before, ways_before}
 use Rattle.page_commit.proofs.PointerLaws.{has_pointer}
 use Rattle.page_commit.proofs.RefuseLaws.{refused_since}
 use Rattle.page_commit.proofs.TurnLaws.{walks_then}
 use Rattle.tree_scans.specs.Rows.{key_in}
 use Rattle.tree_calls.specs.Causes.{IsWordConflict}
 use Rattle.tree_calls.proofs.OpLaws.{held_both, held_for, ways_both, ways_for}
-use Rattle.tree_calls.proofs.SinceLaws.{long_since, pointer_since, record_since}
+use Rattle.tree_calls.proofs.SinceLaws.{head_since, hold_since, long_since, pointer_since, record_since}
 use Rattle.tree_calls.proofs.TreeWalkLaws.{tree_walked}
 use Rattle.tree_ranges.specs.Causes.{HasGrown, HasJoined, IsInRange, IsScanCause, RefusesScan}
 use Rattle.tree_ranges.specs.Going.{GoesIn, HasGone, HasRead, HasScanned, IsHeaderOf, Stops}
@@ -309,10 +310,22 @@ conflict_since new k at expected seen v u x only c = (
   c.0,
   walks_then v u c.0 only c.1,
   elim c.2 [
-    | inl p ↦ inl (pointer_since new.pointers at expected seen v u x only.since p.0, p.1)
+    | inl p ↦ inl (
+      pointer_since new.pointers at expected seen v u x only.since p.0,
+      p.1,
+      pointers_before k at v u only p.2,
+    )
     | inr more ↦ inr (elim more [
-      | inl h ↦ inl (pointer_since new.headers at expected seen v u x only.since h.0, h.1)
-      | inr r ↦ inr (record_since new.reads at expected seen v u x only.since r.0, r.1)
+      | inl h ↦ inl (
+        head_since new.headers at expected seen v u x only.since h.0,
+        h.1,
+        ways_before k at v u only h.2,
+      )
+      | inr r ↦ inr (
+        record_since new.reads at expected seen v u x only.since r.0,
+        r.1,
+        ways_before k at v u only r.2,
+      )
     ])
   ],
 )
@@ -326,7 +339,13 @@ cause_since (refusals.Wide set) new k v u x only c =
     elim c [
       | inl e ↦ inl e
       | inr more ↦ inr (elim more [
-        | inl h ↦ inl (h.0, elim h.1 [ inl full ↦ inl full | inr long ↦ inr (long_since k v u only long) ])
+        | inl h ↦ inl (
+          h.0,
+          elim h.1 [
+            | inl full ↦ inl (full.0, hold_since k new.holds v u x only full.1)
+            | inr long ↦ inr (long_since k v u only long)
+          ],
+        )
         | inr p ↦ inr p
       ])
     ]

@@ -53,7 +53,8 @@ module _ (sets new : Sets) (v w : View) (k : Key) (x : Leaf) (at : ℕ) (m : IsL
     x.slot 0)
     (reads : new.reads ≡ sets.reads) (pointers : new.pointers ≡ sets.pointers) (holds : new.holds ≡ sets.holds)
     (writes : new.writes ≡ sets.writes)
-    (meets : MeetsPointer (record { at = at; word = x.header }) sets.headers new.headers) where
+    (meets : MeetsPointer (record { at = at; word = x.header }) sets.headers new.headers)
+    (room : length new.reads + length new.headers ≤ 256) where
   abbrev h : Seen
   h = record { at = at; word = x.header }
 
@@ -185,6 +186,7 @@ module _ (sets new : Sets) (v w : View) (k : Key) (x : Leaf) (at : ℕ) (m : IsL
     headers = heads_now;
     only = only_heads;
     inside = inside_only sets v w live more can.declared (beside_trees v w can.declared keeps.only);
+    room = room;
   }
 
   -- the header is on the way to the key

@@ -5,7 +5,7 @@ use Rattle.std.proofs.Common.{[], ◌∷◌, length, length-append, refl, sym, a
 use Rattle.std.specs.Prelude.{Contains, Ok, Err}
 use Rattle.std.specs.List.{slice_get}
 use Rattle.std.proofs.lemmas.Bool.{and_parts}
-use Rattle.lists.specs.Elements.{any_in, any_is, at_in, in_cases, in_none}
+use Rattle.lists.specs.Elements.{any_in, any_is, at_in, in_cases, in_none, in_push_new}
 use Rattle.serial_model.specs.declared.key.Key.{Key}
 use Rattle.homes.specs.Homes.{has_key, same_key}
 use Rattle.homes.specs.Laws.{same_key-self}
@@ -34,7 +34,7 @@ use Rattle.page_commit.proofs.WalkedLaws.{can_walk}
 use Rattle.tree_scans.specs.declared.smallest.Place.{Place}
 use Rattle.tree_scans.specs.Rows.{key_in}
 use Rattle.tree_scans.specs.Smallest.{IsSmallest}
-use Rattle.tree_ranges.specs.Going.{Comes, GoesIn, HasRow, ReadsTo, Stops, TakesRow}
+use Rattle.tree_ranges.specs.Going.{Comes, GoesIn, HasRow, HasRowOf, ReadsTo, Stops, TakesRow}
 use Rattle.tree_ranges.specs.Leaves.{IsLeafTaken}
 use Rattle.tree_ranges.specs.Rows.{with_row, AreFree, AreRowsOf, RowsGoOn}
 use Rattle.tree_ranges.proofs.GoneLaws.{goes_more, goes_none, goes_then, read_goes, stops_then}
@@ -101,11 +101,22 @@ with_few rows (Some value) n all is few =
     ∙ length-append rows ((n, value) ∷ []) in
     omega (arith, e, few)
 
--- The records of the leaf below this key were read.
+-- where they are 16 then, this one is new
+pub with_full : (rows : List (ℕ × ℕ)) (value : Option ℕ) (n : ℕ) (all : List (ℕ × ℕ)) → all ≡ with_row n value rows
+    → length rows < 16 → length all ≡ 16 → HasRowOf n all
+with_full rows None n all is few full =
+    let e = ap (λ (l : List (ℕ × ℕ)). length l) is in absurd (omega (arith, e, few, full))
+with_full rows (Some value) n all is few full = record {
+  row = (n, value);
+  among = subst (λ (l : List (ℕ × ℕ)). Contains l (n, value)) (sym is) (in_push_new (n, value) rows);
+  is = refl;
+}
+
+-- The records of the leaf below this key were read, and no others.
 pub record IsReading
     (sets : Sets) (k : Key) (top : ℕ) (rows : List (ℕ × ℕ)) (v : View) (mid : Sets) (from : ℕ) (some : List (ℕ × ℕ))
     (u : View) : Type 0 where
-  pub gone : GoesIn k.storage k.key top sets mid v u
+  pub gone : (to : ℕ) → k.key ≤ to → from ≤ to + 1 → GoesIn k.storage k.key to sets mid v u
   pub go_on : RowsGoOn k.storage k.key from sets.writes v.seat.kept u.seat.kept rows some
   pub few : length some < 16
   pub low : k.key ≤ from
@@ -116,7 +127,7 @@ module _ (sets : Sets) (k : Key) (x : Leaf) (top : ℕ) (rows : List (ℕ × ℕ
     (taken : IsLeafTaken k x top v) (free : AreFree k.storage k.key top sets.writes) (start : k.key ≤ top) where
   pub reading_none : length rows < 16 → IsReading sets k top rows v sets k.key rows v
   reading_none few = record {
-    gone = goes_none k.storage k.key top sets v live;
+    gone = λ to low high. goes_none k.storage k.key to sets v live;
     go_on = λ low less are. are;
     few = few;
     low = omega arith;
@@ -127,13 +138,13 @@ module _ (sets : Sets) (k : Key) (x : Leaf) (top : ℕ) (rows : List (ℕ × ℕ
   module _ (mid : Sets) (from : ℕ) (some : List (ℕ × ℕ)) (u : View) (r : IsReading sets k top rows v mid from some u)
     where
       abbrev pub walked : HasWalked v u
-      walked = (r.gone k.key top (omega arith) (omega arith)).walked
+      walked = (r.gone top start r.high k.key top (omega arith) (omega arith)).walked
 
       pub reading_live : IsLive mid u
-      reading_live = (r.gone k.key top (omega arith) (omega arith)).live
+      reading_live = (r.gone top start r.high k.key top (omega arith) (omega arith)).live
 
       writes_same : mid.writes ≡ sets.writes
-      writes_same = (r.gone k.key top (omega arith) (omega arith)).writes
+      writes_same = (r.gone top start r.high k.key top (omega arith) (omega arith)).writes
 
       abbrev pub reading_leaf : IsLeafAt k x u
       reading_leaf = leaf_stays k x v u walked taken.leaf
@@ -147,10 +158,11 @@ module _ (sets : Sets) (k : Key) (x : Leaf) (top : ℕ) (rows : List (ℕ × ℕ
             read = record {
               from_is = start;
               within = omega arith;
-              gone = r.gone;
+              gone = r.gone top start r.high;
               go_on = subst (λ (i : ℕ). RowsGoOn k.storage k.key i sets.writes v.seat.kept u.seat.kept rows some)
                   (let e : from ≡ top + 1 = omega (arith, past, high) in e) r.go_on;
               few = omega (arith, few);
+              full = λ is. absurd (omega (arith, few, is));
             };
             quick = omega (arith, most, high);
             stops = tt;
@@ -172,14 +184,17 @@ module _ (sets : Sets) (k : Key) (x : Leaf) (top : ℕ) (rows : List (ℕ × ℕ
             (λ a. ap (λ (z : View). kept_at z.reads a) gl.is) (λ a. inl (ap (λ (z : View). seen_at z.reads a) gl.is))
             (keeps_glanced mid.pointers mid.headers u g gl)
 
-        pub glance_goes : GoesIn k.storage k.key top sets mid v g
-        glance_goes =
-            goes_then k.storage k.key top sets mid mid v u g r.gone
-            (goes_more k.storage k.key k.key k.key top mid mid u g (omega arith) start
+        glance_to : (to : ℕ) → k.key ≤ to → from ≤ to + 1 → GoesIn k.storage k.key to sets mid v g
+        glance_to to first past =
+            goes_then k.storage k.key to sets mid mid v u g (r.gone to first past)
+            (goes_more k.storage k.key k.key k.key to mid mid u g (omega arith) first
             (walk_goes mid mid.holds u g reading_live (glanced_walked u g gl) can (ap (λ (z : View). z.seat.kept) gl.is)
             (λ a. ap (λ (z : View). kept_at z.reads a) gl.is) (λ a. inl (ap (λ (z : View). seen_at z.reads a) gl.is))
             (keeps_glanced mid.pointers mid.headers u g gl) k (paths_glanced k u g gl)
             (led_none k u g (glanced_grip u g gl))))
+
+        pub glance_goes : GoesIn k.storage k.key top sets mid v g
+        glance_goes = glance_to top start r.high
 
         glance_stay : PartsStay u.seat.kept g.seat.kept
         glance_stay q value had =
@@ -216,6 +231,7 @@ module _ (sets : Sets) (k : Key) (x : Leaf) (top : ℕ) (rows : List (ℕ × ℕ
                 gone = glance_goes;
                 go_on = gap_rows (top + 1) up (omega arith) none;
                 few = omega (arith, few);
+                full = λ is. absurd (omega (arith, few, is));
               };
               quick = omega (arith, most, steps, up);
               stops = tt;
@@ -282,12 +298,13 @@ module _ (sets : Sets) (k : Key) (x : Leaf) (top : ℕ) (rows : List (ℕ × ℕ
               row : HasRow k.storage place.key mid new some all g w
               row = t.read
 
-              record_goes : GoesIn k.storage k.key top sets new v w
-              record_goes =
+              record_to : (to : ℕ) → place.key ≤ to → GoesIn k.storage k.key to sets new v w
+              record_to to over =
                   let low = r.low in
                   let on = glance_from in
-                  goes_then k.storage k.key top sets mid new v g w glance_goes
-                  (goes_more k.storage place.key place.key k.key top mid new g w (omega (arith, low, on)) under
+                  goes_then k.storage k.key to sets mid new v g w
+                  (glance_to to (omega (arith, low, on, over)) (omega (arith, on, over)))
+                  (goes_more k.storage place.key place.key k.key to mid new g w (omega (arith, low, on)) over
                   (read_goes (key_in k.storage place.key) row.value mid new g w row.is))
 
               record_rows : RowsGoOn k.storage k.key (place.key + 1) sets.writes v.seat.kept w.seat.kept rows all
@@ -318,11 +335,13 @@ module _ (sets : Sets) (k : Key) (x : Leaf) (top : ℕ) (rows : List (ℕ × ℕ
                     read = record {
                       from_is = omega (arith, same, low, on);
                       within = omega (arith, same, under);
-                      gone = record_goes;
+                      gone = record_to to (omega (arith, same));
                       go_on = subst (λ (i : ℕ). RowsGoOn k.storage k.key (i + 1) sets.writes v.seat.kept w.seat.kept
                           rows all)
                           (sym same) record_rows;
                       few = record_few;
+                      full = λ is. subst (λ (i : ℕ). HasRowOf i all) (sym same)
+                          (with_full some row.value place.key all row.rows_is r.few is);
                     };
                     quick = omega (arith, most, same);
                     stops = tt;
@@ -342,7 +361,7 @@ module _ (sets : Sets) (k : Key) (x : Leaf) (top : ℕ) (rows : List (ℕ × ℕ
                   let on = glance_from in
                   let few = record_few in
                   let ne : length all ≢ 16 = other in record {
-                    gone = record_goes;
+                    gone = λ to first past. record_to to (omega (arith, past));
                     go_on = record_rows;
                     few = omega (arith, few, ne);
                     low = omega (arith, low, on);

@@ -25,7 +25,7 @@ use Rattle.page_commit.specs.Live.{IsLive}
 use Rattle.page_commit.specs.Steps.{HasGivenUp}
 use Rattle.tree_scans.specs.Rows.{key_in}
 use Rattle.tree_calls.specs.Keeping.{entry_value, lacks_entry, value_in, HasValue, KeepsFound}
-use Rattle.tree_calls.proofs.CauseLaws.{found_head, no_such}
+use Rattle.tree_calls.proofs.CauseLaws.{new_record}
 use Rattle.tree_calls.proofs.DoneLaws.{value_again}
 use Rattle.tree_calls.proofs.DueLaws.{TreeWalked}
 use Rattle.tree_calls.proofs.ValueLaws.{value_found}
@@ -41,13 +41,14 @@ read_walked sets k f v w live h = record { live = live; walk = h.walked; can = h
 
 pub read_done : (f : Found) (value : Option ℕ) (sets new : Sets) (k : Key) (v w : View) → IsLive sets v
     → KeepsSo 3 k sets.pointers sets.headers sets.holds (Ok f) v w → has_read k sets.reads ≡ false
-    → KeepsFound k f sets new → value ≡ value_in f → ReadsKey 3 k (Ok value) sets new v w
-read_done f value sets new k v w live h none kept is = record {
+    → lacks_entry sets f ≡ false → KeepsFound k f sets new → value ≡ value_in f
+    → ReadsKey 3 k (Ok value) sets new v w
+read_done f value sets new k v w live h none room kept is = record {
   read = record {
     value_is = subst (λ (o : Option ℕ). HasValue k o sets new v w) (sym is)
         (value_found f sets sets new v w k refl refl refl refl live h.walked h.can h.only h.paths (led_none k v w
         h.grip)
-        h.keeps h.found none kept);
+        h.keeps h.found none room kept);
     walked = h.walked;
   };
   quick = h.most;
@@ -63,18 +64,19 @@ read_stops why sets k v w x most more s =
 
 -- there was no room for it
 pub read_full : (f : Found) (why : RefusalCause) (sets : Sets) (k : Key) (v w x : View) → IsLive sets v
-    → KeepsSo 3 k sets.pointers sets.headers sets.holds (Ok f) v w → IsVolatile f → lacks_entry sets f ≡ true
+    → KeepsSo 3 k sets.pointers sets.headers sets.holds (Ok f) v w → IsVolatile f → has_read k sets.reads ≡ false
+    → lacks_entry sets f ≡ true
     → HasGivenUp [] (refusals.Wide Reads) w x → x.steps ≤ w.steps + end_most → why ≡ refusals.Wide Reads
     → ReadsKey 3 k (Err why) sets sets v x
-read_full (places.Volatile at word value) why sets k v w x live h there full g more same =
+read_full (places.Volatile at word value) why sets k v w x live h there none full g more same =
     let t : TreeWalked sets sets.holds v w = read_walked sets k (places.Volatile at word value) v w live h in
     read_stops why sets k v w x h.most more
     (subst (λ (r : RefusalCause). Stops k.storage k.key k.key sets sets r v x) (sym same)
     (stop_full sets sets.holds k v w x t at word (h.found).met
-    (no_such at sets.headers (λ has. found_head sets sets.holds k at word value v w t h.found has)) full g))
-read_full (places.Absent header word) why sets k v w x live h there full g more same = absurd there
-read_full (places.Snapshot value number p) why sets k v w x live h there full g more same = absurd there
-read_full (places.Zero p) why sets k v w x live h there full g more same = absurd there
+    (inl (new_record sets sets.holds k at word value v w t h.found none)) full g))
+read_full (places.Absent header word) why sets k v w x live h there none full g more same = absurd there
+read_full (places.Snapshot value number p) why sets k v w x live h there none full g more same = absurd there
+read_full (places.Zero p) why sets k v w x live h there none full g more same = absurd there
 
 -- it was in conflict
 pub read_refused : (why told : RefusalCause) (sets : Sets) (k : Key) (v w x : View) → IsLive sets v

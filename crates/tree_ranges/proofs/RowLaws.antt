@@ -159,6 +159,19 @@ at_place [] i d less = absurd (omega (arith, less))
 at_place (x ∷ rows) zero d less = in_head x rows
 at_place (x ∷ rows) (suc i) d less = in_tail (get_or rows i d) x rows (at_place rows i d (omega (arith, less)))
 
+-- it is among the first ones, up to its place
+pub at_front : (rows : List (ℕ × ℕ)) (i : ℕ) (d : ℕ × ℕ) → i < length rows
+    → Contains (take (suc i) rows) (get_or rows i d)
+at_front [] i d less = absurd (omega (arith, less))
+at_front (x ∷ rows) zero d less = in_head x (take zero rows)
+at_front (x ∷ rows) (suc i) d less =
+    in_tail (get_or rows i d) x (take (suc i) rows) (at_front rows i d (omega (arith, less)))
+
+-- a row of those behind is one of all
+pub in_behind : (row : ℕ × ℕ) (rows more : List (ℕ × ℕ)) → Contains more row → Contains (rows ++ more) row
+in_behind row [] more has = has
+in_behind row (x ∷ rows) more has = in_tail row x (rows ++ more) (in_behind row rows more has)
+
 -- up to the last one of them they have the values of all
 front_value : (rows : List (ℕ × ℕ)) (i n : ℕ) (d : ℕ × ℕ) → AreRising rows → i < length rows → n ≤ (get_or rows i d).0
     → row_value (take (suc i) rows) n ≡ row_value rows n

@@ -30,12 +30,12 @@ use Rattle.page_commit.specs.Refusing.{HasRefused, TellsOnly}
 use Rattle.page_commit.specs.Steps.{CanRefuse, HasGivenUp, TellsOf}
 use Rattle.page_commit.proofs.AnyPlaces.{any_no_pointer, tree_key_here}
 use Rattle.page_commit.proofs.CommitLaws.{kept_others}
-use Rattle.page_commit.proofs.DueLaws.{seen_in}
+use Rattle.page_commit.proofs.DueLaws.{given_layout, seen_in}
 use Rattle.page_commit.proofs.RefuseLaws.{can_refuse, walked_refused}
 use Rattle.page_commit.proofs.TreePointers.{any_pointer_here}
 use Rattle.tree_scans.specs.Heads.{IsAtWord}
-use Rattle.tree_calls.specs.Causes.{IsWordConflict, NeedsEntry, NeedsPointer, WasLong}
-use Rattle.tree_calls.proofs.CauseLaws.{find_told, no_room}
+use Rattle.tree_calls.specs.Causes.{IsNewEntry, IsWordConflict, NeedsEntry, NeedsPointer, NeedsSlot, WasLong}
+use Rattle.tree_calls.proofs.CauseLaws.{find_told, needs_entry, needs_slot, no_room}
 use Rattle.tree_calls.proofs.DueLaws.{draws_same, header_cause, pointer_cause, record_cause, touches_same, TreeWalked}
 use Rattle.tree_calls.proofs.FoundBelow.{lies_so}
 use Rattle.tree_calls.proofs.TreeWalkLaws.{tree_walked}
@@ -75,7 +75,7 @@ module _ (sets : Sets) (late : List ℕ) (k : Key) (v w x : View) (h : TreeWalke
 
   find_wide : (set : SetName) → HasGivenUp [] (refusals.Wide set) w x → IsFindWide k sets.pointers late set w
       → ((set ≡ Reads) × (256 ≤ length sets.reads + length sets.headers) × NeedsEntry (record sets { holds = late }) x)
-      ⊎ (((set ≡ Holds) × ((length late ≡ 128) ⊎ WasLong k v))
+      ⊎ (((set ≡ Holds) × (((length late ≡ 128) × NeedsSlot k late v x) ⊎ WasLong k v))
       ⊎ ((set ≡ Pointers) × (length sets.pointers ≡ 128) × NeedsPointer (record sets { holds = late }) x))
   find_wide Reads g n = absurd n
   find_wide Writes g n = absurd n
@@ -88,10 +88,13 @@ module _ (sets : Sets) (late : List ℕ) (k : Key) (v w x : View) (h : TreeWalke
           read = r.0;
           met = kept_others [] (refusals.Wide Pointers) w x g r.0 r.1 refl;
           bare = subst (λ (i : ℕ). i < 2 ^ 32) (sym r.3) (n.on).bare;
+          apart = λ t same. (n.on).apart t (sym r.2 ∙ (same
+              ∙ ap (λ (l : Layout). page_at l.slots t 0) (given_layout (refusals.Wide Pointers) w x g)));
           absent = subst (λ (a : ℕ). word_at a sets.pointers ≡ None) (sym r.2) n.absent;
         },
       ))
-  find_wide Holds g (inl full) = inr (inl (refl, inl full.0))
+  find_wide Holds g (inl full) =
+      inr (inl (refl, inl (full.0, needs_slot sets late late k v w x h g full.1)))
   find_wide Holds g (inr long) =
       inr (inl (refl, inr (record { then = w; walked = tree_walked v w h.walk; long = long })))
 
@@ -187,19 +190,10 @@ module _ (sets : Sets) (late : List ℕ) (k : Key) (v w x : View) (h : TreeWalke
 
   -- ---- no room for one more record or header
 
-  -- its word was seen, and is no header's of the set
-  pub stop_full : (at word : ℕ) → seen_at w.reads at ≡ Some word → word_at at sets.headers ≡ None
+  -- its word was seen
+  pub stop_full : (at word : ℕ) → seen_at w.reads at ≡ Some word → IsNewEntry sets w.layout.slots at word
       → not (has_read_room sets) ≡ true → HasGivenUp [] (refusals.Wide Reads) w x
       → Stops k.storage k.key k.key sets (record sets { holds = late }) (refusals.Wide Reads) v x
-  stop_full at word met absent full g =
-      let r = seen_in w.reads at word met in
+  stop_full at word met new full g =
       stop_by (refusals.Wide Reads) (λ touched told. told)
-      (inl (
-        refl,
-        no_room sets full,
-        record {
-          read = r.0;
-          met = kept_others [] (refusals.Wide Reads) w x g r.0 r.1 refl;
-          absent = subst (λ (a : ℕ). word_at a sets.headers ≡ None) (sym r.2) absent;
-        },
-      )) g
+      (inl (refl, no_room sets full, needs_entry (record sets { holds = late }) at word w x g met new)) g

@@ -36,9 +36,10 @@ use Rattle.tree_ranges.specs.Going.{Comes, GoesIn, HasGone, HasRead, HasScanned,
 use Rattle.tree_ranges.specs.Rows.{with_row, AddsAll, AddsSome, AreFree, AreRowsOf, RowsGoOn}
 use Rattle.tree_ranges.proofs.GoneLaws.{goes_more, goes_none, goes_then, gone_none, gone_then, read_goes, stops_more}
 use Rattle.tree_ranges.proofs.GoneLaws.{stops_then}
-use Rattle.tree_ranges.proofs.LoopLaws.{with_few}
+use Rattle.tree_ranges.proofs.LoopLaws.{with_few, with_full}
 use Rattle.tree_ranges.proofs.OverlayLaws.{read_room}
-use Rattle.tree_ranges.proofs.RowLaws.{at_place, found_all, found_some, go_then, rows_begin, rows_one, seen_stays}
+use Rattle.tree_ranges.proofs.RowLaws.{at_front, at_place, found_all, found_some, go_then, in_behind, rows_begin}
+use Rattle.tree_ranges.proofs.RowLaws.{rows_one, seen_stays}
 
 -- ---- behind steps that read no rows
 
@@ -68,13 +69,15 @@ module _ (storage from last : ℕ) (sets mid new : Sets) (rows more : List (ℕ 
   reads_behind to r = record {
     from_is = r.from_is;
     within = r.within;
-    gone = goes_then storage from last sets mid new v u w wide r.gone;
+    gone = goes_then storage from to sets mid new v u w
+        (goes_more storage from from from to sets mid v u (omega arith) r.from_is gone) r.gone;
     go_on = go_then storage from from (to + 1) sets.writes v.seat.kept u.seat.kept w.seat.kept rows rows more
         (omega arith)
         (rows_kept storage from sets.writes v.seat.kept u.seat.kept rows one.keeps)
         (subst (λ (ws : List Write). RowsGoOn storage from (to + 1) ws u.seat.kept w.seat.kept rows more) writes_are
         r.go_on);
     few = r.few;
+    full = r.full;
   }
 
   pub stops_behind : (why : RefusalCause) → Stops storage from last mid new why u w → Stops storage from last sets
@@ -116,9 +119,10 @@ comes_more base rate storage from top last (Ok to) sets new rows more v w up fir
       let within = r.within in record {
         from_is = r.from_is;
         within = omega (arith, within, up);
-        gone = goes_more storage from top from last sets new v w (omega arith) up r.gone;
+        gone = r.gone;
         go_on = r.go_on;
         few = r.few;
+        full = r.full;
       };
   quick = c.quick;
   stops = tt;
@@ -206,11 +210,9 @@ module _ (sets new : Sets) (k : Key) (b : Bare) (top to : ℕ) (found : List (�
     walked = r.walked;
   }
 
-  goes : GoesIn k.storage k.key top sets new v w
-  goes =
-      let first = s.from in
-      let last = s.within in
-      goes_more k.storage k.key k.key k.key top sets new v w (omega arith) (omega (arith, first, last))
+  goes : (end : ℕ) → k.key ≤ end → GoesIn k.storage k.key end sets new v w
+  goes end up =
+      goes_more k.storage k.key k.key k.key end sets new v w (omega arith) up
       (read_goes k (s.content).value sets new v w value_is)
 
   free_to : AreFree k.storage k.key to sets.writes
@@ -227,7 +229,7 @@ module _ (sets new : Sets) (k : Key) (b : Bare) (top to : ℕ) (found : List (�
       let some = all.few in record {
         from_is = omega (arith, first, is);
         within = omega (arith, last, is);
-        gone = goes;
+        gone = goes end (omega (arith, first, is));
         go_on = λ low less are.
             subst (λ (i : ℕ). AreRowsOf k.storage low (i + 1) sets.writes w.seat.kept more) (sym is)
             (subst (AreRowsOf k.storage low (to + 1) sets.writes w.seat.kept) (sym all.is)
@@ -235,28 +237,38 @@ module _ (sets new : Sets) (k : Key) (b : Bare) (top to : ℕ) (found : List (�
             first
             s.rising s.bounds s.vouched rows low less are));
         few = omega (arith, some);
+        full = λ sixteen. absurd (omega (arith, some, sixteen));
       }
   below_reads rows more end few (inr part) =
       let first = s.from in
       let last = s.within in
       let is = part.end_is in
       let full = part.full in
+      let are_all : more ≡ rows ++ take (suc part.index) found =
+      part.is
+      ∙ ap (λ (i : ℕ). rows ++ take i found) (let e : part.index + 1 ≡ suc part.index = omega arith in e) in
       let place = at_place found part.index part.other part.there in
       let bounds = s.bounds (get_or found part.index part.other) place in
       let low-end = bounds.0 in
       let high-end = bounds.1 in record {
         from_is = omega (arith, is, low-end);
         within = omega (arith, is, high-end, last);
-        gone = goes;
+        gone = goes end (omega (arith, is, low-end));
         go_on = λ low less are.
             subst (λ (i : ℕ). AreRowsOf k.storage low (i + 1) sets.writes w.seat.kept more) (sym is)
             (subst (AreRowsOf k.storage low ((get_or found part.index part.other).0 + 1) sets.writes w.seat.kept)
-            (sym (part.is ∙ ap (λ (i : ℕ). rows ++ take i found) (let e : part.index + 1 ≡ suc part.index = omega
-            arith in e)))
+            (sym are_all)
             (found_some k.storage k.key to sets.writes v.seat.kept w.seat.kept found free_to value_is.value_is.keeps
             first
             s.rising s.bounds s.vouched rows part.index part.other part.there low less are));
         few = omega (arith, full);
+        full = λ sixteen. record {
+          row = get_or found part.index part.other;
+          among = subst (λ (l : List (ℕ × ℕ)). Contains l (get_or found part.index part.other)) (sym are_all)
+              (in_behind (get_or found part.index part.other) rows (take (suc part.index) found)
+              (at_front found part.index part.other part.there));
+          is = sym part.end_is;
+        };
       }
 
   pub below_comes : (rows more : List (ℕ × ℕ)) (end last : ℕ) → length rows < 16 → top ≤ last
@@ -269,9 +281,10 @@ module _ (sets new : Sets) (k : Key) (b : Bare) (top to : ℕ) (found : List (�
         read = record {
           from_is = t.from_is;
           within = omega (arith, within, up);
-          gone = goes_more k.storage k.key top k.key last sets new v w (omega arith) up t.gone;
+          gone = t.gone;
           go_on = t.go_on;
           few = t.few;
+          full = t.full;
         };
         quick = omega (arith, most);
         stops = tt;
@@ -288,12 +301,13 @@ own_comes sets k own high rows more v live is within few rows_is = record {
   read = record {
     from_is = omega arith;
     within = within;
-    gone = goes_none k.storage k.key high sets v live;
+    gone = goes_none k.storage k.key k.key sets v live;
     go_on = λ low less are.
         subst (AreRowsOf k.storage low (k.key + 1) sets.writes v.seat.kept) (sym rows_is)
         (rows_one k.storage low k.key own sets.writes v.seat.kept v.seat.kept rows are (λ q value had. had) less
         (inl is));
     few = with_few rows own k.key more rows_is few;
+    full = with_full rows own k.key more rows_is few;
   };
   quick = omega arith;
   stops = tt;
@@ -302,11 +316,11 @@ own_comes sets k own high rows more v live is within few rows_is = record {
 
 -- ---- the whole range
 
--- The keys of the range below this one were scanned.
+-- The keys of the range below this one were scanned, and no others.
 pub record IsScanning
     (sets : Sets) (storage low high : ℕ) (v : View) (mid : Sets) (from : ℕ) (rows : List (ℕ × ℕ)) (u : View) : Type 0
   where
-    pub gone : GoesIn storage low high sets mid v u
+    pub gone : (to : ℕ) → low ≤ to → from ≤ to + 1 → GoesIn storage low to sets mid v u
     pub rows_are : AreRowsOf storage low from sets.writes u.seat.kept rows
     pub few : length rows < 16
     pub first : low ≤ from
@@ -316,7 +330,7 @@ pub record IsScanning
 module _ (sets : Sets) (storage low high : ℕ) (v : View) (live : IsLive sets v) (start : low ≤ high) where
   pub scanning_none : IsScanning sets storage low high v sets low [] v
   scanning_none = record {
-    gone = goes_none storage low high sets v live;
+    gone = λ to first past. goes_none storage low to sets v live;
     rows_are = rows_begin storage low sets.writes v.seat.kept;
     few = omega arith;
     first = omega arith;
@@ -327,7 +341,7 @@ module _ (sets : Sets) (storage low high : ℕ) (v : View) (live : IsLive sets v
   module _ (mid : Sets) (from : ℕ) (rows : List (ℕ × ℕ)) (u : View) (h : IsScanning sets storage low high v mid from
       rows u) where
     so_far : HasGone (Scan storage low high) sets mid v u
-    so_far = h.gone low high (omega arith) (omega arith)
+    so_far = h.gone high start h.last low high (omega arith) (omega arith)
 
     pub scanning_live : IsLive mid u
     scanning_live = so_far.live
@@ -347,12 +361,14 @@ module _ (sets : Sets) (storage low high : ℕ) (v : View) (live : IsLive sets v
           few = omega (arith, few);
           within = h.last;
           end = inl (omega (arith, past));
+          full = λ is. absurd (omega (arith, few, is));
         }
 
     pub scanned_stops : (why : RefusalCause) (new : Sets) (more : List (ℕ × ℕ)) (w : View) → from ≤ high
         → Comes 0 find_steps storage from high (Err why) mid new rows more u w → Stops storage low high sets new why v w
     scanned_stops why new more w under c =
-        stops_then storage low high from high sets mid new why v u w h.gone h.first (omega arith) c.stops
+        stops_then storage low high from high sets mid new why v u w (h.gone high start h.last) h.first (omega arith)
+        c.stops
 
     pub scanned_slow : (why : RefusalCause) (new : Sets) (more : List (ℕ × ℕ)) (w : View) → from ≤ high
         → Comes 0 find_steps storage from high (Err why) mid new rows more u w
@@ -371,10 +387,13 @@ module _ (sets : Sets) (storage low high : ℕ) (v : View) (live : IsLive sets v
       t : ReadsTo storage from high to mid new rows more u w
       t = c.read
 
-      more_gone : GoesIn storage low high sets new v w
-      more_gone =
-          goes_then storage low high sets mid new v u w h.gone
-          (goes_more storage from high low high mid new u w h.first (omega arith) t.gone)
+      more_to : (past : ℕ) → to ≤ past → GoesIn storage low past sets new v w
+      more_to past over =
+          let first = h.first in
+          let up = t.from_is in
+          goes_then storage low past sets mid new v u w
+          (h.gone past (omega (arith, first, up, over)) (omega (arith, up, over)))
+          (goes_more storage from to low past mid new u w h.first over t.gone)
 
       more_rows : AreRowsOf storage low (to + 1) sets.writes w.seat.kept more
       more_rows =
@@ -400,13 +419,20 @@ module _ (sets : Sets) (storage low high : ℕ) (v : View) (live : IsLive sets v
 
       scanned : (to ≡ high) ⊎ (length more ≡ 16) → HasScanned storage low high sets new more v w
       scanned end = record {
-        gone = more_gone low high (omega arith) (omega arith);
+        gone = more_to high t.within low high (omega arith) (omega arith);
         joined = inl start;
         at = to + 1;
         rows_are = more_rows;
         few = t.few;
         within = let within = t.within in omega (arith, within);
         end = elim end [ inl same ↦ inl (omega (arith, same)) | inr full ↦ inr full ];
+        full = λ is.
+            let last = t.full is in record {
+              row = last.row;
+              among = last.among;
+              gone = subst (λ (n : ℕ). HasGone (Scan storage low n) sets new v w) (sym last.is)
+                  (more_to to (omega arith) low to (omega arith) (omega arith));
+            };
       }
 
       pub scanned_full : length more ≡ 16 → HasScanned storage low high sets new more v w
@@ -422,7 +448,7 @@ module _ (sets : Sets) (storage low high : ℕ) (v : View) (live : IsLive sets v
           let first = h.first in
           let up = t.from_is in
           let ne : length more ≢ 16 = other in record {
-            gone = more_gone;
+            gone = λ past over on. more_to past (omega (arith, on));
             rows_are = more_rows;
             few = omega (arith, few, ne);
             first = omega (arith, first, up);
@@ -446,6 +472,7 @@ scanned_none sets storage low high rows v live none is =
       few = omega arith;
       within = omega arith;
       end = inl (omega arith);
+      full = λ is. absurd (omega (arith, is));
     }
 
 -- ---- what the parts of a stretch ask

@@ -1,6 +1,6 @@
 -- A header that a scan takes, or why not; and why a stretch is refused.
 use Rattle.std.proofs.Common.{◌≡◌, inl, inr, ℕ, ◌+◌, ◌-◌, ◌*◌, ◌≤◌, Bool, true, false, true≢false, List, [], refl}
-use Rattle.std.proofs.Common.{sym, ap, ◌∙◌, subst, arith, Some, None, not}
+use Rattle.std.proofs.Common.{sym, ap, ◌∙◌, subst, arith, Some, None, not, length}
 use Rattle.std.specs.Prelude.{Ok, Err, ◌&&◌}
 use Rattle.std.proofs.lemmas.Bool.{and_parts}
 use Rattle.serial_model.specs.declared.key.Key.{Key}
@@ -23,12 +23,15 @@ use Rattle.tree_walks.proofs.StepLaws.{layout_stays, walked_self}
 use Rattle.page_commit.specs.Calls.{end_most}
 use Rattle.page_commit.specs.Keeping.{MeetsPointer}
 use Rattle.page_commit.specs.Live.{IsLive}
+use Rattle.page_commit.specs.Needs.{IsRefusedOn}
 use Rattle.page_commit.specs.Steps.{HasGivenUp}
 use Rattle.page_commit.proofs.FoundLaws.{no_word}
 use Rattle.page_commit.proofs.WalkedLaws.{can_walk}
 use Rattle.tree_scans.specs.Belows.{ReadsBelow}
 use Rattle.tree_scans.specs.Heads.{IsAtWord, KeepsHead}
+use Rattle.tree_calls.proofs.CauseLaws.{no_room}
 use Rattle.tree_calls.proofs.DueLaws.{TreeWalked}
+use Rattle.tree_calls.proofs.SetLaws.{room_header}
 use Rattle.tree_ranges.specs.Going.{Comes, Stops, TakesHead}
 use Rattle.tree_ranges.proofs.HeadLives.{head_goes, head_taken}
 use Rattle.tree_ranges.proofs.StopLaws.{stop_full, stop_head, stop_pointer, stop_walk}
@@ -44,7 +47,28 @@ no_test : (b : Bool) → not b ≡ true → b ≡ false
 no_test true none = absurd (true≢false (sym none))
 no_test false none = refl
 
--- there was no room for it
+-- it was to be kept, and there was no room for it
+pub head_on : (sets : Sets) (k : Key) (x : Leaf) (at : ℕ) (v : View) → IsLeafOn k sets.headers x v
+    → at ≡ page_at v.layout.slots x.slot 0 → (not (has_read_room sets) && not (has_word at sets.headers)) ≡ true
+    → IsRefusedOn (refusals.Wide Reads) k sets v
+head_on sets k x at v l place full =
+    let both = and_parts (not (has_read_room sets)) (not (has_word at sets.headers)) full in (
+      no_room sets both.0,
+      inr (inl record {
+        slot = x.slot;
+        span = x.span;
+        on = l.leaf.on;
+        leaf = record { slot = x.slot; keys = l.leaf.keys };
+        knows = l.leaf.knows;
+        same = refl;
+        word = x.header;
+        saw = l.met;
+        unsplit = l.leaf.small;
+        absent = subst (λ (a : ℕ). word_at a sets.headers ≡ None) place
+            (no_word at sets.headers (no_test (has_word at sets.headers) both.1));
+      }),
+    )
+
 pub head_full : (sets : Sets) (k : Key) (x : Leaf) (last at : ℕ) (why : RefusalCause) (v w : View) → IsLive sets v
     → IsLeafOn k sets.headers x v → at ≡ page_at v.layout.slots x.slot 0
     → (not (has_read_room sets) && not (has_word at sets.headers)) ≡ true → HasGivenUp [] (refusals.Wide Reads) v w
@@ -56,7 +80,13 @@ head_full sets k x last at why v w live l place full g more same =
       quick = tt;
       stops = subst (λ (r : RefusalCause). Stops k.storage k.key k.key sets sets r v w) (sym same)
           (stop_full sets sets.holds k v v w (not_walked sets v live) at x.header (ap (seen_at v.reads) place ∙ l.met)
-          (no_word at sets.headers (no_test (has_word at sets.headers) both.1)) both.0 g);
+          (inr record {
+            slot = x.slot;
+            word = place;
+            kind = l.leaf.kind;
+            unsplit = l.leaf.small;
+            absent = no_word at sets.headers (no_test (has_word at sets.headers) both.1);
+          }) both.0 g);
       slow = omega (arith, more);
     }
 
@@ -84,13 +114,16 @@ pub head_joined : (sets new : Sets) (k : Key) (x : Leaf) (last at : ℕ) (v w : 
     → IsLeafOn k sets.headers x v → KeepsHead k x sets.pointers sets.headers sets.holds (Ok tt) v w
     → at ≡ page_at v.layout.slots x.slot 0 → new.reads ≡ sets.reads → new.pointers ≡ sets.pointers
     → new.holds ≡ sets.holds → new.writes ≡ sets.writes
-    → MeetsPointer (record { at = at; word = x.header }) sets.headers new.headers → last ≤ (x.span).high
+    → MeetsPointer (record { at = at; word = x.header }) sets.headers new.headers
+    → (not (has_read_room sets) && not (has_word at sets.headers)) ≡ false → last ≤ (x.span).high
     → TakesHead k x last (Ok tt) sets new v w
-head_joined sets new k x last at v w live l h place reads pointers holds writes meets top =
+head_joined sets new k x last at v w live l h place reads pointers holds writes meets has top =
+    let room : length new.reads + length new.headers ≤ 256 =
+    room_header (record { at = at; word = x.header }) sets new reads meets has live.room in
     let here : at ≡ page_at w.layout.slots x.slot 0 =
     place ∙ ap (λ (z : Layout). page_at z.slots x.slot 0) (sym (layout_stays v w h.walked)) in record {
-      taken = head_taken sets new v w k x at l.leaf live h here reads pointers holds writes meets last top;
-      gone = head_goes sets new v w k x at l.leaf live h here reads pointers holds writes meets;
+      taken = head_taken sets new v w k x at l.leaf live h here reads pointers holds writes meets room last top;
+      gone = head_goes sets new v w k x at l.leaf live h here reads pointers holds writes meets room;
       quick = h.most;
       stops = tt;
       slow = let most = h.most in omega (arith, most);

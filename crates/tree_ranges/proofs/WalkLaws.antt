@@ -39,6 +39,7 @@ module _ (sets : Sets) (late : List ℕ) (v w : View) (live : IsLive sets v) (wa
     headers = headers_walked sets v w live keeps (λ h has. words h.at);
     only = only_walked_same sets (record sets { holds = late }) v w live words refl refl;
     inside = inside_only sets v w live more can.declared (beside_trees v w can.declared only);
+    room = live.room;
   }
 
   pub walk_goes : (k : Key) → OnlyWaysOn k v w → AreLedTo k v w

@@ -12,7 +12,7 @@ use Rattle.engine_pages.specs.declared.view.View.{View}
 use Rattle.tree_walks.specs.Finds.{find_steps}
 use Rattle.page_commit.specs.Calls.{end_most}
 use Rattle.tree_scans.specs.Rows.{key_in}
-use Rattle.tree_calls.specs.Causes.{IsWordConflict, NeedsEntry, NeedsPointer, WasLong}
+use Rattle.tree_calls.specs.Causes.{IsWordConflict, NeedsEntry, NeedsPointer, NeedsSlot, WasLong}
 
 -- some more stand behind those of before, and each of them is such a one
 pub record HasJoined (A : Type 0) (P : A → Type 0) (old new : List A) : Type 0 where
@@ -40,7 +40,7 @@ IsScanCause new k (refusals.Conflict at expected seen) v w =
 IsScanCause new k (refusals.Full held) v w = ⊥
 IsScanCause new k (refusals.Wide set) v w =
     ((set ≡ Reads) × (256 ≤ length new.reads + length new.headers) × NeedsEntry new w)
-    ⊎ (((set ≡ Holds) × ((length new.holds ≡ 128) ⊎ WasLong k v))
+    ⊎ (((set ≡ Holds) × (((length new.holds ≡ 128) × NeedsSlot k new.holds v w) ⊎ WasLong k v))
     ⊎ ((set ≡ Pointers) × (length new.pointers ≡ 128) × NeedsPointer new w))
 IsScanCause new k (refusals.NumberLimit clock) v w = ⊥
 

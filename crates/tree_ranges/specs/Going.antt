@@ -48,6 +48,19 @@ pub record Stops (storage from to : ℕ) (sets new : Sets) (why : RefusalCause) 
   pub cause : RefusesScan sets new storage from to why v w
   pub refused : HasRefused why v w
 
+-- one of the rows is that of this key
+pub record HasRowOf (key : ℕ) (rows : List (ℕ × ℕ)) : Type 0 where
+  pub row : ℕ × ℕ
+  pub among : Contains rows row
+  pub is : row.0 ≡ key
+
+-- A scan of the keys from this one on went on to none behind that of one of its rows: what it read, kept and held is that
+-- of a scan up to there.
+pub record StopsAtRow (storage low : ℕ) (rows : List (ℕ × ℕ)) (sets new : Sets) (v w : View) : Type 0 where
+  pub row : ℕ × ℕ
+  pub among : Contains rows row
+  pub gone : HasGone (ops.Scan storage low row.0) sets new v w
+
 -- ---- one key
 
 -- this is what the transaction first read at the key, by loads alone
@@ -91,14 +104,16 @@ pub record TakesHead
 
 -- ---- several keys
 
--- The rows go on with those of the keys from this one up to the one that is answered, which is at most the last one.
+-- The rows go on with those of the keys from this one up to the one that is answered, which is at most the last one. No
+-- keys were read but these. Where there are 16 rows then, the key that is answered is that of one of them.
 pub record ReadsTo
     (storage from last to : ℕ) (sets new : Sets) (rows more : List (ℕ × ℕ)) (v w : View) : Type 0 where
   pub from_is : from ≤ to
   pub within : to ≤ last
-  pub gone : GoesIn storage from last sets new v w
+  pub gone : GoesIn storage from to sets new v w
   pub go_on : RowsGoOn storage from (to + 1) sets.writes v.seat.kept w.seat.kept rows more
   pub few : length more ≤ 16
+  pub full : length more ≡ 16 → HasRowOf to more
 
 -- So they do by a number of steps and so many for each key at most; or why not.
 pub record Comes
@@ -111,7 +126,8 @@ pub record Comes
 
 -- ---- the whole range
 
--- The range was scanned, up to its end or until there were 16 rows. Where it has no keys, nothing was kept.
+-- The range was scanned, up to its end or until there were 16 rows, and then to none of its keys behind those of the
+-- rows. Where it has no keys, nothing was kept.
 pub record HasScanned (storage low high : ℕ) (sets new : Sets) (rows : List (ℕ × ℕ)) (v w : View) : Type 0 where
   pub gone : HasGone (ops.Scan storage low high) sets new v w
   pub joined : (low ≤ high) ⊎ (w.seat.kept ≡ v.seat.kept)
@@ -120,3 +136,4 @@ pub record HasScanned (storage low high : ℕ) (sets new : Sets) (rows : List (�
   pub few : length rows ≤ 16
   pub within : at ≤ high + 1
   pub end : (high + 1 ≤ at) ⊎ (length rows ≡ 16)
+  pub full : length rows ≡ 16 → StopsAtRow storage low rows sets new v w

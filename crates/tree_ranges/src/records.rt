@@ -12,7 +12,7 @@ ghost use Rattle.tx_sets.specs.Entries.{has_read, has_write, value_of};
 
 use crate::overlay::push_value;
 use engine_pages::{Engine, Pass, RefusalCause, SetName};
-use page_commit::refuse;
+use page_commit::refuse_on;
 use serial_model::{Key, Rows};
 use tree_calls::{keep, lacks_room, told};
 use tree_scans::{Place, smallest_from};
@@ -145,10 +145,10 @@ fn read_in(
                 let why = RefusalCause::Wide {
                     set: SetName::Reads,
                 };
-                return Err(refuse(engine, pass, sets, why));
+                return Err(refuse_on(engine, pass, sets, key, why));
             }
             Ok(keep(sets, key, found))
         }
-        Err(why) => Err(refuse(engine, pass, sets, why)),
+        Err(why) => Err(refuse_on(engine, pass, sets, key, why)),
     }
 }

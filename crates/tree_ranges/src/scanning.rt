@@ -8,7 +8,7 @@ ghost use Rattle.page_commit.specs.Live.{IsLive};
 ghost use Rattle.page_commit.specs.Refusing.{HasRefused};
 ghost use Rattle.page_commit.specs.Turning.{HasDone};
 ghost use Rattle.tree_ranges.specs.Causes.{scan_most, RefusesScan};
-ghost use Rattle.tree_ranges.specs.Going.{Comes, HasScanned, Stops};
+ghost use Rattle.tree_ranges.specs.Going.{Comes, HasScanned, Stops, StopsAtRow};
 ghost use Rattle.tree_walks.specs.Finds.{find_steps};
 
 use crate::overlay::{free_to, push_value};
@@ -20,7 +20,7 @@ use tx_sets::Sets;
 /// The first 16 present pairs of a tree with keys from `low` to `high`, ascending, as the transaction sees them: what
 /// it wrote last, else what it first read. What it has not met before is read, and what vouches for the answer is kept:
 /// each record, the header of each leaf in memory, and each pointer at which the pages in memory end. Each of these
-/// calls begins with no rows.
+/// calls begins with no rows. Where there are 16 then, no key behind that of the last one was read.
 pub fn scan(
     engine: &Engine,
     pass: &mut Pass,
@@ -37,6 +37,8 @@ pub fn scan(
     ensures of { IsPassOf engine.now pass.new }
     ensures replies { OnOk result (HasDone (ops.Scan storage low high) (Some (replies.Rows rows.new))
         sets.old sets.new (view pass.old) (view pass.new)) }
+    ensures last { OnOk result (length rows.new ≡ 16 →
+        StopsAtRow storage low rows.new sets.old sets.new (view pass.old) (view pass.new)) }
     ensures cause { IfErr result (λ why.
         RefusesScan sets.old sets.new storage low high why (view pass.old) (view pass.new)) }
     ensures refused { IfErr result (λ why. HasRefused why (view pass.old) (view pass.new)) }

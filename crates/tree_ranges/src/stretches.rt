@@ -12,7 +12,7 @@ use crate::overlay::add_rows;
 use crate::records::scan_records;
 use array_pages::word_at;
 use engine_pages::{Engine, Pass, RefusalCause, SetName};
-use page_commit::refuse;
+use page_commit::refuse_on;
 use serial_model::{Key, Rows};
 use tree_calls::{keep_header, keep_pointer, lacks_room};
 use tree_scans::{keep_head, least_of, read_below};
@@ -48,7 +48,7 @@ pub(crate) fn scan_stretch(
         &sets.headers,
     ) {
         Ok(end) => scan_end(engine, pass, sets, key, end, last, rows),
-        Err(why) => Err(refuse(engine, pass, sets, why)),
+        Err(why) => Err(refuse_on(engine, pass, sets, key, why)),
     }
 }
 
@@ -127,7 +127,7 @@ fn take_head(
         let why = RefusalCause::Wide {
             set: SetName::Reads,
         };
-        return Err(refuse(engine, pass, sets, why));
+        return Err(refuse_on(engine, pass, sets, key, why));
     }
     match keep_head(
         engine,
@@ -142,7 +142,7 @@ fn take_head(
             keep_header(&mut sets.headers, Seen { at, word });
             Ok(())
         }
-        Err(why) => Err(refuse(engine, pass, sets, why)),
+        Err(why) => Err(refuse_on(engine, pass, sets, key, why)),
     }
 }
 
@@ -183,6 +183,6 @@ fn scan_below(
             keep_pointer(&mut sets.pointers, bare.pointer);
             Ok(add_rows(rows, &found, to))
         }
-        Err(why) => Err(refuse(engine, pass, sets, why)),
+        Err(why) => Err(refuse_on(engine, pass, sets, key, why)),
     }
 }

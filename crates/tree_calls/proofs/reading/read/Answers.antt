@@ -1,6 +1,7 @@
 use Rattle.std.proofs.Common.{sym, ◌∙◌}
 use Rattle.engine_pages.specs.Passes.{view}
 use Rattle.page_commit.proofs.WriteLaws.{none_written}
+use Rattle.tree_calls.proofs.AnswerLaws.{own_answer}
 use Rattle.tree_calls.proofs.DoneLaws.{own_read, read_for}
 use Rattle.tree_calls.proofs.reading.read.Goals as goal
 
@@ -18,3 +19,7 @@ pub returns-clause-replies : goal.returns-clause-replies
 returns-clause-replies c =
     own_read c.args.sets.now (view c.args.pass.now) c.args.key c.in-Some.own c.requires.live c.requires.tree
     (sym c.find.ensures ∙ c.in-Some.is)
+
+pub returns-clause-answer : goal.returns-clause-answer
+returns-clause-answer c =
+    own_answer c.args.sets.now c.args.key c.in-Some.own (view c.args.pass.now) (sym c.find.ensures ∙ c.in-Some.is)

@@ -8,6 +8,9 @@ returns-in-Ok-clause-replies c =
     (view c.args.pass.now) (view c.scan_range.new.pass) c.in-Ok.ensures.scans c.tell_room.ensures.reads
     c.tell_room.ensures.pointers c.tell_room.ensures.headers
 
+pub returns-in-Ok-clause-last : goal.returns-in-Ok-clause-last
+returns-in-Ok-clause-last c = c.in-Ok.ensures.scans.full
+
 pub returns-in-Err-clause-cause : goal.returns-in-Err-clause-cause
 returns-in-Err-clause-cause c = c.in-Err.ensures.stops.cause
 

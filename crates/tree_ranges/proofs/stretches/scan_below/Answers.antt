@@ -3,7 +3,7 @@ use Rattle.engine_pages.specs.Passes.{view}
 use Rattle.page_commit.proofs.WalkedLaws.{can_walk}
 use Rattle.tree_walks.proofs.HalfLaws.{bounds_of}
 use Rattle.tree_calls.proofs.DueLaws.{find_due}
-use Rattle.tree_calls.proofs.WideLaws.{find_wide_due}
+use Rattle.tree_calls.proofs.OnLaws.{find_on}
 use Rattle.tree_ranges.proofs.StopLaws.{stop_can}
 use Rattle.tree_ranges.proofs.StretchLaws.{below_comes, below_place, free_less}
 use Rattle.tree_ranges.proofs.TakeLaws.{below_refused, below_walked}
@@ -36,16 +36,16 @@ returns-in-Ok-clause-comes c =
     c.add_rows.result
     c.args.last c.requires.few c.least_of-top.ensures.b c.add_rows.ensures
 
-pub refuse-requires-clause-can : goal.refuse-requires-clause-can
-refuse-requires-clause-can c =
+pub refuse_on-requires-clause-can : goal.refuse_on-requires-clause-can
+refuse_on-requires-clause-can c =
     let v = view c.args.pass.now in
     let w = view c.read_below.new.pass in
     stop_can c.args.sets.now c.args.sets.now.holds c.args.key v w w
     (below_walked c.args.sets.now c.args.key c.args.bare c.least_of-top.result c.in-Err.why c.read_below.new.rows v w
     c.requires.live c.in-Err.ensures.reads)
 
-pub refuse-requires-clause-due : goal.refuse-requires-clause-due
-refuse-requires-clause-due c =
+pub refuse_on-requires-clause-due : goal.refuse_on-requires-clause-due
+refuse_on-requires-clause-due c =
     let v = view c.args.pass.now in
     let w = view c.read_below.new.pass in
     find_due c.in-Err.why c.args.sets.now c.args.sets.now.holds c.args.sets.now.holds c.args.key v w
@@ -53,14 +53,18 @@ refuse-requires-clause-due c =
     c.requires.live c.in-Err.ensures.reads)
     c.in-Err.ensures.reads.cause
 
-pub refuse-requires-clause-wide : goal.refuse-requires-clause-wide
-refuse-requires-clause-wide c =
-    find_wide_due c.in-Err.why c.args.sets.now c.args.key (view c.args.pass.now) (view c.read_below.new.pass)
+pub refuse_on-requires-clause-on : goal.refuse_on-requires-clause-on
+refuse_on-requires-clause-on c =
+    let v = view c.args.pass.now in
+    let w = view c.read_below.new.pass in
+    find_on c.in-Err.why c.args.sets.now c.args.sets.now.holds c.args.key v w
+    (below_walked c.args.sets.now c.args.key c.args.bare c.least_of-top.result c.in-Err.why c.read_below.new.rows v w
+    c.requires.live c.in-Err.ensures.reads)
     c.in-Err.ensures.reads.cause
 
 pub returns-in-Err-clause-comes : goal.returns-in-Err-clause-comes
 returns-in-Err-clause-comes c =
-    below_refused c.args.sets.now c.args.key c.args.bare c.least_of-top.result c.args.last c.in-Err.why c.refuse.result
-    c.read_below.new.rows c.args.rows.now (view c.args.pass.now) (view c.read_below.new.pass) (view c.refuse.new.pass)
-    c.requires.live c.in-Err.ensures.reads c.requires.bare c.refuse.ensures.gives_up c.refuse.ensures.most
-    c.refuse.ensures.why c.requires.last
+    below_refused c.args.sets.now c.args.key c.args.bare c.least_of-top.result c.args.last c.in-Err.why c.refuse_on.result
+    c.read_below.new.rows c.args.rows.now (view c.args.pass.now) (view c.read_below.new.pass) (view c.refuse_on.new.pass)
+    c.requires.live c.in-Err.ensures.reads c.requires.bare c.refuse_on.ensures.gives_up c.refuse_on.ensures.most
+    c.refuse_on.ensures.why c.requires.last

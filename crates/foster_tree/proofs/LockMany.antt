@@ -6,16 +6,20 @@ use Rattle.std.proofs.lemmas.List.{get_or-set_other, get_or-set_same}
 use Rattle.serial_model.specs.declared.key.Key.{Key}
 use Rattle.homes.specs.declared.places.Span.{Span}
 use Rattle.engine_pages.specs.declared.view.RefusalCause.{RefusalCause}
+use Rattle.engine_pages.specs.declared.view.Role.{Role}
 use Rattle.engine_pages.specs.declared.view.Took.{Took}
+use Rattle.engine_pages.specs.declared.view.Touch.{Touch}
 use Rattle.engine_pages.specs.declared.view.Version.{Version}
 use Rattle.engine_pages.specs.declared.view.View.{View}
+use Rattle.engine_pages.specs.Touches.{touch}
+use Rattle.engine_pages.specs.Views.{seat_number}
 use Rattle.engine_pages.specs.Words.{spot}
 use Rattle.page_records.specs.Locks.{took_at}
 use Rattle.foster_tree.specs.declared.entries.Entry.{Entry}
 use Rattle.foster_tree.specs.Entries.{content_of}
 use Rattle.foster_tree.specs.Filling.{no_entry}
-use Rattle.foster_tree.specs.Locking.{as_locked, no_key, tooks, AreLocked, CanLockRecords, HasLockedOne, HasLockedSome}
-use Rattle.foster_tree.specs.Locking.{HasNotLocked, HasNotLockedOne, HasOpenedSome, IsRead, KnowsFull}
+use Rattle.foster_tree.specs.Locking.{as_locked, no_key, tooks, with_touches, AreLocked, CanLockRecords, HasLockedOne}
+use Rattle.foster_tree.specs.Locking.{HasLockedSome, HasNotLocked, HasNotLockedOne, HasOpenedSome, IsRead, KnowsFull}
 use Rattle.foster_tree.proofs.LockLaws.{worked_none, worked_then}
 use Rattle.foster_tree.proofs.LockLists.{take_push, tooks_set}
 use Rattle.foster_tree.proofs.LockOne.{knows_still}
@@ -36,6 +40,7 @@ pub locked_none : (t : ℕ) (sp : Span) (keys : List Key) (entries : List Entry)
     → HasLockedSome t keys entries 0 v v
 locked_none t sp keys entries v can = record {
   worked = worked_none t v;
+  touched = refl;
   most = omega arith;
   read = λ i k less at. absurd (omega (arith, less));
   is = ap (λ (l : List Key). as_locked l v.took v v) can.unlocked ∙ ap (λ (l : List Took). as_locked [] l v v) can.took;
@@ -71,11 +76,17 @@ locked_more t n keys entries e k v u w long few within at before one =
     ≡ took_at (get_or keys n no_key) (spot t n) (get_or (set entries n e) n no_entry).word =
     ap (λ (q : Key). took_at q (spot t n) e.word) (sym (got keys n k within at))
     ∙ ap (λ (d : Entry). took_at (get_or keys n no_key) (spot t n) d.word) (sym (get_or-set_same entries n e no_entry there)) in
+    let own : touch (seat_number u.role) k ≡ touch (seat_number v.role) (get_or keys n no_key) =
+    ap (λ (r : Role). touch (seat_number r) k) before.worked.role
+    ∙ ap (λ (q : Key). touch (seat_number v.role) q) (sym (got keys n k within at)) in
     let all : u.took ++ took_at k (spot t n) e.word ∷ [] ≡ tooks t keys (set entries n e) (suc n) =
     ap (λ (l : List Took). l ++ took_at k (spot t n) e.word ∷ []) (took ∙ sym (tooks_set t keys entries n n e (omega arith)))
     ∙ ap (λ (z : Took). tooks t keys (set entries n e) n ++ z ∷ []) last in
     record {
       worked = worked_then t v u w (ap (λ (z : View). z.layout) before.is) before.worked one.worked;
+      touched = one.touched
+          ∙ (ap (λ (l : List Touch). l ++ touch (seat_number u.role) k ∷ []) before.touched
+          ∙ ap (λ (z : Touch). with_touches v.touched (seat_number v.role) keys n ++ z ∷ []) own);
       most = let a = before.most in let b = one.most in omega (arith, a, b);
       read = λ i q less here.
           read_more entries n e keys k u w there one.worked.versions at before.read one.read i q less here (eqb i n) refl;
@@ -110,10 +121,10 @@ locked_still t n keys entries why v u x some none =
     }
 
 -- so it comes to that none is locked
-pub not_locked : (t n : ℕ) (keys : List Key) (entries : List Entry) (why : RefusalCause) (v u x w : View) → n < 16
-    → HasLockedSome t keys entries n v u → HasNotLockedOne t n why u x → HasOpenedSome t n x w
-    → HasNotLocked t why v w
-not_locked t n keys entries why v u x w less some none opened =
+pub not_locked : (t n : ℕ) (sp : Span) (keys : List Key) (entries : List Entry) (why : RefusalCause) (v u x w : View)
+    → CanLockRecords v t sp keys → n < 16 → HasLockedSome t keys entries n v u → HasNotLockedOne t n why u x
+    → HasOpenedSome t n x w → HasNotLocked t why v w
+not_locked t n sp keys entries why v u x w can less some none opened =
     let first : u.layout ≡ v.layout = ap (λ (z : View). z.layout) some.is in
     let next : x.layout ≡ u.layout = ap (λ (z : View). z.layout) none.is in
     record {
@@ -125,5 +136,15 @@ not_locked t n keys entries why v u x w less some none opened =
           let c = opened.steps in omega (arith, a, b, c, less);
       is = opened.is
           ∙ (ap (λ (z : View). as_locked [] [] z w) none.is ∙ ap (λ (z : View). as_locked [] [] z w) some.is);
-      cause = (n, less, refused_still t n why v u x w some.worked.since none.cause opened);
+      cause = (
+        n,
+        less,
+        refused_still t n why v u x w some.worked.since none.cause opened,
+        record {
+          keys = keys;
+          knows = can.leaf.knows;
+          full = can.leaf.full;
+          is = opened.touched ∙ (none.touched ∙ some.touched);
+        },
+      );
     }

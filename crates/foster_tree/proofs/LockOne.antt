@@ -120,6 +120,9 @@ module _ (t i place n word : ℕ) (sp : Span) (keys : List Key) (k : Key) (v u x
   pub locked_view : x ≡ locked k (spot t i) (place + 1) word (read_at (place + 1) word (glanced place n v))
   locked_view = lock.is ∙ ap (λ (z : View). locked k (spot t i) (place + 1) word (read_at (place + 1) word z)) loaded.is
 
+  locked_touched : x.touched ≡ v.touched ++ touch (seat_number v.role) k ∷ []
+  locked_touched = ap (λ (z : View). z.touched) locked_view
+
   pub locked_is : x ≡ as_locked (v.seat.locks ++ k ∷ []) (v.took ++ took_at k (spot t i) word ∷ []) v x
   locked_is =
       locked_formed (v.seat.locks ++ k ∷ []) (v.took ++ took_at k (spot t i) word ∷ []) v x
@@ -137,6 +140,7 @@ module _ (t i place n word : ℕ) (sp : Span) (keys : List Key) (k : Key) (v u x
       → HasLockedOne t k i (record { key = n; word = word; value = 0 }) v w
   absent_one w high same = record {
     worked = subst (λ (z : View). WorkedIn t v z) (sym same) locked_worked;
+    touched = ap (λ (z : View). z.touched) same ∙ locked_touched;
     most = let a = three_steps in let b : w.steps ≡ x.steps = ap (λ (z : View). z.steps) same in omega (arith, a, b);
     read = record {
       key = key_read;
@@ -170,6 +174,7 @@ module _ (t i place n word : ℕ) (sp : Span) (keys : List Key) (k : Key) (v u x
       (ap (λ (z : View). z.role) h.is) (ap (λ (z : View). z.touched) h.is) in
       record {
         worked = worked_then t v x w locked_layout locked_worked more;
+        touched = ap (λ (z : View). z.touched) h.is ∙ locked_touched;
         most =
             let a = three_steps in
             let b : w.steps ≡ x.steps + 1 = ap (λ (z : View). z.steps) h.is in omega (arith, a, b);

@@ -98,6 +98,9 @@ steps_one t i k e v w one = ap (λ (z : View). z.steps) one.is
 pub last_one : (t i : ℕ) (k : Key) (e : Entry) (v w : View) → HasOpenedOne t k i e v w → w.last ≡ v.last
 last_one t i k e v w one = ap (λ (z : View). z.last) one.is
 
+pub touched_one : (t i : ℕ) (k : Key) (e : Entry) (v w : View) → HasOpenedOne t k i e v w → w.touched ≡ v.touched
+touched_one t i k e v w one = ap (λ (z : View). z.touched) one.is
+
 -- none is locked at last
 pub opened_all : (t n : ℕ) (keys : List Key) (entries : List Entry) (f v w : View) → AreLocked t keys entries n f v
     → AreLocked t keys entries 0 f w → w ≡ as_locked [] [] v w

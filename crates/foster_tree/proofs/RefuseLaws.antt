@@ -71,6 +71,7 @@ refused_one t i place n at sp keys (causes.Conflict other expected seen) v u w k
           (met_word i less) placed (omega arith) refl (λ x has. has) refl refl)
           (worked_read t ((16 + 3 * i) + 1) at seen (read_at at expected (glanced place n v))
           (met_twice place n at expected seen v) (met_word i less) placed (omega arith) refl (λ x has. has) refl refl));
+      touched = refl;
       most = omega arith;
       is = refl;
       cause = record {

@@ -3,7 +3,7 @@ use Rattle.std.proofs.Common.{◌≡◌, ◌≢◌, ◌⊎◌, ℕ, ◌+◌, ◌
 use Rattle.std.proofs.Common.{refl, sym, ap, ◌∙◌, subst, arith, inl, inr, Some, eq-eqb}
 use Rattle.std.specs.Prelude.{not, nat_lt, ◌||◌}
 use Rattle.std.specs.List.{Contains}
-use Rattle.lists.specs.Elements.{in_head, in_tail}
+use Rattle.lists.specs.Elements.{in_cases, in_head, in_tail}
 use Rattle.serial_model.specs.declared.key.Key.{Key}
 use Rattle.homes.specs.declared.places.Span.{Span}
 use Rattle.homes.specs.Homes.{has_key}
@@ -15,7 +15,9 @@ use Rattle.engine_pages.specs.declared.view.Known.{Known}
 use Rattle.engine_pages.specs.declared.view.NewLeaf.{NewLeaf}
 use Rattle.engine_pages.specs.declared.view.RefusalCause.{RefusalCause}
 use Rattle.engine_pages.specs.declared.view.RefusalCause.TheVariants as causes
+use Rattle.engine_pages.specs.declared.view.Role.{Role}
 use Rattle.engine_pages.specs.declared.view.Role.TheVariants.{Keeper}
+use Rattle.engine_pages.specs.declared.view.Touch.{Touch}
 use Rattle.engine_pages.specs.declared.view.View.{View}
 use Rattle.engine_pages.specs.declared.view.Way.{Way}
 use Rattle.engine_pages.specs.Agreement.{KnownAgree, TreesAgree}
@@ -23,16 +25,16 @@ use Rattle.engine_pages.specs.Layout.{page_at}
 use Rattle.engine_pages.specs.Pages.{is_tree}
 use Rattle.engine_pages.specs.Slots.{other_heads}
 use Rattle.engine_pages.specs.Steps.{read_at}
-use Rattle.engine_pages.specs.Views.{IsActive}
+use Rattle.engine_pages.specs.Views.{seat_number, IsActive}
 use Rattle.tree_heads.specs.Headers.{open_word}
 use Rattle.tree_heads.specs.Heads.{head_locked, head_opened, lock_bit, CanOpenHeader, HasHead}
 use Rattle.array_pages.specs.Walks.{HoldsAre}
 use Rattle.foster_tree.specs.declared.entries.Entry.{Entry}
 use Rattle.foster_tree.specs.Causes.{IsLeafWordChanged}
-use Rattle.foster_tree.specs.Locking.{KnowsFull, RefusesOne, RefusesRecord, WorkedIn}
+use Rattle.foster_tree.specs.Locking.{with_touches, HasTakenFirst, KnowsFull, RefusesOne, RefusesRecord, WorkedIn}
 use Rattle.foster_tree.specs.Splitting.{as_split, as_split_locked, as_tried, as_tried_locked, half_of, lower_of, separator_of}
 use Rattle.foster_tree.specs.Splitting.{upper_of, CanSplitLeaf, CanSplitLocked, GaveNone, HasNotSplit, HasNotSplitLocked}
-use Rattle.foster_tree.specs.Splitting.{HasSplitLeaf, HasSplitLocked, RefusesSplit}
+use Rattle.foster_tree.specs.Splitting.{HasSplitLeaf, HasSplitLocked, RefusesHalf, RefusesSplit}
 use Rattle.foster_tree.proofs.AddLaws.{header_changed, locked_one, same_keys}
 use Rattle.foster_tree.proofs.AfterTurn.{half_high, half_low, high_from, low_less}
 use Rattle.foster_tree.proofs.LockLaws.{met_first, worked_read, worked_then}
@@ -90,7 +92,11 @@ leaf_changed slots t at word n sp k v u can header now other =
       trees = trees_as v u (ap (λ (z : View). z.layout) now) (ap (λ (z : View). z.known) now)
           (ap (λ (z : View). z.inners) now) (ap (λ (z : View). z.ways) now);
       is = subst (λ (y : View). y ≡ as_tried v y) (sym now) refl;
-      cause = inl (refl, header_changed t at word n sp k v u can.grows header now other);
+      cause = inl (
+        refl,
+        header_changed t at word n sp k v u can.grows header now other,
+        ap (λ (z : View). z.touched) now,
+      );
     }
 
 -- ---- why it wasn't split, told behind the opening of the header
@@ -144,12 +150,18 @@ refused_opened t i at word (causes.Full held) v u s w since header is worked h =
 refused_opened t i at word (causes.Wide set) v u s w since header is worked h = absurd h
 refused_opened t i at word (causes.NumberLimit clock) v u s w since header is worked h = absurd h
 
-cause_of : (slots : List ℕ) (t word : ℕ) (why : RefusalCause) (v w : View) → RefusesRecord t why v w ⊎ GaveNone why v w
-    → RefusesSplit slots t word why v w
+cause_of : (slots : List ℕ) (t word : ℕ) (why : RefusalCause) (v w : View)
+    → RefusesRecord t why v w ⊎ RefusesHalf t why v w → RefusesSplit slots t word why v w
 cause_of slots t word (causes.Conflict at expected seen) v w h = inr h
 cause_of slots t word (causes.Full held) v w h = elim h [ inl changed ↦ absurd changed.2 | inr gave ↦ gave ]
-cause_of slots t word (causes.Wide set) v w h = elim h [ inl changed ↦ absurd changed.2 | inr gave ↦ absurd gave.missed ]
-cause_of slots t word (causes.NumberLimit clock) v w h = elim h [ inl changed ↦ absurd changed.2 | inr gave ↦ absurd gave.missed ]
+cause_of slots t word (causes.Wide set) v w h = elim h [ inl changed ↦ absurd changed.2 | inr gave ↦ absurd gave.0.missed ]
+cause_of slots t word (causes.NumberLimit clock) v w h =
+    elim h [ inl changed ↦ absurd changed.2 | inr gave ↦ absurd gave.0.missed ]
+
+-- no more locks were taken
+taken_then : (t m : ℕ) (u s w : View) → HasTakenFirst t m u s → w.touched ≡ s.touched → HasTakenFirst t m u w
+taken_then t m u s w taken same =
+    record { keys = taken.keys; knows = taken.knows; full = taken.full; is = same ∙ taken.is }
 
 -- ---- the header was locked
 
@@ -176,6 +188,31 @@ module _ (slots : List ℕ) (t at word n : ℕ) (sp : Span) (k : Key) (v u : Vie
       worked_read t 0 at (n + lock_bit) v u (met_first 0 (omega arith)) header locked_since (ap (λ (z : View). z.reads) h.is)
       (λ x has. subst (λ (z : View). Contains z.versions x) (sym h.is) has) (ap (λ (z : View). z.role) h.is)
       (ap (λ (z : View). z.touched) h.is)
+
+  -- the keys were known before
+  leaf_before : Contains v.known (record { slot = t; keys = h.keys })
+  leaf_before =
+      subst (λ (l : List Key). Contains v.known (record { slot = t; keys = l })) keys_are
+      (subst (λ (m : ℕ). Contains v.known (record { slot = m; keys = can.grows.leaf.keys })) can.grows.same
+      can.grows.knows)
+
+  -- locks that were taken since the header's lock were taken since before it
+  taken_since : (m : ℕ) (w : View) → HasTakenFirst t m u w → HasTakenFirst t m v w
+  taken_since m w taken =
+      let one : Known = record { slot = t; keys = taken.keys } in
+      let own : Known = record { slot = t; keys = h.keys } in record {
+        keys = taken.keys;
+        knows = elim (in_cases one own v.known
+            (subst (λ (l : List Known). Contains l one) (ap (λ (z : View). z.known) h.is) taken.knows)) [
+              | inl same ↦ subst (λ (x : Known). Contains v.known x) same leaf_before
+              | inr before ↦ before
+            ];
+        full = taken.full;
+        is = taken.is
+            ∙ (ap (λ (l : List Touch). with_touches l (seat_number u.role) taken.keys m)
+            (ap (λ (z : View). z.touched) h.is)
+            ∙ ap (λ (r : Role). with_touches v.touched (seat_number r) taken.keys m) (ap (λ (z : View). z.role) h.is));
+      }
 
   leaf_known : KnowsFull u t sp h.keys
   leaf_known = record {
@@ -248,6 +285,7 @@ module _ (slots : List ℕ) (t at word n : ℕ) (sp : Span) (k : Key) (v u : Vie
           index = split.index;
           record_at = split.record_at;
           worked = worked_then t v u w layout_is locked_worked split.worked;
+          taken = taken_since 16 w split.taken;
           most =
               let one : u.steps ≡ v.steps + 1 = ap (λ (z : View). z.steps) h.is in
               let more : w.steps ≤ u.steps + (2 * v.layout.slots + 200) =
@@ -330,9 +368,12 @@ module _ (slots : List ℕ) (t at word n : ℕ) (sp : Span) (k : Key) (v u : Vie
                   changed.0,
                   changed.1,
                   refused_opened t changed.0 at word why v u s w locked_since here is worked changed.2,
+                  taken_since changed.0 w (taken_then t changed.0 u s w changed.3 (ap (λ (z : View). z.touched) is)),
                 )
-            | inr gave ↦
-                inr (gave_then why v u s w locked_since layout_is (ap (λ (z : View). z.last) is)
-                (ap (λ (z : View). z.looked) is) gave)
+            | inr gave ↦ inr (
+              gave_then why v u s w locked_since layout_is (ap (λ (z : View). z.last) is)
+                  (ap (λ (z : View). z.looked) is) gave.0,
+              taken_since 16 w (taken_then t 16 u s w gave.1 (ap (λ (z : View). z.touched) is)),
+            )
           ]);
         }

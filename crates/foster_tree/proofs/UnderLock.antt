@@ -210,6 +210,12 @@ module _ (slots : List ℕ) (t at word : ℕ) (sp : Span) (k : Key) (was : List 
               (worked_same t a b made.since (ap (λ (z : View). z.reads) made.is) (ap (λ (z : View). z.versions) made.is)
               (ap (λ (z : View). z.role) made.is) (ap (λ (z : View). z.touched) made.is))
               turned.worked);
+          taken = record {
+            keys = can.keys;
+            knows = can.leaf.knows;
+            full = can.leaf.full;
+            is = ap (λ (z : View). z.touched) turned.is ∙ (ap (λ (z : View). z.touched) made.is ∙ some.touched);
+          };
           most =
               let one = some.most in
               let two : b.steps ≤ a.steps + (2 * v.layout.slots + 106) =
@@ -271,13 +277,21 @@ module _ (slots : List ℕ) (t at word : ℕ) (sp : Span) (k : Key) (was : List 
               ∙ (ap (λ (l : List Key). tried_at l [] b.looked v w) (sym can.unlocked)
               ∙ (ap (λ (l : List Took). tried_at v.seat.locks l b.looked v w) (sym can.took)
               ∙ ap (λ (l : List Glance). tried_at v.seat.locks v.took l v w) (sym looked))));
-          cause = inr record {
-            before = none.gave.before;
-            behind = none.gave.behind;
-            since = omega (arith, first, next);
-            layout = none.gave.layout ∙ layout_is;
-            missed = none.gave.missed;
-            last = opened.last ∙ none.gave.last;
-            looked = looked ∙ none.gave.looked;
-          };
+          cause = inr (
+            record {
+              before = none.gave.before;
+              behind = none.gave.behind;
+              since = omega (arith, first, next);
+              layout = none.gave.layout ∙ layout_is;
+              missed = none.gave.missed;
+              last = opened.last ∙ none.gave.last;
+              looked = looked ∙ none.gave.looked;
+            },
+            record {
+              keys = can.keys;
+              knows = can.leaf.knows;
+              full = can.leaf.full;
+              is = opened.touched ∙ (ap (λ (z : View). z.touched) none.is ∙ some.touched);
+            },
+          );
         }

@@ -21,6 +21,7 @@ use Rattle.engine_pages.specs.Layout.{page_at}
 use Rattle.engine_pages.specs.Pages.{is_tree}
 use Rattle.engine_pages.specs.Records.{IsTreeRecordAt}
 use Rattle.engine_pages.specs.Steps.{read_at, seen_at}
+use Rattle.engine_pages.specs.Touches.{touch}
 use Rattle.engine_pages.specs.Views.{seat_number, IsActive}
 use Rattle.engine_pages.specs.Words.{spot, IsSmall}
 use Rattle.page_records.specs.Locks.{locked, opened, took_at, IsOpenWord}
@@ -93,6 +94,19 @@ tooks t keys entries zero = []
 tooks t keys entries (suc n) =
     tooks t keys entries n ++ took_at (get_or keys n no_key) (spot t n) (get_or entries n no_entry).word ∷ []
 
+-- what is told of locks, and behind them of those that a seat took of the first of these keys, so many, in their order
+abbrev pub with_touches : List Touch → ℕ → List Key → ℕ → List Touch
+with_touches touched q keys zero = touched
+with_touches touched q keys (suc n) = with_touches touched q keys n ++ touch q (get_or keys n no_key) ∷ []
+
+-- The locks that were taken since are of the first records of a full leaf, so many, by the keys that the pass knew of it
+-- at first.
+pub record HasTakenFirst (t n : ℕ) (v w : View) : Type 0 where
+  pub keys : List Key
+  pub knows : Contains v.known (record { slot = t; keys = keys })
+  pub full : length keys ≡ tree_leaf.room
+  pub is : w.touched ≡ with_touches v.touched (seat_number v.role) keys n
+
 -- the entry is the key's record, which says what stands at the key
 pub record IsRead (w : View) (k : Key) (e : Entry) : Type 0 where
   pub key : key_of k.storage e ≡ k
@@ -102,6 +116,7 @@ pub record IsRead (w : View) (k : Key) (e : Entry) : Type 0 where
 -- the first records of the leaf are locked, so many, and say what the entries do
 pub record HasLockedSome (t : ℕ) (keys : List Key) (entries : List Entry) (n : ℕ) (v w : View) : Type 0 where
   pub worked : WorkedIn t v w
+  pub touched : w.touched ≡ with_touches v.touched (seat_number v.role) keys n
   pub most : w.steps ≤ v.steps + 4 * n
   pub read : (i : ℕ) (k : Key) → i < n → slice_get keys i ≡ Some k → IsRead w k (get_or entries i no_entry)
   pub is : w ≡ as_locked (take n keys) (tooks t keys entries n) v w
@@ -114,11 +129,12 @@ RefusesOne t i (causes.Full held) v w = ⊥
 RefusesOne t i (causes.Wide set) v w = ⊥
 RefusesOne t i (causes.NumberLimit clock) v w = ⊥
 
--- so it was with one of the leaf's records
+-- so it was with one of the leaf's records, and those before it were locked by then
 abbrev pub RefusesRecord : ℕ → RefusalCause → View → View → Type 0
-RefusesRecord t why v w = (i : ℕ) × (i < tree_leaf.room) × RefusesOne t i why v w
+RefusesRecord t why v w =
+    (i : ℕ) × (i < tree_leaf.room) × RefusesOne t i why v w × HasTakenFirst t i v w
 
--- the records of the leaf weren't locked, and none is
+-- the records of the leaf weren't all locked, and none is any more
 pub record HasNotLocked (t : ℕ) (why : RefusalCause) (v w : View) : Type 0 where
   pub worked : WorkedIn t v w
   pub most : w.steps ≤ v.steps + 80
@@ -159,13 +175,15 @@ HeldValue k at word value v w =
 -- one record more is locked, with this index, which says what the entry does
 pub record HasLockedOne (t : ℕ) (k : Key) (i : ℕ) (e : Entry) (v w : View) : Type 0 where
   pub worked : WorkedIn t v w
+  pub touched : w.touched ≡ v.touched ++ touch (seat_number v.role) k ∷ []
   pub most : w.steps ≤ v.steps + 4
   pub read : IsRead w k e
   pub is : w ≡ as_locked (v.seat.locks ++ k ∷ []) (v.took ++ took_at k (spot t i) e.word ∷ []) v w
 
--- no record more is locked
+-- no record more is locked, and none was
 pub record HasNotLockedOne (t i : ℕ) (why : RefusalCause) (v w : View) : Type 0 where
   pub worked : WorkedIn t v w
+  pub touched : w.touched ≡ v.touched
   pub most : w.steps ≤ v.steps + 3
   pub is : w ≡ as_locked v.seat.locks v.took v w
   pub cause : RefusesOne t i why v w
@@ -194,6 +212,7 @@ pub record AreLocked (t : ℕ) (keys : List Key) (entries : List Entry) (n : ℕ
 -- no record is locked any more, by so many stores; what was loaded last stays
 pub record HasOpenedSome (t n : ℕ) (v w : View) : Type 0 where
   pub worked : WorkedIn t v w
+  pub touched : w.touched ≡ v.touched
   pub steps : w.steps ≡ v.steps + n
   pub last : w.last ≡ v.last
   pub still : (r : Read) → Contains v.reads r

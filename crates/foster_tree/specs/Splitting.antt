@@ -29,7 +29,7 @@ use Rattle.foster_tree.specs.Adding.{new_entry, CanGrow, IsOneHead}
 use Rattle.foster_tree.specs.Entries.{AreInOrder}
 use Rattle.foster_tree.specs.Causes.{IsLeafWordChanged}
 use Rattle.foster_tree.specs.Filling.{leaf_of, no_entry, AreLeafEntries}
-use Rattle.foster_tree.specs.Locking.{tooks, IsRead, KnowsFull, RefusesRecord, WorkedIn}
+use Rattle.foster_tree.specs.Locking.{tooks, HasTakenFirst, IsRead, KnowsFull, RefusesRecord, WorkedIn}
 
 -- a split takes at most so many steps, where there are so many slots: at each of two searches for a slot one for each
 -- slot, and at most 256 for the locks, the records and the halves
@@ -82,13 +82,18 @@ as_tried v w = record v {
   looked = w.looked;
 }
 
+-- so it was for a half of the leaf, all of whose records were locked by then
+abbrev pub RefusesHalf : ℕ → RefusalCause → View → View → Type 0
+RefusesHalf t why v w = GaveNone why v w × HasTakenFirst t tree_leaf.room v w
+
 -- The leaf wasn't split: the header, which was last seen as this word, or a record had changed, no slot was given, or the
--- holds are full, of which the call looked before any step.
+-- holds are full, of which the call looked before any step. No lock of a record is taken but of those before the one that
+-- had changed, in their order, and of all for a slot that was not given.
 abbrev pub RefusesSplit : List ℕ → ℕ → ℕ → RefusalCause → View → View → Type 0
 RefusesSplit slots t word (causes.Conflict at expected seen) v w =
-    ((expected ≡ word) × IsLeafWordChanged t 0 at expected seen v w)
-    ⊎ (RefusesRecord t (causes.Conflict at expected seen) v w ⊎ GaveNone (causes.Conflict at expected seen) v w)
-RefusesSplit slots t word (causes.Full held) v w = GaveNone (causes.Full held) v w
+    ((expected ≡ word) × IsLeafWordChanged t 0 at expected seen v w × (w.touched ≡ v.touched))
+    ⊎ (RefusesRecord t (causes.Conflict at expected seen) v w ⊎ RefusesHalf t (causes.Conflict at expected seen) v w)
+RefusesSplit slots t word (causes.Full held) v w = RefusesHalf t (causes.Full held) v w
 RefusesSplit slots t word (causes.Wide set) v w = (set ≡ Holds) × (length slots ≡ 128) × (w ≡ v)
 RefusesSplit slots t word (causes.NumberLimit clock) v w = ⊥
 
@@ -119,7 +124,7 @@ as_split t keys lower upper half separator v w = record v {
 }
 
 -- The leaf leads to two halves. The one that is made for the key is held and has it, and the key's record, which is
--- absent, has its word here.
+-- absent, has its word here. Each record of the leaf was locked once, in their order.
 pub record HasSplitLeaf (t : ℕ) (sp : Span) (k : Key) (at : ℕ) (v w : View) : Type 0 where
   pub keys : List Key
   pub are : AreLeafKeys v t sp keys
@@ -133,6 +138,7 @@ pub record HasSplitLeaf (t : ℕ) (sp : Span) (k : Key) (at : ℕ) (v w : View) 
   pub index : ℕ
   pub record_at : IsTreeRecordAt w k (spot half.slot index) at
   pub worked : WorkedIn t v w
+  pub taken : HasTakenFirst t tree_leaf.room v w
   pub most : w.steps ≤ v.steps + split_steps v.layout.slots
   pub agree : WaysAgree w.ways
   pub trees : TreesAgree w
@@ -320,6 +326,7 @@ pub record HasSplitLocked
   pub index : ℕ
   pub record_at : IsTreeRecordAt w k (spot half.slot index) at
   pub worked : WorkedIn t v w
+  pub taken : HasTakenFirst t tree_leaf.room v w
   pub most : w.steps ≤ v.steps + (2 * v.layout.slots + 200)
   pub holds : held ≡ slots ++ half.slot ∷ []
   pub agree : WaysAgree w.ways
@@ -343,4 +350,4 @@ pub record HasNotSplitLocked (t : ℕ) (why : RefusalCause) (v w : View) : Type 
   pub worked : WorkedIn t v w
   pub most : w.steps ≤ v.steps + (2 * v.layout.slots + 250)
   pub is : w ≡ as_tried_locked v w
-  pub cause : RefusesRecord t why v w ⊎ GaveNone why v w
+  pub cause : RefusesRecord t why v w ⊎ RefusesHalf t why v w

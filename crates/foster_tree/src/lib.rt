@@ -6,8 +6,9 @@
 //! full leaf with one key more: at one step the leaf leads to two halves, which have its records as they were read
 //! under their locks, and the key's, absent; the half that is made for the key is held (`split`). A split that is
 //! refused, since the header or a record has changed, no slot is given or the holds are full, leaves nothing locked and
-//! nothing made (`missed`). A slot that is taken for a leaf is published as one with just the records that are given
-//! (`make_leaf`).
+//! nothing made (`missed`). Of the leaf's records a split locks each once, in their order; one that is refused those
+//! before the record that was in the way, or all where no slot was given. A slot that is taken for a leaf is published
+//! as one with just the records that are given (`make_leaf`).
 //! Terms: *header*, the first word of a leaf: how many records it has, and whether it is locked or was split; *absent*,
 //! of a record whose key has no value; *half*, one of the two leaves that have the keys of one that was split;
 //! *separator*, the first key of the second half.

@@ -23,6 +23,7 @@ use Rattle.tx_sets.specs.declared.reads.ReadEntry.{ReadEntry}
 use Rattle.tx_sets.specs.declared.seen.Seen.{Seen}
 use Rattle.tx_sets.specs.declared.sets.Sets.{Sets}
 use Rattle.tx_sets.specs.Entries.{has_word, renewed, word_at}
+use Rattle.tx_sets.specs.Gathered.{has_read_room}
 use Rattle.drop_core.specs.Table.{has_slot}
 use Rattle.engine_rule.specs.JointState.{is_counted, keeps_header_at}
 use Rattle.engine_pages.specs.declared.layout.Layout.{Layout}
@@ -54,6 +55,7 @@ use Rattle.page_commit.proofs.GrownStay.{grown_goes_on, grown_stay, head_is}
 use Rattle.page_commit.proofs.KeepLaws.{entry_apart}
 use Rattle.page_commit.proofs.PointerLaws.{has_pointer, pointer_word}
 use Rattle.page_commit.proofs.RenewLaws.{renewed_cases}
+use Rattle.page_commit.proofs.RoomLaws.{room_entry}
 use Rattle.page_commit.proofs.WalkedLaws.{can_walk, held_same}
 use Rattle.tree_calls.proofs.DoneLaws.{no_array}
 use Rattle.tree_writes.specs.Writing.{HasBrought}
@@ -132,6 +134,9 @@ module _ (sets : Sets) (v w : View) (k : Key) (x : Leaf) (at : ℕ) (live : IsLi
 
   ways_same : w.ways ≡ v.ways
   ways_same = ap (λ (z : View). z.ways) p.is
+
+  touched_same : w.touched ≡ v.touched
+  touched_same = ap (λ (z : View). z.touched) p.is
 
   -- the keys that were known of the leaf are all of its keys
   keys_are : on.leaf.keys ≡ p.keys
@@ -420,6 +425,7 @@ module _ (sets : Sets) (v w : View) (k : Key) (x : Leaf) (at : ℕ) (live : IsLi
       headers = λ h has. has_pointer sets.headers h has;
       heads = refl;
       writes = refl;
+      locks = inl touched_same;
       place = added_place;
     }
 
@@ -427,12 +433,15 @@ module _ (sets : Sets) (v w : View) (k : Key) (x : Leaf) (at : ℕ) (live : IsLi
 
   module _ (new : Sets) (has : has_word head_at sets.headers ≡ true) (reads : new.reads ≡ sets.reads ++ entry ∷ [])
       (pointers : new.pointers ≡ sets.pointers) (headers : new.headers ≡ renewed head_at (x.header + 1) sets.headers)
-      (writes : new.writes ≡ sets.writes) (holds : new.holds ≡ sets.holds) where
+      (writes : new.writes ≡ sets.writes) (holds : new.holds ≡ sets.holds) (room : has_read_room sets ≡ true) where
     abbrev head : Part
     head = head_part x.slot x.span (p.keys ++ k ∷ [])
 
     abbrev h : Seen
     h = record { at = head_at; word = x.header + 1 }
+
+    heads_same : length new.headers ≡ length sets.headers
+    heads_same = ap (λ (l : List Seen). length l) headers ∙ length_renewed head_at (x.header + 1) sets.headers
 
     kept_is : w.seat.kept ≡ with_part (with_part v.seat.kept head) (record_part k (spot x.slot (length p.keys)) nothing)
     kept_is = added_kept true (kept_so has)
@@ -513,6 +522,7 @@ module _ (sets : Sets) (v w : View) (k : Key) (x : Leaf) (at : ℕ) (live : IsLi
       ];
       same = λ a apart. ap (λ (l : List Read). kept_at l a) kept_reads
           ∙ kept_left v.reads head_at (x.header + lock_bit) (x.header + 1) at a (Some (x.header + 1)) apart;
+      room = room_entry sets new entry reads heads_same room;
     }
 
     -- the transaction goes on with one more record that was read
@@ -534,7 +544,8 @@ module _ (sets : Sets) (v w : View) (k : Key) (x : Leaf) (at : ℕ) (live : IsLi
             | inl old ↦ has_pointer sets.headers q old.0
             | inr same ↦ ap (λ (z : Seen). has_word z.at sets.headers) (sym same) ∙ has
           ];
-      heads = ap (λ (l : List Seen). length l) headers ∙ length_renewed head_at (x.header + 1) sets.headers;
+      heads = heads_same;
       writes = writes;
+      locks = inl touched_same;
       place = added_place;
     }

@@ -47,6 +47,7 @@ place_cause why sets mid late last k u v w x m h none r =
       record {
         then = w;
         walked = walks_then u v w m.only h.only;
+        touched = h.touched ∙ m.touched;
         sets = late;
         live = h.live;
         reads = elim h.reads [

@@ -16,18 +16,21 @@ use Rattle.engine_pages.specs.declared.layout.Layout.{Layout}
 use Rattle.engine_pages.specs.declared.view.RefusalCause.{RefusalCause}
 use Rattle.engine_pages.specs.declared.view.RefusalCause.TheVariants as refusals
 use Rattle.engine_pages.specs.declared.view.Role.{Role}
+use Rattle.engine_pages.specs.declared.view.Touch.{Touch}
 use Rattle.engine_pages.specs.declared.view.View.{View}
 use Rattle.engine_pages.specs.declared.view.Way.{Way}
+use Rattle.engine_pages.specs.Layout.{page_at}
 use Rattle.engine_pages.specs.Pages.{decl_of, is_tree}
 use Rattle.engine_pages.specs.Pointers.{one_kind}
 use Rattle.engine_pages.specs.Views.{seat_number}
+use Rattle.foster_tree.specs.Locking.{with_touches}
 use Rattle.tree_walks.specs.declared.ways.Leaf.{Leaf}
 use Rattle.tree_making.specs.declared.making.Made.TheVariants as mades
 use Rattle.tree_making.specs.Making.{make_steps, IsMade}
 use Rattle.page_commit.specs.Calls.{IsFullOf, IsSlotConflict}
 use Rattle.page_commit.specs.Live.{IsLive}
-use Rattle.page_commit.specs.Places.{ground, IsAnyKeyIn, IsTreeKeyIn}
-use Rattle.page_commit.specs.Refusing.{HasRefused, IsPointerConflict}
+use Rattle.page_commit.specs.Places.{ground, slot_of, IsAnyKeyIn, IsTreeKeyIn}
+use Rattle.page_commit.specs.Refusing.{HasRefused, IsHeaderConflict, IsPointerConflict}
 use Rattle.page_commit.specs.Turning.{GoesOn, HoldsWaysTo, IsTwinOn, OnlyWalked, PartsStay}
 use Rattle.page_commit.proofs.FoundLaws.{nothing_walked, read_entry}
 use Rattle.page_commit.proofs.PlaceLaws.{key_array}
@@ -36,10 +39,12 @@ use Rattle.page_commit.proofs.RefuseLaws.{refused_since}
 use Rattle.page_commit.proofs.TurnLaws.{walks_layout, walks_then}
 use Rattle.page_commit.proofs.WalkedLaws.{held_same}
 use Rattle.tree_calls.specs.Keeping.{OnlyWaysOn}
-use Rattle.tree_calls.proofs.SinceLaws.{long_since, pointer_since}
-use Rattle.tree_writes.specs.Causes.{IsGrowConflict, KeepsHeader, RefusesTreeWrite, TouchesTrees, write_most}
+use Rattle.tree_calls.proofs.SinceLaws.{head_since, hold_since, long_since, pointer_since}
+use Rattle.tree_writes.specs.Causes.{write_most, IsGrowConflict, KeepsHeader, LocksLeaf, NeedsMore, RefusesTreeWrite}
+use Rattle.tree_writes.specs.Causes.{TouchesTrees}
 use Rattle.tree_writes.specs.Writing.{grow_most, GrowsSo, HasBrought, HasMade, HasMadeAt}
 use Rattle.tree_writes.proofs.MadeLaws.{place_on}
+use Rattle.tree_writes.proofs.NamedLaws.{names_same, unnamed_since}
 
 -- no part says more than one did, where they are the same
 goes_same : (old new : List Part) → new ≡ old → GoesOn old new
@@ -66,6 +71,7 @@ made_record sets new v w k at h =
       headers = λ s has. has_pointer sets.headers s (subst (λ (l : List Seen). Contains l s) m.headers has);
       heads = ap (λ (l : List Seen). length l) m.headers;
       writes = m.writes;
+      locks = inl m.touched;
       place = place_on k (h.at).0 (h.at).1 at w m.live.trees (h.at).2 (h.at).3;
     }
 
@@ -85,6 +91,7 @@ read_record sets v k e live tree is = record {
   headers = λ s has. has_pointer sets.headers s has;
   heads = refl;
   writes = refl;
+  locks = inl refl;
   place = by_kind (subst (λ (q : Key). IsAnyKeyIn (ground v) q e.at) there.1 (live.parts.reads e there.0).2.place);
 }
   where
@@ -130,6 +137,8 @@ brought_then sets mid new u v w k at m b = record {
   headers = λ s has. subst (λ (l : List Seen). has_word s.at l ≡ true) m.headers (b.headers s has);
   heads = b.heads ∙ ap (λ (l : List Seen). length l) m.headers;
   writes = b.writes ∙ m.writes;
+  locks = unnamed_since sets mid k u v w m.touched (ap (λ (y : View). y.role) m.only.is)
+      (λ first none. sym (names_same first sets mid m.reads m.headers m.writes) ∙ none) b.locks;
   place = b.place;
 }
   where
@@ -156,6 +165,28 @@ module _ (sets mid new : Sets) (k : Key) (u v w : View) (m : HasMade k sets mid 
   layout : v.layout ≡ u.layout
   layout = walks_layout u v m.only
 
+  -- what is told of locks since
+  taken_since : (keys : List Key) (n : ℕ) → w.touched ≡ with_touches v.touched (seat_number v.role) keys n
+      → w.touched ≡ with_touches u.touched (seat_number u.role) keys n
+  taken_since keys n taken =
+      taken
+      ∙ (ap (λ (l : List Touch). with_touches l (seat_number v.role) keys n) m.touched
+      ∙ ap (λ (r : Role). with_touches u.touched (seat_number r) keys n) (ap (λ (y : View). y.role) m.only.is))
+
+  locks_since : LocksLeaf k v w → LocksLeaf k u w
+  locks_since (inl none) = inl (none ∙ m.touched)
+  locks_since (inr h) = inr record {
+    span = h.span;
+    over = h.over;
+    keys = h.keys;
+    most = h.most;
+    once = h.once;
+    inside = h.inside;
+    count = h.count;
+    within = h.within;
+    touched = taken_since h.keys h.count h.touched;
+  }
+
   grow_since : (at expected seen : ℕ) → IsGrowConflict mid k at expected seen v w
       → IsGrowConflict sets k at expected seen u w
   grow_since at expected seen c = (
@@ -169,8 +200,8 @@ module _ (sets mid new : Sets) (k : Key) (u v w : View) (m : HasMade k sets mid 
       )
       | inr more ↦ inr (elim more [
         | inl h ↦ inl (
-          subst (λ (l : List Seen). IsPointerConflict l at expected seen u w) m.headers
-              (pointer_since mid.headers at expected seen u v w m.only.since h.0),
+          subst (λ (l : List Seen). IsHeaderConflict l at expected seen u w) m.headers
+              (head_since mid.headers at expected seen u v w m.only.since h.0),
           h.1,
         )
         | inr l ↦ inr record {
@@ -182,6 +213,15 @@ module _ (sets mid new : Sets) (k : Key) (u v w : View) (m : HasMade k sets mid 
           place = l.place;
           over = l.over;
           cause = l.cause;
+          locks = l.locks;
+          count = l.count;
+          within = l.within;
+          touched = taken_since l.locks l.count l.touched;
+          own = elim l.own [
+            | inl apart ↦ inl apart
+            | inr named ↦ inr (sym (names_same
+                (page_at c.0.layout.slots (slot_of c.0.layout.slots at) 0) sets mid m.reads m.headers m.writes) ∙ named)
+          ];
         }
       ])
     ],
@@ -232,6 +272,17 @@ module _ (sets mid new : Sets) (k : Key) (u v w : View) (m : HasMade k sets mid 
     over = h.over;
   }
 
+  more_since : NeedsMore k new.holds v w → NeedsMore k new.holds u w
+  more_since n = elim n [
+    | inl there ↦ inl (hold_since k new.holds u v w m.only there)
+    | inr made ↦ inr record {
+      then = made.then;
+      walked = walks_then u v made.then m.only made.walked;
+      met = made.met;
+      makes = made.makes;
+    }
+  ]
+
   unwritten_since : has_write k mid.writes ≡ false → has_write k sets.writes ≡ false
   unwritten_since none = subst (λ (l : List Write). has_write k l ≡ false) m.writes none
 
@@ -252,9 +303,17 @@ module _ (sets mid new : Sets) (k : Key) (u v w : View) (m : HasMade k sets mid 
     elim r.3 [ inl c ↦ inl (grow_since at expected seen c) | inr c ↦ inr (slot_since at expected seen c) ],
     blamed_since r.4,
     touches_since r.5,
+    locks_since r.6,
   )
-  write_since (refusals.Full held) r =
-      (unwritten_since r.0, room_since r.1, draws_since r.2, full_since held r.3, blamed_since r.4, touches_since r.5)
+  write_since (refusals.Full held) r = (
+    unwritten_since r.0,
+    room_since r.1,
+    draws_since r.2,
+    full_since held r.3,
+    blamed_since r.4,
+    touches_since r.5,
+    locks_since r.6,
+  )
   write_since (refusals.Wide set) r = (
     unwritten_since r.0,
     draws_since r.1,
@@ -266,7 +325,7 @@ module _ (sets mid new : Sets) (k : Key) (u v w : View) (m : HasMade k sets mid 
           | inl holds ↦ inl (
             holds.0,
             elim holds.1 [
-              | inl full ↦ inl full
+              | inl full ↦ inl (full.0, more_since full.1)
               | inr long ↦ inr (long_since k u v m.only long)
             ],
           )

@@ -6,7 +6,7 @@ use Rattle.std.proofs.lemmas.Bool.Decides.{nat_tests}
 use Rattle.lists.specs.Elements.{any_is}
 use Rattle.lists.specs.Fronts.{front_refl, IsFront}
 use Rattle.serial_model.specs.declared.key.Key.{Key}
-use Rattle.homes.specs.Laws.{in_span-parts}
+use Rattle.homes.specs.Homes.{has_key}
 use Rattle.wire_form.specs.Leaves.{tree_leaf, word_in}
 use Rattle.drop_core.specs.Table.{has_slot}
 use Rattle.drop_core.specs.declared.grip.Grip.{Grip}
@@ -17,6 +17,7 @@ use Rattle.tx_sets.specs.Gathered.{has_read_room}
 use Rattle.engine_pages.specs.declared.layout.Layout.{Layout}
 use Rattle.engine_pages.specs.declared.view.RefusalCause.{RefusalCause}
 use Rattle.engine_pages.specs.declared.view.RefusalCause.TheVariants as refusals
+use Rattle.engine_pages.specs.declared.view.SetName.{SetName}
 use Rattle.engine_pages.specs.declared.view.SetName.TheVariants.{Reads, Writes}
 use Rattle.engine_pages.specs.declared.view.View.{View}
 use Rattle.engine_pages.specs.declared.view.Way.{Way}
@@ -30,7 +31,7 @@ use Rattle.array_pages.specs.Walks.{SawLast}
 use Rattle.tree_heads.specs.Headers.{Headed}
 use Rattle.foster_tree.specs.Adding.{RefusesAdd}
 use Rattle.foster_tree.specs.Causes.{IsLeafWordChanged}
-use Rattle.foster_tree.specs.Locking.{HasNotLockedOne}
+use Rattle.foster_tree.specs.Locking.{HasNotLockedOne, HasTakenFirst}
 use Rattle.foster_tree.specs.Splitting.{GaveNone, HasNotSplit}
 use Rattle.tree_walks.specs.declared.ways.Leaf.{Leaf}
 use Rattle.tree_walks.specs.Walks.{HasWalked}
@@ -38,6 +39,7 @@ use Rattle.tree_walks.specs.Ways.{IsLeafOn}
 use Rattle.tree_walks.proofs.LoadLaws.{head_load, read_load, trees_by, IsLoad}
 use Rattle.tree_making.specs.Making.{CanMake, RefusesMake}
 use Rattle.page_commit.specs.Live.{HasHolds, IsLive}
+use Rattle.page_commit.specs.Needs.{IsFullLeaf, IsRefusedOn, NeedsOne}
 use Rattle.page_commit.specs.Steps.{CanRefuse, HasGivenUp}
 use Rattle.page_commit.specs.Turning.{as_walked, IsHeaderOver, OnlyWalked}
 use Rattle.page_commit.proofs.FoundLaws.{nothing_walked}
@@ -45,12 +47,16 @@ use Rattle.page_commit.proofs.GrowLaws.{KnowsMore}
 use Rattle.page_commit.proofs.RefuseLaws.{can_refuse}
 use Rattle.page_commit.proofs.TurnLaws.{walks_then}
 use Rattle.page_commit.proofs.WalkedLaws.{holds_walked}
+use Rattle.tree_calls.proofs.OnLaws.{header_over}
 use Rattle.tree_calls.proofs.TreeWalkLaws.{tree_knows_more, tree_walked}
+use Rattle.tree_writes.specs.Causes.{names_page, LocksLeaf}
 use Rattle.tree_writes.specs.Writing.{grow_most, GrowsSo, HasSplitFor}
 use Rattle.tree_writes.proofs.LeafStops.{head_stops, record_stops}
 use Rattle.tree_writes.proofs.MakeCauses.{full_stops, make_stops, slot_stops}
+use Rattle.tree_writes.proofs.NamedLaws.{names_same}
 use Rattle.tree_writes.proofs.SplitHere.{split_holds, split_more, split_walked}
 use Rattle.tree_writes.proofs.Stopping.{refused_end, write_end, writes_full, Stopped}
+use Rattle.tree_writes.proofs.TakenLaws.{key_apart, locks_leaf, taken_first}
 
 -- The transaction that is still to be ended, for this cause, with these slots.
 pub record Falls (sets : Sets) (slots : List ℕ) (k : Key) (why : RefusalCause) (v w : View) : Type 0 where
@@ -60,6 +66,7 @@ pub record Falls (sets : Sets) (slots : List ℕ) (k : Key) (why : RefusalCause)
   pub agree : WaysAgree w.ways
   pub trees : TreesAgree w
   pub stopped : Stopped sets slots k why v w
+  pub locks : LocksLeaf k v w
 
 -- what its end asks
 pub falls_can : (sets : Sets) (slots : List ℕ) (k : Key) (why : RefusalCause) (v w : View) → Falls sets slots k why v w
@@ -73,7 +80,7 @@ pub falls_so : (sets new : Sets) (slots : List ℕ) (k : Key) (why said : Refusa
 falls_so sets new slots k why said v w x same f g holds none room most =
     subst (λ (r : RefusalCause). GrowsSo k sets new (Err r) v x) (sym same) record {
       came = tt;
-      cause = write_end why sets new slots k v w x f.only f.stopped g holds none room;
+      cause = write_end why sets new slots k v w x f.only f.stopped g holds none room f.locks;
       refused = refused_end why sets slots k v w x f.only f.stopped g f.live f.holds f.agree f.trees;
       most = most;
     }
@@ -134,6 +141,7 @@ load_falls sets k x v w at n live on is l cause =
         saw = subst (λ (o : Option ℕ). SawLast at n o v w) (ap (λ (m : ℕ). seen_at v.reads m) is ∙ on.met) l.saw;
         cause = cause;
       };
+      locks = inl (ap (λ (z : View). z.touched) l.walked.is);
     }
 
 pub locked_falls : (sets : Sets) (k : Key) (x : Leaf) (v w : View) (at n : ℕ) → IsLive sets v → IsLeafOn k sets.headers x v
@@ -148,10 +156,10 @@ locked_falls sets k x v w at n live on is locked h =
 no_room : (n : ℕ) → nat_lt n 256 ≡ false → 256 ≤ n
 no_room n full = grind (arith, nat_tests)
 
-pub room_falls : (sets : Sets) (k : Key) (x : Leaf) (v : View) (at : ℕ) → IsLive sets v → IsLeafOn k sets.headers x v
-    → at ≡ page_at v.layout.slots x.slot 0 → has_word at sets.headers ≡ true → has_read_room sets ≡ false
-    → Falls sets sets.holds k (refusals.Wide Reads) v v
-room_falls sets k x v at live on is has full = record {
+pub room_falls : (sets : Sets) (k : Key) (x : Leaf) (v : View) (at : ℕ) → IsLive sets v
+    → (on : IsLeafOn k sets.headers x v) → has_key on.leaf.keys k ≡ false → at ≡ page_at v.layout.slots x.slot 0
+    → has_word at sets.headers ≡ true → has_read_room sets ≡ false → Falls sets sets.holds k (refusals.Wide Reads) v v
+room_falls sets k x v at live on lacks is has full = record {
   live = live;
   only = nothing_walked v;
   holds = live.holds;
@@ -159,6 +167,19 @@ room_falls sets k x v at live on is has full = record {
   trees = live.trees;
   stopped = record {
     due = tt;
+    on = (
+      no_room (length sets.reads + length sets.headers) full,
+      inr (inr record {
+        slot = x.slot;
+        span = x.span;
+        on = on.leaf.on;
+        leaf = record { slot = x.slot; keys = on.leaf.keys };
+        knows = on.leaf.knows;
+        same = refl;
+        lacks = lacks;
+        kept = subst (λ (n : ℕ). has_word n sets.headers ≡ true) is has;
+      }),
+    );
     told = λ met t. t;
     stops = (
       inr (inr (
@@ -169,29 +190,18 @@ room_falls sets k x v at live on is has full = record {
           walked = nothing_walked v;
           header = h.0;
           among = h.1;
-          over = subst (λ (n : ℕ). IsHeaderOver v k n) (sym (eqb-true (h.0).at at h.2)) over;
+          over = subst (λ (n : ℕ). IsHeaderOver v k n) (sym (eqb-true (h.0).at at h.2))
+              (header_over k x.slot at x.span v on.leaf.on is);
         },
       )),
       refl,
     );
   };
+  locks = inl refl;
 }
   where
     h : (s : Seen) × Contains sets.headers s × ((s.at == at) ≡ true)
     h = any_is (λ (s : Seen). s.at == at) sets.headers has
-
-    over : IsHeaderOver v k at
-    over =
-        let word : at ≡ ((32 + v.layout.slots) + 64 * x.slot) + 0 = is in
-        let slot : (at - (32 + v.layout.slots)) / 64 ≡ x.slot = omega (arith, word) in record {
-          way = record { slot = x.slot; span = x.span };
-          has = on.leaf.on.way;
-          slot = sym slot;
-          tree = subst (λ (i : ℕ). is_tree v.layout.decls i ≡ true) (sym (in_span-parts x.span k on.leaf.on.over).0)
-              on.leaf.on.tree;
-          over = on.leaf.on.over;
-          word = is;
-        }
 
 -- ---- the key wasn't added
 
@@ -241,10 +251,12 @@ module _ (why : RefusalCause) (sets : Sets) (k : Key) (x : Leaf) (v w : View) (l
   tried_trees = h.trees live.trees
 
   record_falls : (at expected seen i : ℕ) → i < 16 → IsLeafWordChanged x.slot (word_in tree_leaf i) at expected seen v w
-      → Stopped sets sets.holds k (refusals.Conflict at expected seen) v w
-  record_falls at expected seen i few c =
+      → HasTakenFirst x.slot i v w → Stopped sets sets.holds k (refusals.Conflict at expected seen) v w
+  record_falls at expected seen i few c taken =
       record_stops sets sets.holds k x v v w live on tried_walked tried_more tried_trees (omega arith) h.worked.words i at
-      expected seen few full c
+      expected seen few full c i (omega (arith, few))
+      (taken_first k sets.headers x i v w on full live.trees (omega (arith, few)) taken)
+      (inl (key_apart on.leaf.keys i on.leaf.once (omega (arith, few, full))))
 
   header_falls : (at expected seen : ℕ) → expected ≡ x.header → IsLeafWordChanged x.slot 0 at expected seen v w
       → Stopped sets sets.holds k (refusals.Conflict at expected seen) v w
@@ -265,44 +277,81 @@ module _ (why : RefusalCause) (sets : Sets) (k : Key) (x : Leaf) (v w : View) (l
       full_stops sets sets.holds k held v g.before g.behind w g.since g.layout (ap (λ (z : View). z.layout) h.is) g.looked
       g.last g.missed
 
-  split_falls_by : Stopped sets sets.holds k why v w → Falls sets sets.holds k why v w
-  split_falls_by s = record {
+  -- the locks that were taken
+  split_locks : (n : ℕ) → n ≤ 16 → HasTakenFirst x.slot n v w → LocksLeaf k v w
+  split_locks n few taken = locks_leaf k sets.headers x n v w on full live.trees few taken
+
+  split_falls_by : Stopped sets sets.holds k why v w → LocksLeaf k v w → Falls sets sets.holds k why v w
+  split_falls_by s locks = record {
     live = live;
     only = tried_walked;
     holds = holds_same sets v w live tried_walked (ap (λ (z : View). z.grip.holds) h.is);
     agree = subst (λ (l : List Way). WaysAgree l) (sym (ap (λ (z : View). z.ways) h.is)) live.agree;
     trees = tried_trees;
     stopped = s;
+    locks = locks;
   }
+
+-- the leaf is full
+full_leaf : (sets : Sets) (k : Key) (x : Leaf) (v : View) → (on : IsLeafOn k sets.headers x v)
+    → length on.leaf.keys ≡ 16 → IsFullLeaf k v
+full_leaf sets k x v on full = record { leaf = x; is = on.leaf; full = full; saw = on.met }
 
 pub split_falls : (why : RefusalCause) (sets : Sets) (k : Key) (x : Leaf) (v w : View) → IsLive sets v
     → (on : IsLeafOn k sets.headers x v) → length on.leaf.keys ≡ 16 → HasNotSplit sets.holds x.slot x.header why v w
     → Falls sets sets.holds k why v w
 split_falls (refusals.Conflict at expected seen) sets k x v w live on full h =
     let why : RefusalCause = refusals.Conflict at expected seen in
-    split_falls_by why sets k x v w live on full h (elim h.cause [
-      | inl c ↦ header_falls why sets k x v w live on full h at expected seen c.0 c.1
+    elim h.cause [
+      | inl c ↦ split_falls_by why sets k x v w live on full h
+          (header_falls why sets k x v w live on full h at expected seen c.0 c.1) (inl c.2)
       | inr more ↦ elim more [
-        | inl r ↦ record_falls why sets k x v w live on full h at expected seen r.0 r.1 r.2
-        | inr g ↦ gave_falls why sets k x v w live on full h at expected seen g
+        | inl r ↦
+            let few : r.0 < 16 = r.1 in
+            split_falls_by why sets k x v w live on full h
+            (record_falls why sets k x v w live on full h at expected seen r.0 few r.2 r.3)
+            (split_locks why sets k x v w live on full h r.0 (omega (arith, few)) r.3)
+        | inr g ↦ split_falls_by why sets k x v w live on full h
+            (gave_falls why sets k x v w live on full h at expected seen g.0)
+            (split_locks why sets k x v w live on full h 16 (omega arith) g.1)
       ]
-    ])
+    ]
 split_falls (refusals.Full held) sets k x v w live on full h =
     split_falls_by (refusals.Full held) sets k x v w live on full h
-    (full_falls (refusals.Full held) sets k x v w live on full h held h.cause)
+    (full_falls (refusals.Full held) sets k x v w live on full h held h.cause.0)
+    (split_locks (refusals.Full held) sets k x v w live on full h 16 (omega arith) h.cause.1)
 split_falls (refusals.Wide set) sets k x v w live on full h =
     split_falls_by (refusals.Wide set) sets k x v w live on full h
     record {
       due = tt;
+      on = subst (λ (s : SetName). NeedsOne s k sets w) (sym h.cause.0) (inl (
+        h.cause.1,
+        inr (inr (subst (λ (z : View). IsFullLeaf k z) (sym h.cause.2) (full_leaf sets k x v on full))),
+      ));
       told = λ met t. t;
-      stops = (inr (inl (h.cause.0, inl h.cause.1)), ap (λ (z : View). z.touched) h.cause.2);
-    }
+      stops = (
+        inr (inl (
+          h.cause.0,
+          inl (
+            h.cause.1,
+            inr record {
+              then = v;
+              walked = nothing_walked v;
+              met = λ r has. subst (λ (z : View). Contains z.reads r) (sym h.cause.2) has;
+              makes = inr (full_leaf sets k x v on full);
+            },
+          ),
+        )),
+        ap (λ (z : View). z.touched) h.cause.2,
+      );
+    } (inl (ap (λ (z : View). z.touched) h.cause.2))
 split_falls (refusals.NumberLimit clock) sets k x v w live on full h = absurd h.cause
 
 -- ---- the leaf was split, and the sets name a word of it
 
 module _ (why : RefusalCause) (sets new : Sets) (k : Key) (x : Leaf) (at : ℕ) (v w y : View)
-    (s : HasSplitFor k x at sets new v w) (h : HasNotLockedOne x.slot 0 why w y) where
+    (s : HasSplitFor k x at sets new v w) (h : HasNotLockedOne x.slot 0 why w y)
+    (named : names_page (page_at v.layout.slots x.slot 0) sets ≡ true) where
   look_walked : OnlyWalked w y
   look_walked = record {
     drawn = subst (λ (z : View). IsFront w.history z.history) (sym h.is) (front_refl w.history);
@@ -355,11 +404,21 @@ module _ (why : RefusalCause) (sets new : Sets) (k : Key) (x : Leaf) (at : ℕ) 
         heads = ap (λ (z : View). z.heads) h.is ∙ o.heads;
       }
 
+  -- all records of the leaf were locked
+  look_taken : HasTakenFirst x.slot 16 v y
+  look_taken = record {
+    keys = s.split.taken.keys;
+    knows = s.split.taken.knows;
+    full = s.split.taken.full;
+    is = h.touched ∙ s.split.taken.is;
+  }
+
   look_stops : (a expected seen : ℕ) → IsLeafWordChanged x.slot (word_in tree_leaf 0) a expected seen w y
       → Stopped sets new.holds k (refusals.Conflict a expected seen) v y
   look_stops a expected seen c =
       record_stops sets new.holds k x v w y s.live s.on both_walked look_more look_trees s.split.worked.since
-      (λ n. h.worked.words n ∙ s.split.worked.words n) 0 a expected seen (omega arith) s.full c
+      (λ n. h.worked.words n ∙ s.split.worked.words n) 0 a expected seen (omega arith) s.full c 16 (omega arith)
+      (taken_first k sets.headers x 16 v y s.on s.full s.live.trees (omega arith) look_taken) (inr named)
 
   look_falls_by : Stopped sets new.holds k why v y → Falls sets new.holds k why v y
   look_falls_by stopped = record {
@@ -369,16 +428,22 @@ module _ (why : RefusalCause) (sets new : Sets) (k : Key) (x : Leaf) (at : ℕ) 
     agree = subst (λ (l : List Way). WaysAgree l) (sym (ap (λ (z : View). z.ways) h.is)) s.split.agree;
     trees = look_trees;
     stopped = stopped;
+    locks = locks_leaf k sets.headers x 16 v y s.on s.full s.live.trees (omega arith) look_taken;
   }
 
-pub look_falls : (why : RefusalCause) (sets new : Sets) (k : Key) (x : Leaf) (at : ℕ) (v w y : View)
-    → HasSplitFor k x at sets new v w → HasNotLockedOne x.slot 0 why w y → Falls sets new.holds k why v y
-look_falls (refusals.Conflict a expected seen) sets new k x at v w y s h =
+pub look_falls : (why : RefusalCause) (sets new : Sets) (k : Key) (x : Leaf) (at head : ℕ) (v w y : View)
+    → HasSplitFor k x at sets new v w → head ≡ page_at v.layout.slots x.slot 0 → names_page head new ≡ true
+    → HasNotLockedOne x.slot 0 why w y → Falls sets new.holds k why v y
+look_falls (refusals.Conflict a expected seen) sets new k x at head v w y s is names h =
     let why : RefusalCause = refusals.Conflict a expected seen in
-    look_falls_by why sets new k x at v w y s h (look_stops why sets new k x at v w y s h a expected seen h.cause)
-look_falls (refusals.Full held) sets new k x at v w y s h = absurd h.cause
-look_falls (refusals.Wide set) sets new k x at v w y s h = absurd h.cause
-look_falls (refusals.NumberLimit clock) sets new k x at v w y s h = absurd h.cause
+    let named : names_page (page_at v.layout.slots x.slot 0) sets ≡ true =
+    ap (λ (n : ℕ). names_page n sets) (sym is)
+    ∙ (sym (names_same head sets new s.others.reads s.others.headers s.others.writes) ∙ names) in
+    look_falls_by why sets new k x at v w y s h named
+    (look_stops why sets new k x at v w y s h named a expected seen h.cause)
+look_falls (refusals.Full held) sets new k x at head v w y s is names h = absurd h.cause
+look_falls (refusals.Wide set) sets new k x at head v w y s is names h = absurd h.cause
+look_falls (refusals.NumberLimit clock) sets new k x at head v w y s is names h = absurd h.cause
 
 -- ---- pages weren't brought into memory
 
@@ -392,17 +457,19 @@ made_falls why sets slots k v w live walk can r = record {
   agree = can.walks.agree;
   trees = can.walks.trees;
   stopped = make_stops sets slots k v w record { live = live; walk = walk; can = can.walks } why r;
+  locks = inl (ap (λ (z : View). z.touched) walk.is);
 }
 
 pub full_falls_here : (sets : Sets) (k : Key) (v : View) → IsLive sets v → length sets.writes ≡ 16
-    → Falls sets sets.holds k (refusals.Wide Writes) v v
-full_falls_here sets k v live full = record {
+    → has_write k sets.writes ≡ false → Falls sets sets.holds k (refusals.Wide Writes) v v
+full_falls_here sets k v live full none = record {
   live = live;
   only = nothing_walked v;
   holds = live.holds;
   agree = live.agree;
   trees = live.trees;
-  stopped = writes_full sets sets.holds k v full;
+  stopped = writes_full sets sets.holds k v full none;
+  locks = inl refl;
 }
 
 -- ---- as the calls tell it
@@ -411,6 +478,21 @@ pub locked_due : (why : RefusalCause) (sets : Sets) (k : Key) (x : Leaf) (v w : 
     → why ≡ refusals.Conflict at x.header n → Falls sets sets.holds k (refusals.Conflict at x.header n) v w
     → IsDue (Some why) w
 locked_due why sets k x v w at n same f = subst (λ (r : RefusalCause). IsDue (Some r) w) (sym same) f.stopped.due
+
+pub locked_on : (why : RefusalCause) (sets : Sets) (k : Key) (x : Leaf) (v w : View) (at n : ℕ)
+    → why ≡ refusals.Conflict at x.header n → Falls sets sets.holds k (refusals.Conflict at x.header n) v w
+    → IsRefusedOn why k sets w
+locked_on why sets k x v w at n same f = subst (λ (r : RefusalCause). IsRefusedOn r k sets w) (sym same) f.stopped.on
+
+-- behind a split it is a record of the leaf
+pub look_on : (why : RefusalCause) (sets new : Sets) (k : Key) (x : Leaf) (at head : ℕ) (v w y : View)
+    → HasSplitFor k x at sets new v w → head ≡ page_at v.layout.slots x.slot 0 → names_page head new ≡ true
+    → HasNotLockedOne x.slot 0 why w y → IsRefusedOn why k new y
+look_on (refusals.Conflict a expected seen) sets new k x at head v w y s is names h =
+    (look_falls (refusals.Conflict a expected seen) sets new k x at head v w y s is names h).stopped.on
+look_on (refusals.Full held) sets new k x at head v w y s is names h = absurd h.cause
+look_on (refusals.Wide set) sets new k x at head v w y s is names h = absurd h.cause
+look_on (refusals.NumberLimit clock) sets new k x at head v w y s is names h = absurd h.cause
 
 pub headed_steps : (sets : Sets) (k : Key) (x : Leaf) (v w : View) (at n : ℕ) → IsLive sets v → Headed x.slot x.span at v n w
     → w.steps ≤ v.steps + 1

@@ -1,13 +1,12 @@
 -- A leaf that got the key for a write, as the calls tell it.
-use Rattle.std.proofs.Common.{◌≡◌, inl, inr, ℕ, ◌+◌, ◌≤◌, false, List, sym, ap, ◌∙◌, subst}
-use Rattle.std.proofs.Common.{arith, None}
+use Rattle.std.proofs.Common.{◌≡◌, inl, inr, ℕ, ◌+◌, ◌≤◌, true, false, sym, ap, ◌∙◌, subst}
+use Rattle.std.proofs.Common.{arith}
 use Rattle.std.specs.Prelude.{Ok}
 use Rattle.serial_model.specs.declared.key.Key.{Key}
 use Rattle.homes.specs.Homes.{has_key}
-use Rattle.tx_sets.specs.declared.reads.ReadEntry.{ReadEntry}
 use Rattle.tx_sets.specs.declared.sets.Sets.{Sets}
-use Rattle.tx_sets.specs.Entries.{has_word, read_in, renewed}
-use Rattle.tx_sets.specs.declared.seen.Seen.{Seen}
+use Rattle.tx_sets.specs.Entries.{has_word, renewed}
+use Rattle.tx_sets.specs.Gathered.{has_read_room}
 use Rattle.engine_pages.specs.declared.view.RefusalCause.{RefusalCause}
 use Rattle.engine_pages.specs.declared.view.RefusalCause.TheVariants as refusals
 use Rattle.engine_pages.specs.declared.view.View.{View}
@@ -16,17 +15,19 @@ use Rattle.foster_tree.specs.Adding.{HasKeyPut, RefusesAdd}
 use Rattle.tree_walks.specs.declared.ways.Leaf.{Leaf}
 use Rattle.tree_walks.specs.Ways.{IsLeafOn}
 use Rattle.page_commit.specs.Live.{IsLive}
+use Rattle.tree_writes.specs.Causes.{names_page}
 use Rattle.tree_writes.specs.Writing.{GrowsSo, HasBrought, HasRenewed, HasSplitFor, KeepsAdded}
 use Rattle.tree_writes.proofs.AddedHere.{bare_brought, kept_brought}
+use Rattle.tree_writes.proofs.NamedLaws.{names_same}
 use Rattle.tree_writes.proofs.SplitHere.{split_brought}
 
 -- ---- the key was added
 
 pub added_grows : (sets new : Sets) (k : Key) (x : Leaf) (at head : ℕ) (v w : View) → IsLive sets v
     → (on : IsLeafOn k sets.headers x v) → has_key on.leaf.keys k ≡ false → HasKeyPut x.slot x.span k x.header at v w
-    → head ≡ page_at v.layout.slots x.slot 0 → KeepsAdded k at head (x.header + 1) sets new
-    → GrowsSo k sets new (Ok at) v w
-added_grows sets new k x at head v w live on lacks p is kept = record {
+    → head ≡ page_at v.layout.slots x.slot 0 → (has_word head sets.headers ≡ true → has_read_room sets ≡ true)
+    → KeepsAdded k at head (x.header + 1) sets new → GrowsSo k sets new (Ok at) v w
+added_grows sets new k x at head v w live on lacks p is room kept = record {
   came = elim kept [
     | inl none ↦
         subst (λ (s : Sets). HasBrought k at sets s v w) (sym none.1)
@@ -42,7 +43,7 @@ added_grows sets new k x at head v w live on lacks p is kept = record {
     renewed_so r =
         kept_brought sets v w k x at live on lacks p new
         (ap (λ (n : ℕ). has_word n sets.headers) (sym is) ∙ r.has) r.reads r.pointers
-        (r.headers ∙ ap (λ (n : ℕ). renewed n (x.header + 1) sets.headers) is) r.writes r.holds
+        (r.headers ∙ ap (λ (n : ℕ). renewed n (x.header + 1) sets.headers) is) r.writes r.holds (room r.has)
 
 pub added_steps : (why : RefusalCause) (t word : ℕ) (v w : View) → RefusesAdd t word why v w → w.steps ≤ v.steps + 1
 added_steps (refusals.Conflict at expected seen) t word v w r =
@@ -54,13 +55,11 @@ added_steps (refusals.NumberLimit clock) t word v w r = absurd r
 -- ---- the leaf was split
 
 pub split_grows : (sets new : Sets) (k : Key) (x : Leaf) (at head : ℕ) (v w : View) → HasSplitFor k x at sets new v w
-    → head ≡ page_at v.layout.slots x.slot 0 → has_word head new.headers ≡ false → read_in head new.reads ≡ None
-    → GrowsSo k sets new (Ok at) v w
-split_grows sets new k x at head v w s is no_head no_read = record {
+    → head ≡ page_at v.layout.slots x.slot 0 → names_page head new ≡ false → GrowsSo k sets new (Ok at) v w
+split_grows sets new k x at head v w s is unnamed = record {
   came = split_brought sets new v w k x at s.live s.on s.split s.now
-      (ap (λ (n : ℕ). has_word n sets.headers) (sym is)
-      ∙ (ap (λ (l : List Seen). has_word head l) (sym s.others.headers) ∙ no_head))
-      (ap (λ (n : ℕ). read_in n sets.reads) (sym is) ∙ (ap (λ (l : List ReadEntry). read_in head l) (sym s.others.reads) ∙ no_read))
+      (ap (λ (n : ℕ). names_page n sets) (sym is)
+      ∙ (sym (names_same head sets new s.others.reads s.others.headers s.others.writes) ∙ unnamed))
       s.others.reads s.others.pointers s.others.headers s.others.writes;
   cause = tt;
   refused = tt;

@@ -1,6 +1,6 @@
 -- A header or a record of the leaf of a key was in the way as the key was to be added to it.
 use Rattle.std.proofs.Common.{◌≡◌, ◌⊎◌, inl, inr, ℕ, ◌+◌, ◌-◌, ◌*◌, ◌/◌, ◌<◌, ◌≤◌, true, false, List}
-use Rattle.std.proofs.Common.{length, get_or, refl, sym, ap, ◌∙◌, subst, arith, Option, Some, None}
+use Rattle.std.proofs.Common.{length, get_or, take, refl, sym, ap, ◌∙◌, subst, arith, Option, Some, None}
 use Rattle.std.specs.Prelude.{Contains, slice_get, ◌==◌}
 use Rattle.std.proofs.lemmas.Bool.{eqb-true}
 use Rattle.lists.specs.Elements.{any_is, at_in, in_none}
@@ -24,21 +24,24 @@ use Rattle.engine_pages.specs.Layout.{page_at}
 use Rattle.engine_pages.specs.Pages.{is_tree}
 use Rattle.engine_pages.specs.Records.{IsTreeRecordAt}
 use Rattle.engine_pages.specs.Steps.{kept_at}
+use Rattle.engine_pages.specs.Views.{seat_number}
 use Rattle.engine_pages.specs.Words.{spot}
 use Rattle.array_pages.specs.Walks.{KeepsWords}
 use Rattle.foster_tree.specs.Causes.{IsLeafWordChanged}
-use Rattle.foster_tree.specs.Locking.{no_key}
+use Rattle.foster_tree.specs.Locking.{no_key, with_touches}
 use Rattle.foster_tree.proofs.LockLists.{has_in, there}
 use Rattle.tree_walks.specs.declared.ways.Leaf.{Leaf}
 use Rattle.tree_walks.specs.Ways.{IsLeafOn, IsOnWay}
 use Rattle.page_commit.specs.Live.{IsLive}
-use Rattle.page_commit.specs.Places.{ground, IsPointerIn, IsTreeKeyIn}
+use Rattle.page_commit.specs.Places.{ground, slot_of, IsPointerIn, IsTreeKeyIn}
 use Rattle.page_commit.specs.Turning.{OnlyWalked}
 use Rattle.page_commit.proofs.GrowLaws.{KnowsMore}
 use Rattle.page_commit.proofs.HeaderLaws.{tree_unkept}
 use Rattle.page_commit.proofs.KeepLaws.{in_pointers}
 use Rattle.page_commit.proofs.PointerLaws.{pointer_word}
 use Rattle.tree_calls.proofs.FoundHeader.{no_head_word}
+use Rattle.tree_calls.proofs.OnLaws.{header_over}
+use Rattle.tree_writes.specs.Causes.{names_page}
 use Rattle.tree_writes.proofs.MadeLaws.{place_on}
 use Rattle.tree_writes.proofs.Stopping.{Stopped}
 
@@ -95,10 +98,14 @@ module _ (sets : Sets) (slots : List ℕ) (k : Key) (x : Leaf) (v u w : View) (l
 
   -- ---- a record
 
+  -- locks of so many of the leaf's records were taken, and its own only where the sets name a word of the leaf's page
   pub record_stops : (i at expected seen : ℕ) → i < 16 → length on.leaf.keys ≡ 16
-      → IsLeafWordChanged x.slot (word_in tree_leaf i) at expected seen u w
+      → IsLeafWordChanged x.slot (word_in tree_leaf i) at expected seen u w → (count : ℕ) → count ≤ 16
+      → w.touched ≡ with_touches v.touched (seat_number v.role) on.leaf.keys count
+      → (has_key (take count on.leaf.keys) (get_or on.leaf.keys i no_key) ≡ false)
+      ⊎ (names_page (page_at v.layout.slots x.slot 0) sets ≡ true)
       → Stopped sets slots k (refusals.Conflict at expected seen) v w
-  record_stops i at expected seen few full c =
+  record_stops i at expected seen few full c count most touched own =
       let below : i < length on.leaf.keys = omega (arith, few, full) in
       let q : Key = get_or on.leaf.keys i no_key in
       let before : IsTreeKeyIn (ground v) q (page_at v.layout.slots x.slot (1 + (16 + 3 * i))) =
@@ -116,6 +123,9 @@ module _ (sets : Sets) (slots : List ℕ) (k : Key) (x : Leaf) (v u w : View) (l
       subst (λ (n : ℕ). IsTreeKeyIn (ground w) q n) (sym c.place.word.word) now in
       let word : at ≡ ((32 + w.layout.slots) + 64 * x.slot) + (1 + (16 + 3 * i)) = c.place.word.word in
       let slot : (at - (32 + w.layout.slots)) / 64 ≡ x.slot = omega (arith, word, few) in
+      let page : page_at w.layout.slots (slot_of w.layout.slots at) 0 ≡ page_at v.layout.slots x.slot 0 =
+      ap (λ (n : ℕ). page_at w.layout.slots n 0) slot
+      ∙ ap (λ (y : Layout). page_at y.slots x.slot 0) more.layout in
       let way : Way = record { slot = x.slot; span = x.span } in
       let spans : x.span ≡ place.way.span =
       trees.spans way place.way on_now.way place.has (sym (place.slot ∙ slot)) on_now.tree in
@@ -137,6 +147,17 @@ module _ (sets : Sets) (slots : List ℕ) (k : Key) (x : Leaf) (v u w : View) (l
             cause = c.cause;
           },
         )));
+        on = inl (inr (inr record {
+          key = q;
+          place = place;
+          over = subst (λ (s : Span). in_span s k ≡ true) spans on.leaf.on.over;
+          which = inr (
+            record { slot = x.slot; keys = on.leaf.keys },
+            only.known (record { slot = x.slot; keys = on.leaf.keys }) on.leaf.knows,
+            sym slot,
+            full,
+          );
+        }));
         told = λ met t. t.3 x.slot (word_in tree_leaf i) c.place.word;
         stops = inl (
           w,
@@ -151,6 +172,14 @@ module _ (sets : Sets) (slots : List ℕ) (k : Key) (x : Leaf) (v u w : View) (l
             place = place;
             over = subst (λ (s : Span). in_span s k ≡ true) spans on.leaf.on.over;
             cause = c.cause;
+            locks = on.leaf.keys;
+            count = count;
+            within = omega (arith, most, full);
+            touched = touched;
+            own = elim own [
+              | inl apart ↦ inl apart
+              | inr named ↦ inr (ap (λ (n : ℕ). names_page n sets) page ∙ named)
+            ];
           }),
         );
       }
@@ -192,8 +221,6 @@ module _ (sets : Sets) (slots : List ℕ) (k : Key) (x : Leaf) (v u w : View) (l
   head_stops at seen c =
       let at_is : at ≡ page_at v.layout.slots x.slot 0 =
       c.place.word.word ∙ ap (λ (y : Layout). page_at y.slots x.slot 0) more.layout in
-      let word : at ≡ ((32 + w.layout.slots) + 64 * x.slot) + 0 = c.place.word.word in
-      let slot : (at - (32 + w.layout.slots)) / 64 ≡ x.slot = omega (arith, word) in
       let known = head_known at c.saw.kept at_is (c.saw.kept_is ∙ words at) in
       record {
         due = inr (inr (inr (
@@ -213,6 +240,7 @@ module _ (sets : Sets) (slots : List ℕ) (k : Key) (x : Leaf) (v u w : View) (l
             cause = c.cause;
           },
         )));
+        on = inl (inr (inl (header_over k x.slot at x.span w on_now c.place.word.word)));
         told = λ met t. t.3 x.slot 0 c.place.word;
         stops = inl (
           w,
@@ -229,20 +257,9 @@ module _ (sets : Sets) (slots : List ℕ) (k : Key) (x : Leaf) (v u w : View) (l
                 | inl none ↦ inr (ap (λ (n : ℕ). word_at n sets.headers) at_is ∙ none, refl)
                 | inr some ↦ inl (ap (λ (n : ℕ). word_at n sets.headers) at_is ∙ some)
               ];
-              cause = elim c.cause [
-                | inl locked ↦ inl (omega (arith, locked))
-                | inr other ↦ inr other
-              ];
+              cause = c.cause;
             },
-            record {
-              way = record { slot = x.slot; span = x.span };
-              has = on_now.way;
-              slot = sym slot;
-              tree = subst (λ (i : ℕ). is_tree w.layout.decls i ≡ true)
-                  (sym (in_span-parts x.span k on_now.over).0) on_now.tree;
-              over = on_now.over;
-              word = c.place.word.word;
-            },
+            header_over k x.slot at x.span w on_now c.place.word.word,
           )),
         );
       }

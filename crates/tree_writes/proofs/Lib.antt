@@ -4,12 +4,13 @@ pub mod AlterCauses
 pub mod RemoveLaws
 pub mod MadeLaws
 pub mod Stopping
+pub mod TakenLaws
+pub mod NamedLaws
 pub mod MakeCauses
 pub mod AddedHere
 pub mod LeafStops
 pub mod SplitHere
 pub mod Falling
-pub mod WideLaws
 pub mod BroughtThen
 pub mod WriteTurns
 pub mod GrowCans

@@ -24,6 +24,7 @@ use Rattle.page_commit.specs.Live.{entry_places, AreMet, ArePointersKept, ArePoi
 use Rattle.page_commit.specs.Places.{ground, IsTreeKeyIn}
 use Rattle.page_commit.proofs.AnyPlaces.{tree_key_here}
 use Rattle.page_commit.proofs.BroughtLaws.{parts_grown}
+use Rattle.page_commit.proofs.RoomLaws.{room_same}
 use Rattle.page_commit.proofs.WalkedLaws.{can_walk, held_to, inside_only, kept_walked, live_grown, met_only, only_walked_same}
 use Rattle.tree_calls.proofs.TreeWalkLaws.{beside_trees, tree_knows_more, tree_points, tree_walked}
 use Rattle.tree_calls.proofs.WalkedLaws.{headers_walked, ways_on}
@@ -71,6 +72,7 @@ has_made sets new v w k live walk can kept words only paths led keeps reads poin
             (headers_walked sets v w live keeps (λ h has. words h.at));
         only = only_walked_same sets new v w live words pointers headers;
         inside = inside_only sets v w live more decls (beside_trees v w decls only);
+        room = room_same sets new reads headers live.room;
       };
       only = tree_walked v w walk;
       paths = ways_on k v w paths;

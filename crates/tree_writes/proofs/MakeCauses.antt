@@ -1,22 +1,21 @@
 -- Why pages could not be brought into memory for a write at a key of a tree.
-use Rattle.std.proofs.Common.{◌≡◌, inl, inr, ℕ, suc, ◌+◌, ◌-◌, ◌*◌, ◌/◌, ◌<◌, ◌≤◌, List, [], ◌∷◌, ◌++◌, length, true}
+use Rattle.std.proofs.Common.{◌≡◌, inl, inr, ℕ, suc, ◌+◌, ◌<◌, ◌≤◌, List, [], ◌∷◌, ◌++◌, length}
 use Rattle.std.proofs.Common.{refl, sym, ap, ◌∙◌, subst, arith, length-append, Option, Some}
 use Rattle.serial_model.specs.declared.key.Key.{Key}
-use Rattle.homes.specs.Laws.{in_span-parts}
 use Rattle.tx_sets.specs.declared.sets.Sets.{Sets}
 use Rattle.engine_pages.specs.declared.layout.Layout.{Layout}
 use Rattle.engine_pages.specs.declared.view.RefusalCause.{RefusalCause}
 use Rattle.engine_pages.specs.declared.view.RefusalCause.TheVariants as refusals
 use Rattle.engine_pages.specs.declared.view.SetName.TheVariants.{Reads, Writes, Pointers, Holds}
 use Rattle.engine_pages.specs.declared.view.View.{View}
-use Rattle.engine_pages.specs.Pages.{is_tree}
 use Rattle.engine_pages.specs.Slots.{looks}
 use Rattle.engine_pages.specs.Steps.{glance, glanced}
 use Rattle.page_pool.specs.Pool.{IsChanged, IsFull}
 use Rattle.tree_walks.specs.Ways.{IsHeaderChanged, IsPointerChanged}
-use Rattle.tree_making.specs.Making.{RefusesMake}
-use Rattle.page_commit.specs.Turning.{IsHeaderOver}
+use Rattle.tree_making.specs.Making.{NeedsPage, RefusesMake}
+use Rattle.page_commit.specs.Needs.{LacksPage}
 use Rattle.tree_calls.proofs.DueLaws.{header_due, header_told, pointer_due, pointer_place, TreeWalked}
+use Rattle.tree_calls.proofs.OnLaws.{header_over, held_on, pointer_over}
 use Rattle.tree_calls.proofs.TreeWalkLaws.{tree_walked}
 use Rattle.tree_writes.proofs.Stopping.{Stopped}
 
@@ -56,6 +55,7 @@ slot_stops sets slots k at expected seen v u w x since layout late looked last c
           other = c.other;
         },
       )));
+      on = inr (c.slot, here, c.place);
       told = λ met t. t.2 c.slot here c.place;
       stops = inr record {
         slot = c.slot;
@@ -88,6 +88,7 @@ full_stops sets slots k held v u w x since layout late looked last f = record {
     earlier = u.last;
     last = last ∙ f.seen.last;
   };
+  on = tt;
   told = λ met t. t;
   stops = record {
     words = f.words;
@@ -107,6 +108,7 @@ module _ (sets : Sets) (slots : List ℕ) (k : Key) (v w : View) (h : TreeWalked
       → Stopped sets slots k (refusals.Conflict at expected seen) v w
   pointer_stops at expected seen p = record {
     due = pointer_due sets slots k at expected seen v w h p;
+    on = inl (inl (pointer_over k at w p.on));
     told = λ met t. t.1 (p.on).span (pointer_place slots k w at h.can p.on);
     stops = inl (
       w,
@@ -125,35 +127,16 @@ module _ (sets : Sets) (slots : List ℕ) (k : Key) (v w : View) (h : TreeWalked
           ];
           cause = p.cause;
         },
-        record {
-          place = (p.on).place;
-          span = (p.on).span;
-          is = (p.on).is;
-          tree = subst (λ (i : ℕ). is_tree w.layout.decls i ≡ true) (sym (in_span-parts (p.on).span k (p.on).over).0)
-              (p.on).tree;
-          over = (p.on).over;
-        },
+        pointer_over k at w p.on,
       ),
     );
   }
-
-  header_over : (at expected seen : ℕ) → IsHeaderChanged k sets.headers at expected seen v w → IsHeaderOver w k at
-  header_over at expected seen c =
-      let place : at ≡ ((32 + w.layout.slots) + 64 * c.slot) + 0 = c.word in
-      let slot : (at - (32 + w.layout.slots)) / 64 ≡ c.slot = omega (arith, place) in record {
-        way = record { slot = c.slot; span = c.span };
-        has = (c.on).way;
-        slot = sym slot;
-        tree = subst (λ (i : ℕ). is_tree w.layout.decls i ≡ true) (sym (in_span-parts c.span k (c.on).over).0)
-            (c.on).tree;
-        over = (c.on).over;
-        word = c.word;
-      }
 
   pub header_stops : (at expected seen : ℕ) → IsHeaderChanged k sets.headers at expected seen v w
       → Stopped sets slots k (refusals.Conflict at expected seen) v w
   header_stops at expected seen c = record {
     due = header_due sets slots k at expected seen v w h c;
+    on = inl (inr (inl (header_over k c.slot at c.span w c.on c.word)));
     told = λ met t. header_told sets slots k at expected seen v w h c met t;
     stops = inl (
       w,
@@ -167,15 +150,15 @@ module _ (sets : Sets) (slots : List ℕ) (k : Key) (v w : View) (h : TreeWalked
           kept = (c.saw).kept;
           stands = (c.saw).stands;
           known = c.known;
-          cause = elim c.cause [
-            | inl locked ↦ inl (omega (arith, locked))
-            | inr other ↦ inr other
-          ];
+          cause = c.cause;
         },
-        header_over at expected seen c,
+        header_over k c.slot at c.span w c.on c.word,
       )),
     );
   }
+
+  lacks_page : NeedsPage k w → LacksPage k w
+  lacks_page p = record { at = p.at; word = p.word; on = p.on; saw = p.saw; bare = p.bare }
 
   pub make_stops : (why : RefusalCause) → RefusesMake k sets.pointers sets.headers slots why v w
       → Stopped sets slots k why v w
@@ -192,12 +175,16 @@ module _ (sets : Sets) (slots : List ℕ) (k : Key) (v w : View) (h : TreeWalked
   make_stops (refusals.Wide Pointers) r = absurd r.0
   make_stops (refusals.Wide Holds) (inl held, led) = record {
     due = tt;
+    on = held_on (record sets { holds = slots }) k w held;
     told = λ met t. t;
     stops = (
       inr (inl (
         refl,
         elim held [
-          | inl full ↦ inl full.0
+          | inl full ↦ inl (
+            full.0,
+            inl record { then = w; walked = tree_walked v w h.walk; met = λ r has. has; needs = full.1 },
+          )
           | inr long ↦ inr (record { then = w; walked = tree_walked v w h.walk; long = long })
         ],
       )),
@@ -206,7 +193,22 @@ module _ (sets : Sets) (slots : List ℕ) (k : Key) (v w : View) (h : TreeWalked
   }
   make_stops (refusals.Wide Holds) (inr page, led) = record {
     due = tt;
+    on = inl (page.0, inr (inl (lacks_page page.1)));
     told = λ met t. t;
-    stops = (inr (inl (refl, inl page.0)), ap (λ (z : View). z.touched) h.walk.is);
+    stops = (
+      inr (inl (
+        refl,
+        inl (
+          page.0,
+          inr record {
+            then = w;
+            walked = tree_walked v w h.walk;
+            met = λ r has. has;
+            makes = inl (lacks_page page.1);
+          },
+        ),
+      )),
+      ap (λ (z : View). z.touched) h.walk.is,
+    );
   }
   make_stops (refusals.NumberLimit clock) r = absurd r

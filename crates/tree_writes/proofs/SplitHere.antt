@@ -2,7 +2,7 @@
 use Rattle.std.proofs.Common.{◌≡◌, ◌≢◌, ◌⊎◌, inl, inr, ℕ, ◌+◌, ◌-◌, ◌*◌, ◌/◌, ◌%◌, ◌<◌, ◌≤◌, Bool, true, false, true≢false}
 use Rattle.std.proofs.Common.{List, [], ◌∷◌, length, get_or, refl, sym, ap, ◌∙◌, subst, arith, Some, None, eqb, eqb-true}
 use Rattle.std.proofs.Common.{cond, eq-eqb}
-use Rattle.std.specs.Prelude.{Contains, ◌||◌, nat_le, nat_lt}
+use Rattle.std.specs.Prelude.{take, Contains, ◌||◌, nat_le, nat_lt}
 use Rattle.std.specs.List.{find}
 use Rattle.std.proofs.lemmas.Bool.{and_from, and_parts}
 use Rattle.std.proofs.lemmas.Bool.Decides.{nat_tests}
@@ -30,10 +30,10 @@ use Rattle.engine_pages.specs.Layout.{page_at}
 use Rattle.engine_pages.specs.Pages.{decl_of, is_array, is_tree}
 use Rattle.engine_pages.specs.Pointers.{one_kind}
 use Rattle.engine_pages.specs.Steps.{seen_at}
-use Rattle.engine_pages.specs.Views.{IsActive}
+use Rattle.engine_pages.specs.Views.{seat_number, IsActive}
 use Rattle.engine_pages.specs.Words.{spot}
 use Rattle.array_pages.specs.Walks.{HoldsAre}
-use Rattle.foster_tree.specs.Locking.{no_key, IsMetIndex, KnowsFull}
+use Rattle.foster_tree.specs.Locking.{no_key, with_touches, IsMetIndex, KnowsFull}
 use Rattle.foster_tree.specs.Splitting.{HasSplitLeaf}
 use Rattle.tree_walks.specs.declared.ways.Leaf.{Leaf}
 use Rattle.tree_walks.specs.Walks.{CanWalk}
@@ -48,10 +48,13 @@ use Rattle.page_commit.proofs.BroughtLaws.{parts_grown}
 use Rattle.page_commit.proofs.GrowLaws.{entry_at, met_before, pointer_grown, stands_grown, KnowsMore}
 use Rattle.page_commit.proofs.HeaderLaws.{headers_aside}
 use Rattle.page_commit.proofs.PointerLaws.{has_pointer}
+use Rattle.page_commit.proofs.RoomLaws.{room_same}
 use Rattle.page_commit.proofs.WalkedLaws.{can_walk, kept_walked, live_grown, only_walked_same}
+use Rattle.tree_writes.specs.Causes.{names_page}
 use Rattle.tree_writes.specs.Writing.{HasBrought}
 use Rattle.tree_writes.proofs.LeafStops.{leaf_record}
 use Rattle.tree_writes.proofs.MadeLaws.{place_on}
+use Rattle.tree_writes.proofs.NamedLaws.{head_none, read_none}
 
 -- ---- words of one page
 
@@ -209,6 +212,15 @@ module _ (sets new : Sets) (v w : View) (k : Key) (x : Leaf) (at : ℕ) (live : 
     inside = p.are.inside;
   }
 
+  -- its locks were taken by all of its keys
+  taken_keys : p.taken.keys ≡ p.keys
+  taken_keys =
+      let front = p.are.known (record { slot = x.slot; keys = p.taken.keys }) p.taken.knows refl in
+      let one : length p.taken.keys ≡ 16 = p.taken.full in
+      let two : length p.keys ≡ 16 = p.full in
+      let long : length p.taken.keys ≡ length p.keys = omega (arith, one, two) in
+      sym front ∙ (ap (λ (n : ℕ). take n p.keys) long ∙ front_refl p.keys)
+
   pub old_moved : (y : Moved) × Contains w.moved y × (y.slot ≡ x.slot)
   old_moved = (
     record { slot = x.slot; minor = p.lower.slot; major = p.upper.slot; separator = p.separator },
@@ -231,10 +243,15 @@ module _ (sets new : Sets) (v w : View) (k : Key) (x : Leaf) (at : ℕ) (live : 
 
   -- ---- where the sets name no word of the leaf
 
-  module _ (no_head : has_word (page_at v.layout.slots x.slot 0) sets.headers ≡ false)
-      (no_read : read_in (page_at v.layout.slots x.slot 0) sets.reads ≡ None) (reads : new.reads ≡ sets.reads)
+  module _ (unnamed : names_page (page_at v.layout.slots x.slot 0) sets ≡ false) (reads : new.reads ≡ sets.reads)
       (pointers : new.pointers ≡ sets.pointers) (headers : new.headers ≡ sets.headers)
       (writes : new.writes ≡ sets.writes) where
+    no_head : has_word (page_at v.layout.slots x.slot 0) sets.headers ≡ false
+    no_head = head_none (page_at v.layout.slots x.slot 0) sets unnamed
+
+    no_read : read_in (page_at v.layout.slots x.slot 0) sets.reads ≡ None
+    no_read = read_none (page_at v.layout.slots x.slot 0) sets unnamed
+
     -- of a word of another page the same is known
     outside : (a : ℕ) → ((i : ℕ) → i < 64 → a ≢ page_at v.layout.slots x.slot i)
         → seen_at w.reads a ≡ seen_at v.reads a
@@ -404,6 +421,7 @@ module _ (sets new : Sets) (v w : View) (k : Key) (x : Leaf) (at : ℕ) (live : 
       headers = subst (λ (l : List Seen). AreHeaders l w) (sym headers) headers_split;
       only = only_walked_same sets new v w live p.worked.words pointers headers;
       inside = inside_split;
+      room = room_same sets new reads headers live.room;
     }
 
     pub split_brought : HasBrought k at sets new v w
@@ -436,5 +454,19 @@ module _ (sets new : Sets) (v w : View) (k : Key) (x : Leaf) (at : ℕ) (live : 
       headers = λ h has. has_pointer sets.headers h (subst (λ (l : List Seen). Contains l h) headers has);
       heads = ap (λ (l : List Seen). length l) headers;
       writes = writes;
+      locks = inr record {
+        slot = x.slot;
+        span = x.span;
+        way = old_on.way;
+        over = old_on.over;
+        keys = p.keys;
+        knows = old_known;
+        full = p.full;
+        once = p.are.once;
+        inside = p.are.inside;
+        moved = old_moved;
+        touched = p.taken.is ∙ ap (λ (l : List Key). with_touches v.touched (seat_number v.role) l 16) taken_keys;
+        unnamed = ap (λ (y : Layout). names_page (page_at y.slots x.slot 0) sets) layout_same ∙ unnamed;
+      };
       place = split_place;
     }

@@ -18,20 +18,22 @@ use Rattle.engine_pages.specs.declared.view.View.{View}
 use Rattle.page_records.specs.Ends.{IsDue}
 use Rattle.page_commit.specs.Calls.{IsFullOf, IsSlotConflict}
 use Rattle.page_commit.specs.Live.{HasHolds, IsLive}
-use Rattle.page_commit.specs.Refusing.{HasRefused, IsPointerConflict, TellsOnly}
+use Rattle.page_commit.specs.Needs.{IsRefusedOn}
+use Rattle.page_commit.specs.Refusing.{HasRefused, IsHeaderConflict, IsPointerConflict, TellsOnly}
 use Rattle.page_commit.specs.Steps.{HasGivenUp, TellsOf}
 use Rattle.page_commit.specs.Turning.{OnlyWalked}
 use Rattle.page_commit.proofs.CommitLaws.{kept_others, last_same, touched_same}
 use Rattle.page_commit.proofs.RefuseLaws.{walked_refused}
 use Rattle.tree_calls.specs.Causes.{WasLong}
-use Rattle.tree_writes.specs.Causes.{IsGrowConflict, IsLeafConflict, KeepsHeader, RefusesTreeWrite, TouchesTrees}
+use Rattle.tree_writes.specs.Causes.{IsGrowConflict, IsLeafConflict, KeepsHeader, LocksLeaf, NeedsMore, RefusesTreeWrite}
+use Rattle.tree_writes.specs.Causes.{TouchesTrees}
 
 -- ---- before the end
 
 -- which set was full
-abbrev pub IsWide : Sets → List ℕ → Key → SetName → View → Type 0
-IsWide sets slots k set v = ((set ≡ Writes) × (length sets.writes ≡ 16))
-    ⊎ (((set ≡ Holds) × ((length slots ≡ 128) ⊎ WasLong k v))
+abbrev pub IsWide : Sets → List ℕ → Key → SetName → View → View → Type 0
+IsWide sets slots k set v w = ((set ≡ Writes) × (length sets.writes ≡ 16))
+    ⊎ (((set ≡ Holds) × (((length slots ≡ 128) × NeedsMore k slots v w) ⊎ WasLong k v))
     ⊎ ((set ≡ Reads) × (256 ≤ length sets.reads + length sets.headers) × KeepsHeader sets k v))
 
 -- why the write stops
@@ -39,12 +41,13 @@ abbrev pub Stops : Sets → List ℕ → Key → RefusalCause → View → View 
 Stops sets slots k (refusals.Conflict at expected seen) v w =
     IsGrowConflict sets k at expected seen v w ⊎ IsSlotConflict at expected seen v w
 Stops sets slots k (refusals.Full held) v w = IsFullOf held v w
-Stops sets slots k (refusals.Wide set) v w = IsWide sets slots k set v × (w.touched ≡ v.touched)
+Stops sets slots k (refusals.Wide set) v w = IsWide sets slots k set v w × (w.touched ≡ v.touched)
 Stops sets slots k (refusals.NumberLimit clock) v w = ⊥
 
--- The cause is due, and no key is told of it.
+-- The cause is due, and is one on the way to the key; no key is told of it.
 pub record Stopped (sets : Sets) (slots : List ℕ) (k : Key) (why : RefusalCause) (v w : View) : Type 0 where
   pub due : IsDue (Some why) w
+  pub on : IsRefusedOn why k (record sets { holds = slots }) w
   pub told : (met : List Touch) → TellsOf why met w → met ≡ []
   pub stops : Stops sets slots k why v w
 
@@ -74,6 +77,20 @@ module _ (why : RefusalCause) (sets : Sets) (slots : List ℕ) (k : Key) (v w x 
   pub touched_end : TouchesTrees v x
   touched_end t has = only.touches t (subst (λ (l : List Touch). Contains l t) (touched_same [] why w x g) has)
 
+  pub locks_end : LocksLeaf k v w → LocksLeaf k v x
+  locks_end (inl none) = inl (touched_same [] why w x g ∙ none)
+  locks_end (inr h) = inr record {
+    span = h.span;
+    over = h.over;
+    keys = h.keys;
+    most = h.most;
+    once = h.once;
+    inside = h.inside;
+    count = h.count;
+    within = h.within;
+    touched = touched_same [] why w x g ∙ h.touched;
+  }
+
   looked_end : x.looked ≡ w.looked
   looked_end = ap (λ (y : View). y.looked) g.left.is ∙ ap (λ (y : View). y.looked) g.forgot
 
@@ -90,8 +107,21 @@ module _ (why : RefusalCause) (sets : Sets) (slots : List ℕ) (k : Key) (v w x 
     cause = c.cause;
   }
 
-  leaf_end : (at expected seen : ℕ) (u : View) → IsLeafConflict k at expected seen u v w
-      → IsLeafConflict k at expected seen u v x
+  header_end : (headers : List Seen) (at expected seen : ℕ) → IsHeaderConflict headers at expected seen v w
+      → IsHeaderConflict headers at expected seen v x
+  header_end headers at expected seen c = record {
+    step = c.step;
+    last = last_same [] why w x g ∙ c.last;
+    since = c.since;
+    was = c.was;
+    kept = c.kept;
+    stands = kept_others [] why w x g (record { word = at; seen = seen; was = c.was; kept = c.kept }) c.stands refl;
+    known = c.known;
+    cause = c.cause;
+  }
+
+  leaf_end : (at expected seen : ℕ) (u : View) → IsLeafConflict sets k at expected seen u v w
+      → IsLeafConflict sets k at expected seen u v x
   leaf_end at expected seen u c = record {
     step = c.step;
     last = last_same [] why w x g ∙ c.last;
@@ -101,6 +131,11 @@ module _ (why : RefusalCause) (sets : Sets) (slots : List ℕ) (k : Key) (v w x 
     place = c.place;
     over = c.over;
     cause = c.cause;
+    locks = c.locks;
+    count = c.count;
+    within = c.within;
+    touched = touched_same [] why w x g ∙ c.touched;
+    own = c.own;
   }
 
   grow_end : (at expected seen : ℕ) → IsGrowConflict sets k at expected seen v w
@@ -111,7 +146,7 @@ module _ (why : RefusalCause) (sets : Sets) (slots : List ℕ) (k : Key) (v w x 
     elim c.2 [
       | inl p ↦ inl (pointer_end sets.pointers at expected seen p.0, p.1)
       | inr more ↦ inr (elim more [
-        | inl h ↦ inl (pointer_end sets.headers at expected seen h.0, h.1)
+        | inl h ↦ inl (header_end sets.headers at expected seen h.0, h.1)
         | inr l ↦ inr (leaf_end at expected seen c.0 l)
       ])
     ],
@@ -144,6 +179,22 @@ module _ (why : RefusalCause) (sets : Sets) (slots : List ℕ) (k : Key) (v w x 
     looked = looked_end ∙ c.looked;
   }
 
+  more_end : NeedsMore k slots v w → NeedsMore k slots v x
+  more_end n = elim n [
+    | inl there ↦ inl record {
+      then = there.then;
+      walked = there.walked;
+      met = λ r has. kept_others [] why w x g r (there.met r has) refl;
+      needs = there.needs;
+    }
+    | inr made ↦ inr record {
+      then = made.then;
+      walked = made.walked;
+      met = λ r has. kept_others [] why w x g r (made.met r has) refl;
+      makes = made.makes;
+    }
+  ]
+
   -- the transaction is over
   pub refused_end : IsLive sets v → HasHolds slots w → WaysAgree w.ways → TreesAgree w → HasRefused why v x
   refused_end live holds agree trees =
@@ -166,8 +217,8 @@ wide_end sets new slots k v w x only s g full none =
 -- the whole cause
 pub write_end : (why : RefusalCause) (sets new : Sets) (slots : List ℕ) (k : Key) (v w x : View) → OnlyWalked v w
     → Stopped sets slots k why v w → HasGivenUp [] why w x → new.holds ≡ slots → has_write k sets.writes ≡ false
-    → length sets.writes < 16 → RefusesTreeWrite sets new k why v x
-write_end (refusals.Conflict at expected seen) sets new slots k v w x only s g same none room =
+    → length sets.writes < 16 → LocksLeaf k v w → RefusesTreeWrite sets new k why v x
+write_end (refusals.Conflict at expected seen) sets new slots k v w x only s g same none room locks =
     let why : RefusalCause = refusals.Conflict at expected seen in (
       none,
       room,
@@ -178,8 +229,9 @@ write_end (refusals.Conflict at expected seen) sets new slots k v w x only s g s
       ],
       blamed_end why sets slots k v w x only s g,
       touched_end why sets slots k v w x only s g,
+      locks_end why sets slots k v w x only s g locks,
     )
-write_end (refusals.Full held) sets new slots k v w x only s g same none room =
+write_end (refusals.Full held) sets new slots k v w x only s g same none room locks =
     let why : RefusalCause = refusals.Full held in (
       none,
       room,
@@ -187,8 +239,9 @@ write_end (refusals.Full held) sets new slots k v w x only s g same none room =
       full_end why sets slots k v w x only s g held s.stops,
       blamed_end why sets slots k v w x only s g,
       touched_end why sets slots k v w x only s g,
+      locks_end why sets slots k v w x only s g locks,
     )
-write_end (refusals.Wide set) sets new slots k v w x only s g same none room =
+write_end (refusals.Wide set) sets new slots k v w x only s g same none room locks =
     let why : RefusalCause = refusals.Wide set in (
       none,
       draws_end why sets slots k v w x only s g,
@@ -200,7 +253,11 @@ write_end (refusals.Wide set) sets new slots k v w x only s g same none room =
             | inl held ↦ inl (
               held.0,
               elim held.1 [
-                | inl full ↦ inl (subst (λ (l : List ℕ). length l ≡ 128) (sym same) full)
+                | inl full ↦ inl (
+                  subst (λ (l : List ℕ). length l ≡ 128) (sym same) full.0,
+                  subst (λ (l : List ℕ). NeedsMore k l v x) (sym same)
+                      (more_end why sets slots k v w x only s g full.1),
+                )
                 | inr long ↦ inr long
               ],
             )
@@ -211,9 +268,14 @@ write_end (refusals.Wide set) sets new slots k v w x only s g same none room =
       blamed_end why sets slots k v w x only s g,
       touched_same [] why w x g ∙ s.stops.1,
     )
-write_end (refusals.NumberLimit clock) sets new slots k v w x only s g same none room = absurd s.stops
+write_end (refusals.NumberLimit clock) sets new slots k v w x only s g same none room locks = absurd s.stops
 
 -- the write set is full
 pub writes_full : (sets : Sets) (slots : List ℕ) (k : Key) (v : View) → length sets.writes ≡ 16
-    → Stopped sets slots k (refusals.Wide Writes) v v
-writes_full sets slots k v full = record { due = tt; told = λ met tells. tells; stops = (inl (refl, full), refl) }
+    → has_write k sets.writes ≡ false → Stopped sets slots k (refusals.Wide Writes) v v
+writes_full sets slots k v full none = record {
+  due = tt;
+  on = (full, none);
+  told = λ met tells. tells;
+  stops = (inl (refl, full), refl);
+}

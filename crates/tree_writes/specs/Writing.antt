@@ -1,14 +1,21 @@
 -- What the parts of a write at a key of a tree leave of a transaction.
-use Rattle.std.specs.Prelude.{◌≡◌, ◌⊎◌, ℕ, ◌+◌, ◌≤◌, true, false, [], ◌∷◌, ◌++◌, length, Contains, IfOk, IfErr, Result}
+use Rattle.std.specs.Prelude.{◌≡◌, ◌⊎◌, ℕ, ◌+◌, ◌≤◌, true, false, List, [], ◌∷◌, ◌++◌, length, Contains, IfOk, IfErr, Result}
 use Rattle.serial_model.specs.declared.key.Key.{Key}
+use Rattle.homes.specs.declared.places.Span.{Span}
+use Rattle.homes.specs.Homes.{has_key, in_span}
+use Rattle.drop_core.specs.Event.{each_once}
 use Rattle.tx_sets.specs.declared.reads.ReadEntry.{ReadEntry}
 use Rattle.tx_sets.specs.declared.seen.Seen.{Seen}
 use Rattle.tx_sets.specs.declared.sets.Sets.{Sets}
 use Rattle.tx_sets.specs.Entries.{has_word, renewed}
+use Rattle.engine_pages.specs.declared.view.Moved.{Moved}
 use Rattle.engine_pages.specs.declared.view.RefusalCause.{RefusalCause}
 use Rattle.engine_pages.specs.declared.view.View.{View}
+use Rattle.engine_pages.specs.Layout.{page_at}
+use Rattle.engine_pages.specs.Views.{seat_number}
 use Rattle.array_pages.specs.Walks.{HoldsAre}
 use Rattle.tree_heads.specs.Heads.{absent_word}
+use Rattle.foster_tree.specs.Locking.{with_touches}
 use Rattle.foster_tree.specs.Splitting.{split_steps, HasSplitLeaf}
 use Rattle.tree_walks.specs.declared.ways.Leaf.{Leaf}
 use Rattle.tree_walks.specs.Ways.{IsLeafOn}
@@ -21,7 +28,7 @@ use Rattle.page_commit.specs.Places.{ground, IsTreeKeyIn}
 use Rattle.page_commit.specs.Refusing.{HasRefused}
 use Rattle.page_commit.specs.Turning.{GoesOn, HoldsWaysTo, OnlyWalked, PartsStay}
 use Rattle.tree_calls.specs.Keeping.{OnlyWaysOn}
-use Rattle.tree_writes.specs.Causes.{RefusesTreeWrite}
+use Rattle.tree_writes.specs.Causes.{names_page, RefusesTreeWrite}
 
 -- Pages on the way to the key may have been brought into memory; nothing was read, met, written, kept or locked.
 pub record HasMade (k : Key) (sets new : Sets) (v w : View) : Type 0 where
@@ -41,8 +48,29 @@ pub record HasMadeAt (k : Key) (made : Made) (sets new : Sets) (v w : View) : Ty
   pub makes : HasMade k sets new v w
   pub at : IsMade k sets.headers made w
 
+-- A leaf over the key was split, and each of its records was locked once, in their order. The sets name no word of its
+-- page.
+pub record HasSplitUnnamed (k : Key) (sets : Sets) (v w : View) : Type 0 where
+  pub slot : ℕ
+  pub span : Span
+  pub way : Contains w.ways (record { slot = slot; span = span })
+  pub over : in_span span k ≡ true
+  pub keys : List Key
+  pub knows : Contains w.known (record { slot = slot; keys = keys })
+  pub full : length keys ≡ tree_leaf.room
+  pub once : each_once keys ≡ true
+  pub inside : (q : Key) → has_key keys q ≡ true → in_span span q ≡ true
+  pub moved : (x : Moved) × Contains w.moved x × (x.slot ≡ slot)
+  pub touched : w.touched ≡ with_touches v.touched (seat_number v.role) keys tree_leaf.room
+  pub unnamed : names_page (page_at w.layout.slots slot 0) sets ≡ false
+
+-- no lock of a record was taken, but for such a split
+abbrev pub LocksUnnamed : Key → Sets → View → View → Type 0
+LocksUnnamed k sets v w = (w.touched ≡ v.touched) ⊎ HasSplitUnnamed k sets v w
+
 -- The record of the key stands in a leaf that the pass holds. It may be one that the transaction added, which is absent:
 -- where it keeps the header of the leaf, it goes on with one more record, and the new one is among those that were read.
+-- Where a full leaf was split for it, the sets name no word of that page.
 pub record HasBrought (k : Key) (at : ℕ) (sets new : Sets) (v w : View) : Type 0 where
   pub live : IsLive new w
   pub only : OnlyWalked v w
@@ -56,6 +84,7 @@ pub record HasBrought (k : Key) (at : ℕ) (sets new : Sets) (v w : View) : Type
   pub headers : (h : Seen) → Contains new.headers h → has_word h.at sets.headers ≡ true
   pub heads : length new.headers ≡ length sets.headers
   pub writes : new.writes ≡ sets.writes
+  pub locks : LocksUnnamed k sets v w
   pub place : IsTreeKeyIn (ground w) k at
 
 -- ---- a leaf that lacks the key

@@ -1,7 +1,7 @@
 // The record of a key of a tree that a transaction writes: a leaf that lacks the key gets it.
-ghost use Rattle.std.specs.Prelude.{◌≡◌, ◌≢◌, ◌+◌, ◌%◌, ◌<◌, ◌≤◌, ◌^◌, true, false, length, Err, IfOk, IfErr, None, OnOk};
+ghost use Rattle.std.specs.Prelude.{◌≡◌, ◌≢◌, ◌+◌, ◌%◌, ◌<◌, ◌≤◌, ◌^◌, true, false, length, Err, IfOk, IfErr, OnOk};
 ghost use Rattle.tx_sets.specs.declared.sets.Sets.{Sets as TheSets};
-ghost use Rattle.tx_sets.specs.Entries.{has_read, has_word, has_write, read_in};
+ghost use Rattle.tx_sets.specs.Entries.{has_read, has_word, has_write};
 ghost use Rattle.tx_sets.specs.Gathered.{has_read_room};
 ghost use Rattle.engine_pages.specs.Layout.{page_at};
 ghost use Rattle.engine_pages.specs.Pages.{is_tree};
@@ -11,14 +11,14 @@ ghost use Rattle.page_commit.specs.Live.{IsLive};
 ghost use Rattle.page_commit.specs.Refusing.{HasRefused};
 ghost use Rattle.tree_making.specs.Making.{IsMade};
 ghost use Rattle.tree_making.specs.declared.making.Made.TheVariants.{Lacking};
-ghost use Rattle.tree_writes.specs.Causes.{write_most, RefusesTreeWrite};
+ghost use Rattle.tree_writes.specs.Causes.{names_page, write_most, RefusesTreeWrite};
 ghost use Rattle.tree_writes.specs.Writing.{GrowsSo, HasBrought, HasSplitFor, KeepsAdded};
 
 use crate::making::bring;
 use array_pages::{conflict, word_at};
 use engine_pages::{Engine, Pass, RefusalCause, SetName};
 use foster_tree::{add_key, moved_record, split};
-use page_commit::refuse;
+use page_commit::refuse_on;
 use serial_model::Key;
 use tree_heads::{HEADER_LOCK, load_header};
 use tree_making::Made;
@@ -32,7 +32,8 @@ const ABSENT: u64 = 1 << 61;
 const FULL: u64 = 16;
 
 /// Where the record of a key stands that the transaction doesn't write yet: where it has read the key, that record; else
-/// the one in the key's leaf, which gets the key, absent, where it lacks it. The write set has room for it then.
+/// the one in the key's leaf, which gets the key, absent, where it lacks it. The write set has room for it then. A full
+/// leaf is split for it, and the transaction ends where its sets name a word of that leaf.
 pub(crate) fn place_seen(
     engine: &Engine,
     pass: &mut Pass,
@@ -61,7 +62,7 @@ pub(crate) fn place_seen(
         let why = RefusalCause::Wide {
             set: SetName::Writes,
         };
-        return Err(refuse(engine, pass, sets, why));
+        return Err(refuse_on(engine, pass, sets, key, why));
     }
     Ok(entry.at)
 }
@@ -117,13 +118,13 @@ fn grow(
     if locked {
         let seen = load_header(engine, pass, leaf.slot, leaf.span, at);
         let why = conflict(at, leaf.header, seen);
-        return Err(refuse(engine, pass, sets, why));
+        return Err(refuse_on(engine, pass, sets, key, why));
     }
     if lacks_room(sets, at) {
         let why = RefusalCause::Wide {
             set: SetName::Reads,
         };
-        return Err(refuse(engine, pass, sets, why));
+        return Err(refuse_on(engine, pass, sets, key, why));
     }
     let full = leaf.header % 256 == FULL;
     if full {
@@ -171,7 +172,7 @@ fn add_to(
             keep_added(sets, key, at, head, leaf.header + 1);
             Ok(at)
         }
-        Err(why) => Err(refuse(engine, pass, sets, why)),
+        Err(why) => Err(refuse_on(engine, pass, sets, key, why)),
     }
 }
 
@@ -223,7 +224,7 @@ fn split_for(
         &mut sets.holds,
     ) {
         Ok(at) => end_split(engine, pass, sets, key, leaf, head, at),
-        Err(why) => Err(refuse(engine, pass, sets, why)),
+        Err(why) => Err(refuse_on(engine, pass, sets, key, why)),
     }
 }
 
@@ -249,22 +250,21 @@ fn end_split(
 {
     if names_page(sets, head) {
         let why = moved_record(engine, pass, leaf.slot, leaf.span);
-        return Err(refuse(engine, pass, sets, why));
+        return Err(refuse_on(engine, pass, sets, key, why));
     }
-    let _ = key;
     Ok(at)
 }
 
-// Whether the sets name a word of the page that begins here.
+// Whether the sets name a word of the page that begins here: its header, or the word of a record that was read or is
+// written.
 fn names_page(sets: &Sets, first: u32) -> bool
-    ensures clear { result ≡ false
-        → (has_word first sets.now.headers ≡ false) × (read_in first sets.now.reads ≡ None) }
+    ensures { result ≡ names_page first sets.now }
 {
     if sets.headers.contains(first) {
         return true;
     }
-    let None = sets.reads.find_in(first) else {
+    if sets.reads.find_in(first).is_some() {
         return true;
-    };
+    }
     sets.writes.find_in(first).is_some()
 }

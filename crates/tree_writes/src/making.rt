@@ -10,7 +10,7 @@ ghost use Rattle.tree_writes.specs.Causes.{bring_most, RefusesTreeWrite};
 ghost use Rattle.tree_writes.specs.Writing.{HasMadeAt};
 
 use engine_pages::{Engine, Pass, RefusalCause, SetName};
-use page_commit::refuse;
+use page_commit::refuse_on;
 use serial_model::Key;
 use tree_making::{Made, make_volatile};
 use tx_sets::Sets;
@@ -43,7 +43,7 @@ pub(crate) fn bring(
         let why = RefusalCause::Wide {
             set: SetName::Writes,
         };
-        return Err(refuse(engine, pass, sets, why));
+        return Err(refuse_on(engine, pass, sets, key, why));
     }
     match make_volatile(
         engine,
@@ -54,6 +54,6 @@ pub(crate) fn bring(
         &sets.headers,
     ) {
         Ok(made) => Ok(made),
-        Err(why) => Err(refuse(engine, pass, sets, why)),
+        Err(why) => Err(refuse_on(engine, pass, sets, key, why)),
     }
 }

@@ -10,6 +10,7 @@ ghost use Rattle.page_commit.specs.Live.{IsLive};
 ghost use Rattle.page_commit.specs.Refusing.{HasRefused};
 ghost use Rattle.page_commit.specs.Turning.{HasDone};
 ghost use Rattle.tree_writes.specs.Causes.{alter_most, write_most, RefusesTreeAlter, RefusesTreeWrite};
+ghost use Rattle.tree_writes.specs.Writing.{LocksUnnamed};
 
 use crate::growing::place_seen;
 use crate::making::bring;
@@ -34,6 +35,7 @@ pub fn write(
     ensures of { IsPassOf engine.now pass.new }
     ensures done { OnOk result (
         HasDone (ops.Write key value) None sets.old sets.new (view pass.old) (view pass.new)) }
+    ensures locks { OnOk result (LocksUnnamed key sets.old (view pass.old) (view pass.new)) }
     ensures cause { IfErr result (λ why.
         RefusesTreeWrite sets.old sets.new key why (view pass.old) (view pass.new)) }
     ensures refused { IfErr result (λ why. HasRefused why (view pass.old) (view pass.new)) }
@@ -68,6 +70,7 @@ pub fn add(
     ensures of { IsPassOf engine.now pass.new }
     ensures turns { IfOk result (λ verdict.
         Alters (ops.Add key amount) verdict sets.old sets.new (view pass.old) (view pass.new)) }
+    ensures locks { OnOk result (LocksUnnamed key sets.old (view pass.old) (view pass.new)) }
     ensures cause { IfErr result (λ why.
         RefusesTreeAlter sets.old sets.new key why (view pass.old) (view pass.new)) }
     ensures refused { IfErr result (λ why. HasRefused why (view pass.old) (view pass.new)) }
@@ -92,6 +95,7 @@ pub fn take(
     ensures of { IsPassOf engine.now pass.new }
     ensures turns { IfOk result (λ verdict.
         Alters (ops.Take key amount) verdict sets.old sets.new (view pass.old) (view pass.new)) }
+    ensures locks { OnOk result (LocksUnnamed key sets.old (view pass.old) (view pass.new)) }
     ensures cause { IfErr result (λ why.
         RefusesTreeAlter sets.old sets.new key why (view pass.old) (view pass.new)) }
     ensures refused { IfErr result (λ why. HasRefused why (view pass.old) (view pass.new)) }
@@ -115,6 +119,7 @@ fn alter(
     ensures of { IsPassOf engine.now pass.new }
     ensures turns { IfOk result (λ verdict.
         Alters (op_of key by) verdict sets.old sets.new (view pass.old) (view pass.new)) }
+    ensures locks { OnOk result (LocksUnnamed key sets.old (view pass.old) (view pass.new)) }
     ensures cause { IfErr result (λ why.
         RefusesTreeAlter sets.old sets.new key why (view pass.old) (view pass.new)) }
     ensures refused { IfErr result (λ why. HasRefused why (view pass.old) (view pass.new)) }
@@ -147,6 +152,7 @@ fn alter_record(
     ensures of { IsPassOf engine.now pass.new }
     ensures turns { IfOk result (λ verdict.
         Alters (op_of key by) verdict sets.old sets.new (view pass.old) (view pass.new)) }
+    ensures locks { OnOk result (LocksUnnamed key sets.old (view pass.old) (view pass.new)) }
     ensures cause { IfErr result (λ why.
         RefusesTreeAlter sets.old sets.new key why (view pass.old) (view pass.new)) }
     ensures refused { IfErr result (λ why. HasRefused why (view pass.old) (view pass.new)) }

@@ -222,7 +222,7 @@ word_conflict op sets k at expected seen v w of are tree (u, only, met) blamed =
       (word_before v u at only (met_word u k at (decls_then v u only are) pointer.1)) pointer.0.cause blamed
   | inr other ↦ elim other [
     | inl header ↦ page_conflict op k at expected seen v w of tree
-        (word_before v u at only (header_word u k at header.1)) header.0.cause blamed
+        (word_before v u at only (header_word u k at header.1)) (locked_high seen expected header.0.cause) blamed
     | inr here ↦ page_conflict op k at expected seen v w of tree
         (word_before v u at only (record_word u k at here.1)) (locked_high seen expected here.0.cause) blamed
   ]
@@ -236,7 +236,7 @@ grow_conflict op sets k at expected seen v w of are tree (u, only, met) blamed =
       (word_before v u at only (met_word u k at (decls_then v u only are) pointer.1)) pointer.0.cause blamed
   | inr other ↦ elim other [
     | inl header ↦ page_conflict op k at expected seen v w of tree
-        (word_before v u at only (header_word u k at header.1)) header.0.cause blamed
+        (word_before v u at only (header_word u k at header.1)) (locked_high seen expected header.0.cause) blamed
     | inr here ↦ page_conflict op k at expected seen v w of tree
         (word_before v u at only (record_word u here.key at here.place)) (locked_high seen expected here.cause) blamed
   ]

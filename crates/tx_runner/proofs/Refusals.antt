@@ -269,7 +269,8 @@ commit_refused ops why sets keep u v w left s keys live r c = by_why why r c
             (λ none. inr (pointer_way at pointer.0)) (pointer.2 ∙ sym (append-nil v.blamed)) (touches c.1)
         | inr rest ↦ elim rest [
           | inl header ↦
-              clash_try ops at expected seen None u v w left s r header.1.cause (λ k is. absurd cc) tt
+              clash_try ops at expected seen None u v w left s r (locked_high seen expected header.1.cause)
+              (λ k is. absurd cc) tt
               (λ none. inr (keys.headers at header.0)) (header.2 ∙ sym (append-nil v.blamed)) (touches c.1)
           | inr tree ↦
               clash_try ops at expected seen None u v w left s r (locked_high seen expected tree.2.cause)

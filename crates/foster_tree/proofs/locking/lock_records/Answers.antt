@@ -10,9 +10,10 @@ use Rattle.foster_tree.proofs.locking.lock_records.Goals as goal
 pub returns-in-Err-clause-missed : goal.returns-in-Err-clause-missed
 returns-in-Err-clause-missed c =
     let so = c.loop-index.invariant in
-    not_locked c.args.slot c.loop-index.index c.requires.can.0 c.loop-index.entries c.in-Err.why (view c.args.pass.now)
-    (view c.loop-index.pass) (view c.lock_one.new.pass) (view c.open_records.new.pass) c.loop-index-test.true
-    (so.locked c.requires.can.0 c.requires.can.1) c.in-Err.ensures.missed c.open_records.ensures.opened
+    not_locked c.args.slot c.loop-index.index c.args.span c.requires.can.0 c.loop-index.entries c.in-Err.why
+    (view c.args.pass.now) (view c.loop-index.pass) (view c.lock_one.new.pass) (view c.open_records.new.pass)
+    c.requires.can.1 c.loop-index-test.true (so.locked c.requires.can.0 c.requires.can.1) c.in-Err.ensures.missed
+    c.open_records.ensures.opened
 
 pub loop-index-preserved : goal.loop-index-preserved
 loop-index-preserved c =

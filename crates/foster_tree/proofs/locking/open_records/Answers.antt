@@ -7,7 +7,7 @@ use Rattle.foster_tree.specs.Filling.{no_entry}
 use Rattle.foster_tree.specs.Locking.{AreLocked}
 use Rattle.foster_tree.proofs.LockLaws.{worked_then}
 use Rattle.foster_tree.proofs.OpenMany.{can_open_last, last_one, layout_one, locked_leaf, opened_all, opened_less, steps_one}
-use Rattle.foster_tree.proofs.OpenMany.{still_one}
+use Rattle.foster_tree.proofs.OpenMany.{still_one, touched_one}
 use Rattle.foster_tree.proofs.locking.open_records.Goals as goal
 
 pub open_one-requires-clause-can : goal.open_one-requires-clause-can
@@ -50,6 +50,7 @@ loop-left-preserved c =
       of = c.open_one.ensures.of;
       within = omega (arith, within);
       worked = worked_then c.args.slot v u w so.layout so.worked one.worked;
+      touched = touched_one c.args.slot (c.loop-left.left - 1) key e u w one ∙ so.touched;
       layout = layout_one c.args.slot (c.loop-left.left - 1) key e u w one ∙ so.layout;
       steps = omega (arith, step, steps, next);
       last = last_one c.args.slot (c.loop-left.left - 1) key e u w one ∙ so.last;
@@ -74,6 +75,7 @@ returns-clause-opened c =
     let steps = so.steps in
     record {
       worked = so.worked;
+      touched = so.touched;
       steps = omega (arith, steps, zero_left);
       last = so.last;
       still = so.still;

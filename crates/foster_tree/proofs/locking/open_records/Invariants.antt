@@ -19,6 +19,7 @@ pub record HasOpenedDown
   pub of : IsPassOf engine new
   pub within : left ≤ count
   pub worked : WorkedIn slot (view old) (view new)
+  pub touched : (view new).touched ≡ (view old).touched
   pub layout : (view new).layout ≡ (view old).layout
   pub steps : (view new).steps + left ≡ (view old).steps + count
   pub last : (view new).last ≡ (view old).last

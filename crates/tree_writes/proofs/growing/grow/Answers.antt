@@ -6,10 +6,9 @@ use Rattle.engine_pages.specs.declared.view.SetName.TheVariants.{Reads}
 use Rattle.engine_pages.specs.Layout.{page_at}
 use Rattle.engine_pages.specs.Passes.{view}
 use Rattle.page_commit.specs.Steps.{HasGivenUp}
-use Rattle.page_commit.proofs.WideLaws.{no_entries}
-use Rattle.tree_writes.proofs.Falling.{falls_can, falls_so, headed_steps, locked_due, locked_falls, room_falls, Falls}
+use Rattle.tree_writes.proofs.Falling.{falls_can, falls_so, headed_steps, locked_due, locked_falls, locked_on, room_falls}
+use Rattle.tree_writes.proofs.Falling.{Falls}
 use Rattle.tree_writes.proofs.GrowCans.{leaf_page, live_active}
-use Rattle.tree_writes.proofs.WideLaws.{conflict_wide_due}
 use Rattle.tree_writes.proofs.growing.grow.Goals as goal
 
 -- ---- the header is locked
@@ -28,8 +27,8 @@ pub load_header-seen-requires-clause-page : goal.load_header-seen-requires-claus
 load_header-seen-requires-clause-page c =
     leaf_page c.args.sets.now c.args.key c.args.leaf (view c.args.pass.now) c.requires.lacking.0
 
-pub refuse-requires-clause-can : goal.refuse-requires-clause-can
-refuse-requires-clause-can c =
+pub refuse_on-requires-clause-can : goal.refuse_on-requires-clause-can
+refuse_on-requires-clause-can c =
     let v = view c.args.pass.now in
     let w = view c.load_header-seen.new.pass in
     let placed : c.word_at-at.result ≡ page_at v.layout.slots c.args.leaf.slot 0 =
@@ -39,8 +38,8 @@ refuse-requires-clause-can c =
     (locked_falls c.args.sets.now c.args.key c.args.leaf v w c.word_at-at.result c.load_header-seen.result c.requires.live
     c.requires.lacking.0 placed c.if-locked.true c.load_header-seen.ensures.loads)
 
-pub refuse-requires-clause-due : goal.refuse-requires-clause-due
-refuse-requires-clause-due c =
+pub refuse_on-requires-clause-due : goal.refuse_on-requires-clause-due
+refuse_on-requires-clause-due c =
     let v = view c.args.pass.now in
     let w = view c.load_header-seen.new.pass in
     let placed : c.word_at-at.result ≡ page_at v.layout.slots c.args.leaf.slot 0 =
@@ -50,10 +49,16 @@ refuse-requires-clause-due c =
     (locked_falls c.args.sets.now c.args.key c.args.leaf v w c.word_at-at.result c.load_header-seen.result c.requires.live
     c.requires.lacking.0 placed c.if-locked.true c.load_header-seen.ensures.loads)
 
-pub refuse-requires-clause-wide : goal.refuse-requires-clause-wide
-refuse-requires-clause-wide c =
-    conflict_wide_due c.conflict-why.result c.args.sets.now c.word_at-at.result c.args.leaf.header c.load_header-seen.result
-    (view c.load_header-seen.new.pass) c.conflict-why.ensures
+pub refuse_on-requires-clause-on : goal.refuse_on-requires-clause-on
+refuse_on-requires-clause-on c =
+    let v = view c.args.pass.now in
+    let w = view c.load_header-seen.new.pass in
+    let placed : c.word_at-at.result ≡ page_at v.layout.slots c.args.leaf.slot 0 =
+    c.word_at-at.ensures ∙ ap (λ (l : Layout). page_at l.slots c.args.leaf.slot 0) (sym c.requires.of.layout) in
+    locked_on c.conflict-why.result c.args.sets.now c.args.key c.args.leaf v w c.word_at-at.result c.load_header-seen.result
+    c.conflict-why.ensures
+    (locked_falls c.args.sets.now c.args.key c.args.leaf v w c.word_at-at.result c.load_header-seen.result c.requires.live
+    c.requires.lacking.0 placed c.if-locked.true c.load_header-seen.ensures.loads)
 
 pub returns-then-locked-clause-grows : goal.returns-then-locked-clause-grows
 returns-then-locked-clause-grows c =
@@ -67,28 +72,35 @@ returns-then-locked-clause-grows c =
     c.requires.lacking.0 placed c.if-locked.true c.load_header-seen.ensures.loads in
     let one = headed_steps c.args.sets.now c.args.key c.args.leaf v w c.word_at-at.result c.load_header-seen.result
     c.requires.live c.load_header-seen.ensures.loads in
-    let two = c.refuse.ensures.most in
+    let two = c.refuse_on.ensures.most in
     falls_so c.args.sets.now c.args.sets.now c.args.sets.now.holds c.args.key
-    (refusals.Conflict c.word_at-at.result c.args.leaf.header c.load_header-seen.result) c.refuse.result v w
-    (view c.refuse.new.pass) (c.refuse.ensures.why ∙ c.conflict-why.ensures) f
-    (subst (λ (r : RefusalCause). HasGivenUp [] r w (view c.refuse.new.pass))
-    c.conflict-why.ensures c.refuse.ensures.gives_up) refl c.requires.unwritten c.requires.room (omega (arith, one, two))
+    (refusals.Conflict c.word_at-at.result c.args.leaf.header c.load_header-seen.result) c.refuse_on.result v w
+    (view c.refuse_on.new.pass) (c.refuse_on.ensures.why ∙ c.conflict-why.ensures) f
+    (subst (λ (r : RefusalCause). HasGivenUp [] r w (view c.refuse_on.new.pass))
+    c.conflict-why.ensures c.refuse_on.ensures.gives_up) refl c.requires.unwritten c.requires.room (omega (arith, one, two))
 
 -- ---- there is no room for the record
 
-pub refuse-requires-then-lacks_room-clause-can : goal.refuse-requires-then-lacks_room-clause-can
-refuse-requires-then-lacks_room-clause-can c =
+pub refuse_on-requires-then-lacks_room-clause-can : goal.refuse_on-requires-then-lacks_room-clause-can
+refuse_on-requires-then-lacks_room-clause-can c =
     let v = view c.args.pass.now in
     let placed : c.word_at-at.result ≡ page_at v.layout.slots c.args.leaf.slot 0 =
     c.word_at-at.ensures ∙ ap (λ (l : Layout). page_at l.slots c.args.leaf.slot 0) (sym c.requires.of.layout) in
     let lacks = c.lacks_room.ensures.lacks c.if-lacks_room.true in
     falls_can c.args.sets.now c.args.sets.now.holds c.args.key (refusals.Wide Reads) v v
-    (room_falls c.args.sets.now c.args.key c.args.leaf v c.word_at-at.result c.requires.live c.requires.lacking.0 placed
-    lacks.0 lacks.1)
+    (room_falls c.args.sets.now c.args.key c.args.leaf v c.word_at-at.result c.requires.live c.requires.lacking.0
+    c.requires.lacking.1 placed lacks.0 lacks.1)
 
-pub refuse-requires-then-lacks_room-clause-wide : goal.refuse-requires-then-lacks_room-clause-wide
-refuse-requires-then-lacks_room-clause-wide c =
-    no_entries c.args.sets.now (c.lacks_room.ensures.lacks c.if-lacks_room.true).1
+pub refuse_on-requires-then-lacks_room-clause-on : goal.refuse_on-requires-then-lacks_room-clause-on
+refuse_on-requires-then-lacks_room-clause-on c =
+    let v = view c.args.pass.now in
+    let placed : c.word_at-at.result ≡ page_at v.layout.slots c.args.leaf.slot 0 =
+    c.word_at-at.ensures ∙ ap (λ (l : Layout). page_at l.slots c.args.leaf.slot 0) (sym c.requires.of.layout) in
+    let lacks = c.lacks_room.ensures.lacks c.if-lacks_room.true in
+    let f : Falls c.args.sets.now c.args.sets.now.holds c.args.key (refusals.Wide Reads) v v =
+    room_falls c.args.sets.now c.args.key c.args.leaf v c.word_at-at.result c.requires.live c.requires.lacking.0
+    c.requires.lacking.1 placed lacks.0 lacks.1 in
+    f.stopped.on
 
 pub returns-then-lacks_room-clause-grows : goal.returns-then-lacks_room-clause-grows
 returns-then-lacks_room-clause-grows c =
@@ -96,12 +108,12 @@ returns-then-lacks_room-clause-grows c =
     let placed : c.word_at-at.result ≡ page_at v.layout.slots c.args.leaf.slot 0 =
     c.word_at-at.ensures ∙ ap (λ (l : Layout). page_at l.slots c.args.leaf.slot 0) (sym c.requires.of.layout) in
     let lacks = c.lacks_room.ensures.lacks c.if-lacks_room.true in
-    let two = c.refuse-then-lacks_room.ensures.most in
-    falls_so c.args.sets.now c.args.sets.now c.args.sets.now.holds c.args.key (refusals.Wide Reads) c.refuse-then-lacks_room.result v v
-    (view c.refuse-then-lacks_room.new.pass) c.refuse-then-lacks_room.ensures.why
-    (room_falls c.args.sets.now c.args.key c.args.leaf v c.word_at-at.result c.requires.live c.requires.lacking.0 placed
-    lacks.0 lacks.1)
-    c.refuse-then-lacks_room.ensures.gives_up refl c.requires.unwritten c.requires.room (omega (arith, two))
+    let two = c.refuse_on-then-lacks_room.ensures.most in
+    falls_so c.args.sets.now c.args.sets.now c.args.sets.now.holds c.args.key (refusals.Wide Reads) c.refuse_on-then-lacks_room.result v v
+    (view c.refuse_on-then-lacks_room.new.pass) c.refuse_on-then-lacks_room.ensures.why
+    (room_falls c.args.sets.now c.args.key c.args.leaf v c.word_at-at.result c.requires.live c.requires.lacking.0
+    c.requires.lacking.1 placed lacks.0 lacks.1)
+    c.refuse_on-then-lacks_room.ensures.gives_up refl c.requires.unwritten c.requires.room (omega (arith, two))
 
 -- ---- it grows
 

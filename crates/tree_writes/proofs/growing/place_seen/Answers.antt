@@ -24,35 +24,36 @@ returns-in_default-clause-again c =
 
 -- ---- the write set was full
 
-pub refuse-requires-clause-can : goal.refuse-requires-clause-can
-refuse-requires-clause-can c =
+pub refuse_on-requires-clause-can : goal.refuse_on-requires-clause-can
+refuse_on-requires-clause-can c =
     let v = view c.args.pass.now in
     falls_can c.args.sets.now c.args.sets.now.holds c.args.key (refusals.Wide Writes) v v
     (full_falls_here c.args.sets.now c.args.key v c.requires.live
-    (writes_full c.is_full.result _ c.is_full.ensures.value c.if-is_full.true))
+    (writes_full c.is_full.result _ c.is_full.ensures.value c.if-is_full.true) c.requires.unwritten)
 
-pub refuse-requires-clause-wide : goal.refuse-requires-clause-wide
-refuse-requires-clause-wide c = writes_full c.is_full.result _ c.is_full.ensures.value c.if-is_full.true
+pub refuse_on-requires-clause-on : goal.refuse_on-requires-clause-on
+refuse_on-requires-clause-on c =
+    (writes_full c.is_full.result _ c.is_full.ensures.value c.if-is_full.true, c.requires.unwritten)
 
 pub returns-then-is_full-clause-cause : goal.returns-then-is_full-clause-cause
 returns-then-is_full-clause-cause c =
     let v = view c.args.pass.now in
     let f = full_falls_here c.args.sets.now c.args.key v c.requires.live
-    (writes_full c.is_full.result _ c.is_full.ensures.value c.if-is_full.true) in
-    subst (λ (r : RefusalCause). RefusesTreeWrite c.args.sets.now c.args.sets.now c.args.key r v (view c.refuse.new.pass))
-    (sym c.refuse.ensures.why)
-    (wide_end c.args.sets.now c.args.sets.now c.args.sets.now.holds c.args.key v v (view c.refuse.new.pass) f.only
-    f.stopped c.refuse.ensures.gives_up (writes_full c.is_full.result _ c.is_full.ensures.value c.if-is_full.true)
+    (writes_full c.is_full.result _ c.is_full.ensures.value c.if-is_full.true) c.requires.unwritten in
+    subst (λ (r : RefusalCause). RefusesTreeWrite c.args.sets.now c.args.sets.now c.args.key r v (view c.refuse_on.new.pass))
+    (sym c.refuse_on.ensures.why)
+    (wide_end c.args.sets.now c.args.sets.now c.args.sets.now.holds c.args.key v v (view c.refuse_on.new.pass) f.only
+    f.stopped c.refuse_on.ensures.gives_up (writes_full c.is_full.result _ c.is_full.ensures.value c.if-is_full.true)
     c.requires.unwritten)
 
 pub returns-then-is_full-clause-refused : goal.returns-then-is_full-clause-refused
 returns-then-is_full-clause-refused c =
     let v = view c.args.pass.now in
     let f = full_falls_here c.args.sets.now c.args.key v c.requires.live
-    (writes_full c.is_full.result _ c.is_full.ensures.value c.if-is_full.true) in
-    subst (λ (r : RefusalCause). HasRefused r v (view c.refuse.new.pass)) (sym c.refuse.ensures.why)
-    (refused_end (refusals.Wide Writes) c.args.sets.now c.args.sets.now.holds c.args.key v v (view c.refuse.new.pass) f.only
-    f.stopped c.refuse.ensures.gives_up f.live f.holds f.agree f.trees)
+    (writes_full c.is_full.result _ c.is_full.ensures.value c.if-is_full.true) c.requires.unwritten in
+    subst (λ (r : RefusalCause). HasRefused r v (view c.refuse_on.new.pass)) (sym c.refuse_on.ensures.why)
+    (refused_end (refusals.Wide Writes) c.args.sets.now c.args.sets.now.holds c.args.key v v (view c.refuse_on.new.pass) f.only
+    f.stopped c.refuse_on.ensures.gives_up f.live f.holds f.agree f.trees)
 
 -- ---- the record that was read is the one
 
@@ -66,4 +67,4 @@ returns-clause-brings c =
     (sym c.find.ensures ∙ c.in-Some.is)
 
 pub returns-then-is_full-clause-most : goal.returns-then-is_full-clause-most
-returns-then-is_full-clause-most c = let one = c.refuse.ensures.most in omega (arith, one)
+returns-then-is_full-clause-most c = let one = c.refuse_on.ensures.most in omega (arith, one)

@@ -1,9 +1,9 @@
 use Rattle.std.proofs.Common.{List, ℕ, refl, sym, subst, arith}
 use Rattle.engine_pages.specs.Passes.{view}
+use Rattle.page_commit.specs.Needs.{IsRefusedOn}
 use Rattle.page_commit.specs.Steps.{CanRefuse}
 use Rattle.tree_writes.proofs.Falling.{falls_can, falls_so, split_falls, Falls}
 use Rattle.tree_writes.proofs.GrowCans.{can_split_leaf, full_keys}
-use Rattle.tree_writes.proofs.WideLaws.{split_wide_due}
 use Rattle.tree_writes.proofs.growing.split_for.Goals as goal
 
 pub split-requires-clause-can : goal.split-requires-clause-can
@@ -39,8 +39,8 @@ returns-in-Ok-clause-grows c =
       others = record { reads = refl; pointers = refl; headers = refl; writes = refl };
     } c.requires.unwritten c.requires.room c.requires.head
 
-pub refuse-requires-clause-can : goal.refuse-requires-clause-can
-refuse-requires-clause-can c =
+pub refuse_on-requires-clause-can : goal.refuse_on-requires-clause-can
+refuse_on-requires-clause-can c =
     let v = view c.args.pass.now in
     let w = view c.split.new.pass in
     subst (λ (l : List ℕ). CanRefuse l w) (sym c.in-Err.ensures.kept)
@@ -48,8 +48,8 @@ refuse-requires-clause-can c =
     (split_falls c.in-Err.why c.args.sets.now c.args.key c.args.leaf v w c.requires.live c.requires.lacking.0
     (full_keys c.args.sets.now c.args.key c.args.leaf v c.requires.lacking.0 c.requires.full) c.in-Err.ensures.missed))
 
-pub refuse-requires-clause-due : goal.refuse-requires-clause-due
-refuse-requires-clause-due c =
+pub refuse_on-requires-clause-due : goal.refuse_on-requires-clause-due
+refuse_on-requires-clause-due c =
     let v = view c.args.pass.now in
     let w = view c.split.new.pass in
     let f : Falls c.args.sets.now c.args.sets.now.holds c.args.key c.in-Err.why v w =
@@ -57,19 +57,24 @@ refuse-requires-clause-due c =
     (full_keys c.args.sets.now c.args.key c.args.leaf v c.requires.lacking.0 c.requires.full) c.in-Err.ensures.missed in
     f.stopped.due
 
-pub refuse-requires-clause-wide : goal.refuse-requires-clause-wide
-refuse-requires-clause-wide c =
-    split_wide_due c.in-Err.why (record c.args.sets.now { holds = c.split.new.holds }) c.args.sets.now.holds c.args.leaf.slot
-    c.args.leaf.header (view c.args.pass.now) (view c.split.new.pass) c.in-Err.ensures.kept c.in-Err.ensures.missed
+pub refuse_on-requires-clause-on : goal.refuse_on-requires-clause-on
+refuse_on-requires-clause-on c =
+    let v = view c.args.pass.now in
+    let w = view c.split.new.pass in
+    let f : Falls c.args.sets.now c.args.sets.now.holds c.args.key c.in-Err.why v w =
+    split_falls c.in-Err.why c.args.sets.now c.args.key c.args.leaf v w c.requires.live c.requires.lacking.0
+    (full_keys c.args.sets.now c.args.key c.args.leaf v c.requires.lacking.0 c.requires.full) c.in-Err.ensures.missed in
+    subst (λ (l : List ℕ). IsRefusedOn c.in-Err.why c.args.key (record c.args.sets.now { holds = l }) w)
+    (sym c.in-Err.ensures.kept) f.stopped.on
 
 pub returns-in-Err-clause-grows : goal.returns-in-Err-clause-grows
 returns-in-Err-clause-grows c =
     let v = view c.args.pass.now in
     let w = view c.split.new.pass in
     let one = c.in-Err.ensures.missed.most in
-    let two = c.refuse.ensures.most in
+    let two = c.refuse_on.ensures.most in
     falls_so c.args.sets.now (record c.args.sets.now { holds = c.split.new.holds }) c.args.sets.now.holds c.args.key
-    c.in-Err.why c.refuse.result v w (view c.refuse.new.pass) c.refuse.ensures.why
+    c.in-Err.why c.refuse_on.result v w (view c.refuse_on.new.pass) c.refuse_on.ensures.why
     (split_falls c.in-Err.why c.args.sets.now c.args.key c.args.leaf v w c.requires.live c.requires.lacking.0
     (full_keys c.args.sets.now c.args.key c.args.leaf v c.requires.lacking.0 c.requires.full) c.in-Err.ensures.missed)
-    c.refuse.ensures.gives_up c.in-Err.ensures.kept c.requires.unwritten c.requires.room (omega (arith, one, two))
+    c.refuse_on.ensures.gives_up c.in-Err.ensures.kept c.requires.unwritten c.requires.room (omega (arith, one, two))

@@ -10,40 +10,40 @@ use Rattle.tree_writes.specs.Causes.{RefusesTreeWrite}
 use Rattle.tree_writes.proofs.Falling.{falls_can, full_falls_here, made_falls, Falls}
 use Rattle.tree_writes.proofs.MadeLaws.{can_make, has_made}
 use Rattle.tree_writes.proofs.Stopping.{refused_end, wide_end, write_end}
-use Rattle.tree_writes.proofs.WideLaws.{make_wide_due}
 use Rattle.tree_writes.proofs.making.bring.Goals as goal
 
 -- ---- the write set was full
 
-pub refuse-requires-clause-can : goal.refuse-requires-clause-can
-refuse-requires-clause-can c =
+pub refuse_on-requires-clause-can : goal.refuse_on-requires-clause-can
+refuse_on-requires-clause-can c =
     let v = view c.args.pass.now in
     falls_can c.args.sets.now c.args.sets.now.holds c.args.key (refusals.Wide Writes) v v
     (full_falls_here c.args.sets.now c.args.key v c.requires.live
-    (writes_full c.is_full.result _ c.is_full.ensures.value c.if-is_full.true))
+    (writes_full c.is_full.result _ c.is_full.ensures.value c.if-is_full.true) c.requires.unwritten)
 
-pub refuse-requires-clause-wide : goal.refuse-requires-clause-wide
-refuse-requires-clause-wide c = writes_full c.is_full.result _ c.is_full.ensures.value c.if-is_full.true
+pub refuse_on-requires-clause-on : goal.refuse_on-requires-clause-on
+refuse_on-requires-clause-on c =
+    (writes_full c.is_full.result _ c.is_full.ensures.value c.if-is_full.true, c.requires.unwritten)
 
 pub returns-then-is_full-clause-cause : goal.returns-then-is_full-clause-cause
 returns-then-is_full-clause-cause c =
     let v = view c.args.pass.now in
     let f = full_falls_here c.args.sets.now c.args.key v c.requires.live
-    (writes_full c.is_full.result _ c.is_full.ensures.value c.if-is_full.true) in
-    subst (λ (r : RefusalCause). RefusesTreeWrite c.args.sets.now c.args.sets.now c.args.key r v (view c.refuse.new.pass))
-    (sym c.refuse.ensures.why)
-    (wide_end c.args.sets.now c.args.sets.now c.args.sets.now.holds c.args.key v v (view c.refuse.new.pass) f.only
-    f.stopped c.refuse.ensures.gives_up (writes_full c.is_full.result _ c.is_full.ensures.value c.if-is_full.true)
+    (writes_full c.is_full.result _ c.is_full.ensures.value c.if-is_full.true) c.requires.unwritten in
+    subst (λ (r : RefusalCause). RefusesTreeWrite c.args.sets.now c.args.sets.now c.args.key r v (view c.refuse_on.new.pass))
+    (sym c.refuse_on.ensures.why)
+    (wide_end c.args.sets.now c.args.sets.now c.args.sets.now.holds c.args.key v v (view c.refuse_on.new.pass) f.only
+    f.stopped c.refuse_on.ensures.gives_up (writes_full c.is_full.result _ c.is_full.ensures.value c.if-is_full.true)
     c.requires.unwritten)
 
 pub returns-then-is_full-clause-refused : goal.returns-then-is_full-clause-refused
 returns-then-is_full-clause-refused c =
     let v = view c.args.pass.now in
     let f = full_falls_here c.args.sets.now c.args.key v c.requires.live
-    (writes_full c.is_full.result _ c.is_full.ensures.value c.if-is_full.true) in
-    subst (λ (r : RefusalCause). HasRefused r v (view c.refuse.new.pass)) (sym c.refuse.ensures.why)
-    (refused_end (refusals.Wide Writes) c.args.sets.now c.args.sets.now.holds c.args.key v v (view c.refuse.new.pass) f.only
-    f.stopped c.refuse.ensures.gives_up f.live f.holds f.agree f.trees)
+    (writes_full c.is_full.result _ c.is_full.ensures.value c.if-is_full.true) c.requires.unwritten in
+    subst (λ (r : RefusalCause). HasRefused r v (view c.refuse_on.new.pass)) (sym c.refuse_on.ensures.why)
+    (refused_end (refusals.Wide Writes) c.args.sets.now c.args.sets.now.holds c.args.key v v (view c.refuse_on.new.pass) f.only
+    f.stopped c.refuse_on.ensures.gives_up f.live f.holds f.agree f.trees)
 
 -- ---- the pages were brought into memory
 
@@ -57,35 +57,41 @@ returns-in-Ok-clause-room c =
 pub returns-in-Ok-clause-makes : goal.returns-in-Ok-clause-makes
 returns-in-Ok-clause-makes c = record {
   makes = has_made c.args.sets.now (record c.args.sets.now { holds = c.make_volatile.new.holds }) (view c.args.pass.now)
-      (view c.make_volatile.new.pass) c.args.key c.requires.live c.make_volatile.ensures.walked c.make_volatile.ensures.can
-      c.make_volatile.ensures.kept c.make_volatile.ensures.words c.make_volatile.ensures.met c.make_volatile.ensures.paths
-      c.in-Ok.ensures.led c.in-Ok.ensures.keeps refl refl refl refl;
-  at = c.in-Ok.ensures.made;
+      (view c.make_volatile.new.pass) c.args.key c.requires.live c.make_volatile.ensures.makes.went.walked
+      c.make_volatile.ensures.makes.went.can
+      c.make_volatile.ensures.makes.went.kept c.make_volatile.ensures.makes.went.words
+      c.make_volatile.ensures.makes.went.met c.make_volatile.ensures.makes.paths
+      c.in-Ok.ensures.makes.led c.in-Ok.ensures.makes.keeps refl refl refl refl;
+  at = c.in-Ok.ensures.makes.came;
 }
 
 -- ---- they weren't
 
-pub refuse-requires-in-Err-clause-can : goal.refuse-requires-in-Err-clause-can
-refuse-requires-in-Err-clause-can c =
+pub refuse_on-requires-in-Err-clause-can : goal.refuse_on-requires-in-Err-clause-can
+refuse_on-requires-in-Err-clause-can c =
     let v = view c.args.pass.now in
     let w = view c.make_volatile.new.pass in
     falls_can c.args.sets.now c.make_volatile.new.holds c.args.key c.in-Err.why v w
     (made_falls c.in-Err.why c.args.sets.now c.make_volatile.new.holds c.args.key v w c.requires.live
-    c.make_volatile.ensures.walked c.make_volatile.ensures.can c.in-Err.ensures.cause)
+    c.make_volatile.ensures.makes.went.walked c.make_volatile.ensures.makes.went.can c.in-Err.ensures.makes.cause)
 
-pub refuse-requires-in-Err-clause-due : goal.refuse-requires-in-Err-clause-due
-refuse-requires-in-Err-clause-due c =
+pub refuse_on-requires-in-Err-clause-due : goal.refuse_on-requires-in-Err-clause-due
+refuse_on-requires-in-Err-clause-due c =
     let v = view c.args.pass.now in
     let w = view c.make_volatile.new.pass in
     let f : Falls c.args.sets.now c.make_volatile.new.holds c.args.key c.in-Err.why v w =
     made_falls c.in-Err.why c.args.sets.now c.make_volatile.new.holds c.args.key v w c.requires.live
-    c.make_volatile.ensures.walked c.make_volatile.ensures.can c.in-Err.ensures.cause in
+    c.make_volatile.ensures.makes.went.walked c.make_volatile.ensures.makes.went.can c.in-Err.ensures.makes.cause in
     f.stopped.due
 
-pub refuse-requires-in-Err-clause-wide : goal.refuse-requires-in-Err-clause-wide
-refuse-requires-in-Err-clause-wide c =
-    make_wide_due c.in-Err.why (record c.args.sets.now { holds = c.make_volatile.new.holds }) c.args.key
-    (view c.args.pass.now) (view c.make_volatile.new.pass) c.in-Err.ensures.cause
+pub refuse_on-requires-in-Err-clause-on : goal.refuse_on-requires-in-Err-clause-on
+refuse_on-requires-in-Err-clause-on c =
+    let v = view c.args.pass.now in
+    let w = view c.make_volatile.new.pass in
+    let f : Falls c.args.sets.now c.make_volatile.new.holds c.args.key c.in-Err.why v w =
+    made_falls c.in-Err.why c.args.sets.now c.make_volatile.new.holds c.args.key v w c.requires.live
+    c.make_volatile.ensures.makes.went.walked c.make_volatile.ensures.makes.went.can c.in-Err.ensures.makes.cause in
+    f.stopped.on
 
 pub returns-in-Err-clause-cause : goal.returns-in-Err-clause-cause
 returns-in-Err-clause-cause c =
@@ -94,12 +100,12 @@ returns-in-Err-clause-cause c =
     let new : Sets = record c.args.sets.now { holds = c.make_volatile.new.holds } in
     let f : Falls c.args.sets.now c.make_volatile.new.holds c.args.key c.in-Err.why v w =
     made_falls c.in-Err.why c.args.sets.now c.make_volatile.new.holds c.args.key v w c.requires.live
-    c.make_volatile.ensures.walked c.make_volatile.ensures.can c.in-Err.ensures.cause in
-    subst (λ (r : RefusalCause). RefusesTreeWrite c.args.sets.now new c.args.key r v (view c.refuse-in-Err.new.pass))
-    (sym c.refuse-in-Err.ensures.why)
-    (write_end c.in-Err.why c.args.sets.now new c.make_volatile.new.holds c.args.key v w (view c.refuse-in-Err.new.pass)
-    f.only f.stopped c.refuse-in-Err.ensures.gives_up refl c.requires.unwritten
-    (writes_room c.is_full.result _ c.is_full.ensures.value c.is_full.ensures.bound c.if-is_full.false))
+    c.make_volatile.ensures.makes.went.walked c.make_volatile.ensures.makes.went.can c.in-Err.ensures.makes.cause in
+    subst (λ (r : RefusalCause). RefusesTreeWrite c.args.sets.now new c.args.key r v (view c.refuse_on-in-Err.new.pass))
+    (sym c.refuse_on-in-Err.ensures.why)
+    (write_end c.in-Err.why c.args.sets.now new c.make_volatile.new.holds c.args.key v w (view c.refuse_on-in-Err.new.pass)
+    f.only f.stopped c.refuse_on-in-Err.ensures.gives_up refl c.requires.unwritten
+    (writes_room c.is_full.result _ c.is_full.ensures.value c.is_full.ensures.bound c.if-is_full.false) f.locks)
 
 pub returns-in-Err-clause-refused : goal.returns-in-Err-clause-refused
 returns-in-Err-clause-refused c =
@@ -107,19 +113,20 @@ returns-in-Err-clause-refused c =
     let w = view c.make_volatile.new.pass in
     let f : Falls c.args.sets.now c.make_volatile.new.holds c.args.key c.in-Err.why v w =
     made_falls c.in-Err.why c.args.sets.now c.make_volatile.new.holds c.args.key v w c.requires.live
-    c.make_volatile.ensures.walked c.make_volatile.ensures.can c.in-Err.ensures.cause in
-    subst (λ (r : RefusalCause). HasRefused r v (view c.refuse-in-Err.new.pass)) (sym c.refuse-in-Err.ensures.why)
-    (refused_end c.in-Err.why c.args.sets.now c.make_volatile.new.holds c.args.key v w (view c.refuse-in-Err.new.pass)
-    f.only f.stopped c.refuse-in-Err.ensures.gives_up f.live f.holds f.agree f.trees)
+    c.make_volatile.ensures.makes.went.walked c.make_volatile.ensures.makes.went.can c.in-Err.ensures.makes.cause in
+    subst (λ (r : RefusalCause). HasRefused r v (view c.refuse_on-in-Err.new.pass)) (sym c.refuse_on-in-Err.ensures.why)
+    (refused_end c.in-Err.why c.args.sets.now c.make_volatile.new.holds c.args.key v w (view c.refuse_on-in-Err.new.pass)
+    f.only f.stopped c.refuse_on-in-Err.ensures.gives_up f.live f.holds f.agree f.trees)
 
 -- ---- steps
 
 pub returns-then-is_full-clause-most : goal.returns-then-is_full-clause-most
-returns-then-is_full-clause-most c = let one = c.refuse.ensures.most in omega (arith, one)
+returns-then-is_full-clause-most c = let one = c.refuse_on.ensures.most in omega (arith, one)
 
 pub returns-in-Ok-clause-most : goal.returns-in-Ok-clause-most
-returns-in-Ok-clause-most c = let one = c.make_volatile.ensures.most in omega (arith, one)
+returns-in-Ok-clause-most c = let one = c.make_volatile.ensures.makes.went.most in omega (arith, one)
 
 pub returns-in-Err-clause-most : goal.returns-in-Err-clause-most
 returns-in-Err-clause-most c =
-    let one = c.make_volatile.ensures.most in let two = c.refuse-in-Err.ensures.most in omega (arith, one, two)
+    let one = c.make_volatile.ensures.makes.went.most in let two = c.refuse_on-in-Err.ensures.most in
+    omega (arith, one, two)

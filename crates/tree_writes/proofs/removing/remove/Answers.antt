@@ -1,4 +1,4 @@
-use Rattle.std.proofs.Common.{refl, sym, ap, ◌∙◌, Option, Some, None, ℕ}
+use Rattle.std.proofs.Common.{inl, refl, sym, ap, ◌∙◌, Option, Some, None, ℕ}
 use Rattle.engine_pages.specs.Passes.{view}
 use Rattle.page_commit.specs.Places.{ground}
 use Rattle.page_commit.proofs.WriteLaws.{none_written, some_written}
@@ -28,3 +28,9 @@ returns-clause-done c =
     (rewritten_tree (ground (view c.args.pass.now)) c.args.key None c.args.sets.now.writes _ c.set.ensures c.requires.tree
     c.requires.live.writes)
     (rewritten_put c.args.key None c.args.sets.now.writes _ c.set.ensures)
+
+pub returns-in_default-own-clause-locks : goal.returns-in_default-own-clause-locks
+returns-in_default-own-clause-locks c = inl refl
+
+pub returns-clause-locks : goal.returns-clause-locks
+returns-clause-locks c = inl refl

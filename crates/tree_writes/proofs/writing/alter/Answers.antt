@@ -1,4 +1,4 @@
-use Rattle.std.proofs.Common.{refl, sym, ◌∙◌, ap}
+use Rattle.std.proofs.Common.{inl, refl, sym, ◌∙◌, ap}
 use Rattle.engine_pages.specs.Passes.{view}
 use Rattle.page_commit.specs.Altering.{altered}
 use Rattle.page_commit.specs.Places.{ground}
@@ -30,3 +30,9 @@ returns-clause-turns c =
     (rewritten_writes c.args.key c.in-Some-after.value c.args.sets.now.writes _ c.set.ensures)
     (rewritten_all (ground (view c.args.pass.now)) c.args.key c.in-Some-after.value c.args.sets.now.writes _ c.set.ensures
     c.requires.live.writes)
+
+pub returns-in_default-after-clause-locks : goal.returns-in_default-after-clause-locks
+returns-in_default-after-clause-locks c = inl refl
+
+pub returns-clause-locks : goal.returns-clause-locks
+returns-clause-locks c = inl refl

@@ -7,6 +7,7 @@ use Rattle.page_commit.proofs.RefuseLaws.{refused_since}
 use Rattle.page_commit.proofs.TurnLaws.{may_read}
 use Rattle.page_commit.proofs.WriteLaws.{absent_same, room_same, word_apart}
 use Rattle.tree_writes.proofs.AlterCauses.{behind_two, place_cause, read_cause, steps_behind, tree_stays}
+use Rattle.tree_writes.proofs.NamedLaws.{unnamed_behind, unnamed_read}
 use Rattle.tree_writes.proofs.ReadFirst.{brought_behind, made_read}
 use Rattle.tree_writes.proofs.ValueWrites.{inserted_put, inserted_tree}
 use Rattle.tree_writes.proofs.WriteTurns.{altered_ends, altered_put, may_write_own, meets_own}
@@ -130,6 +131,19 @@ returns-clause-turns c =
     c.put.ensures.writes
     (absent_same c.args.key (c.in_ok-at.ensures.brings.writes
     ∙ (c.in_ok-before.ensures.value.writes ∙ c.in_ok-bring.ensures.makes.makes.writes)) c.requires.unwritten))
+
+-- ---- locks
+
+pub returns-in_default-clause-locks : goal.returns-in_default-clause-locks
+returns-in_default-clause-locks c =
+    unnamed_read c.args.sets.now c.bring.new.sets c.read_value.new.sets c.args.key (view c.args.pass.now)
+    (view c.bring.new.pass) (view c.read_value.new.pass) c.in_ok-bring.ensures.makes.makes c.in_ok-before.ensures.value
+
+pub returns-clause-locks : goal.returns-clause-locks
+returns-clause-locks c =
+    unnamed_behind c.args.sets.now c.bring.new.sets c.read_value.new.sets c.place_seen.new.sets c.args.key c.in_ok-at.at
+    (view c.args.pass.now) (view c.bring.new.pass) (view c.read_value.new.pass) (view c.place_seen.new.pass)
+    c.in_ok-bring.ensures.makes.makes c.in_ok-before.ensures.value c.in_ok-at.ensures.brings
 
 -- ---- steps
 

@@ -1,4 +1,4 @@
-use Rattle.std.proofs.Common.{inr, refl, sym, ◌∙◌, Some}
+use Rattle.std.proofs.Common.{inl, inr, refl, sym, ◌∙◌, Some}
 use Rattle.engine_pages.specs.Passes.{view}
 use Rattle.page_commit.specs.Places.{ground}
 use Rattle.page_commit.proofs.TurnLaws.{value_rewritten}
@@ -13,6 +13,9 @@ returns-then-contains-clause-done c =
     (rewritten_writes c.args.key c.args.value c.args.sets.now.writes _ c.set.ensures)
     (rewritten_all (ground (view c.args.pass.now)) c.args.key c.args.value c.args.sets.now.writes _ c.set.ensures
     c.requires.live.writes)
+
+pub returns-then-contains-clause-locks : goal.returns-then-contains-clause-locks
+returns-then-contains-clause-locks c = inl refl
 
 pub place_seen-requires-clause-unwritten : goal.place_seen-requires-clause-unwritten
 place_seen-requires-clause-unwritten c = sym c.contains.ensures ∙ c.if-contains.false
@@ -41,3 +44,6 @@ returns-in-Ok-clause-done c =
     (inserted_put c.args.key (Some c.args.value) c.in-Ok.at c.place_seen.new.sets.writes c.put.new.sets.writes
     c.put.ensures.writes
     (absent_same c.args.key c.in-Ok.ensures.brings.writes (sym c.contains.ensures ∙ c.if-contains.false)))
+
+pub returns-in-Ok-clause-locks : goal.returns-in-Ok-clause-locks
+returns-in-Ok-clause-locks c = c.in-Ok.ensures.brings.locks

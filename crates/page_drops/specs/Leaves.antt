@@ -131,6 +131,13 @@ LocksNone sp j v w = (i : ℕ) → j ≤ i → takes 0 (key_in sp i) w ≡ takes
 abbrev pub LocksOne : Key → View → View → Type 0
 LocksOne k v w = w.touched ≡ v.touched ++ touch 0 k ∷ []
 
+-- The record with this index was locked behind those before it, with its word of the snapshot page: one record more, by
+-- the pass itself. What was kept is kept.
+pub record LocksNext (t : ℕ) (sp : Span) (words : List ℕ) (i : ℕ) (v w : View) : Type 0 where
+  pub moves : HasMoved v w
+  pub row : HasRow t sp words 0 (i + 1) w
+  pub own : LocksOne (key_in sp i) v w
+
 -- the leaf was kept for the word of the record with this index, and none was locked meanwhile
 abbrev pub MetOne : ℕ → ℕ → Kept → View → View → Type 0
 MetOne t j k v w = (k.word ≡ page_at v.layout.slots t (2 * j)) × (w.touched ≡ v.touched)

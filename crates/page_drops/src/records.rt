@@ -1,12 +1,12 @@
 // A record of a leaf is compared with a snapshot's, locked, and opened again.
-ghost use Rattle.std.specs.Prelude.{◌≡◌, ◌+◌, ◌*◌, ◌^◌, ◌<◌, ◌≤◌, [], length, get_or, IfErr, OnOk};
+ghost use Rattle.std.specs.Prelude.{◌≡◌, ◌*◌, ◌^◌, ◌<◌, ◌≤◌, [], length, get_or, IfErr, OnOk};
 ghost use Rattle.engine_pages.specs.declared.view.Role.TheVariants.{Keeper};
 ghost use Rattle.engine_pages.specs.Layout.{page_at};
 ghost use Rattle.engine_pages.specs.Passes.{view, IsPassOf};
 ghost use Rattle.pointer_swings.specs.Swings.{key_in};
 ghost use Rattle.snapshot_store.specs.Places.{page as page_words};
-ghost use Rattle.page_drops.specs.Leaves.{AtLeaf, AreLow, HasCompared, HasFirst, HasMoved, HasOpened, HasRow};
-ghost use Rattle.page_drops.specs.Leaves.{KeepsSeenBut, LocksOne, MetOne};
+ghost use Rattle.page_drops.specs.Leaves.{AtLeaf, AreLow, HasCompared, HasFirst, HasOpened, HasRow};
+ghost use Rattle.page_drops.specs.Leaves.{KeepsSeenBut, LocksNext, MetOne};
 ghost use Rattle.page_drops.specs.Works.{HasGlanced, HasSeenLast, IsKeepDue, IsNoted, IsSeenStill, KeepsLeaf};
 ghost use Rattle.page_drops.specs.Works.{KeepsReads, SawAlone, SawMore};
 
@@ -140,13 +140,11 @@ pub(crate) fn lock_record(
     requires low { AreLow (page_words (view pass.old).pages leaf.page) }
     requires row { HasRow leaf.slot leaf.span (page_words (view pass.old).pages leaf.page) 0 index (view pass.old) }
     ensures of { IsPassOf engine.now pass.new }
-    ensures moves { OnOk result (HasMoved (view pass.old) (view pass.new)) }
-    ensures row { OnOk result (HasRow leaf.slot leaf.span (page_words (view pass.old).pages leaf.page) 0 (index + 1)
-        (view pass.new)) }
+    ensures locks { OnOk result (LocksNext leaf.slot leaf.span (page_words (view pass.old).pages leaf.page) index
+        (view pass.old) (view pass.new)) }
     ensures keeps { IfErr result (λ k. KeepsLeaf leaf.slot leaf.page k (view pass.old) (view pass.new)) }
     ensures reads { KeepsReads leaf.slot (view pass.old) (view pass.new) }
     ensures more { SawMore (view pass.old) (view pass.new) }
-    ensures own { OnOk result (LocksOne (key_in leaf.span index) (view pass.old) (view pass.new)) }
     ensures met { IfErr result (λ k. MetOne leaf.slot index k (view pass.old) (view pass.new)) }
     ensures still { IfErr result (λ k. IsSeenStill k (view pass.new)) }
 {

@@ -18,6 +18,7 @@ use Rattle.engine_pages.specs.declared.view.View.{View}
 use Rattle.engine_pages.specs.Layout.{page_at}
 use Rattle.engine_pages.specs.Resident.{tree_below}
 use Rattle.pointer_swings.specs.Children.{CanDescendTree, HasDescendedTree, begin_in, end_in, keys_of}
+use Rattle.tree_heads.specs.Headers.{count_of}
 use Rattle.chain_steps.specs.declared.halves.Half.{Half}
 use Rattle.chain_steps.specs.Below.{IsStoredBelow}
 use Rattle.chain_steps.specs.Swings.{HasKeyIn}
@@ -26,12 +27,12 @@ use Rattle.page_drops.specs.Works.{HasGlanced}
 use Rattle.tree_drops.specs.declared.covering.StoredPage.{StoredPage}
 use Rattle.tree_drops.specs.declared.taking.Root.{Root}
 use Rattle.tree_drops.specs.Belows.{CanGoBelow, HasMisshapen}
-use Rattle.tree_drops.specs.Chains.{OnlyChains}
+use Rattle.tree_drops.specs.Chains.{ChainsOn, OnlyChains}
 use Rattle.tree_drops.specs.ChainKeys.{key_in, CoversChildren, CoversRest, HasCoveredFrom, HasCoveredPage, HasCoveredRest, HasOpenedBelow}
 use Rattle.tree_drops.specs.ChainKeys.{HasOpenedChild, IsCoveredOr, IsInnerOr, IsInnerPage, IsUncovered, IsUncoveredCause, KeepsUncovered}
 use Rattle.tree_drops.specs.ChainKeys.{LacksFrom}
 use Rattle.tree_drops.specs.Leaves.{rest_of, HasCount, KeptForHeader}
-use Rattle.tree_drops.specs.Taking.{all_slots, keys_in, CanCover, Covers, HasCovered, IsCoverCause, IsLeafOf}
+use Rattle.tree_drops.specs.Taking.{all_headers, all_slots, keys_in, CanCover, Covers, HasCovered, IsCoverCause, IsLacking, IsLeafOf}
 use Rattle.tree_drops.proofs.BelowKeys.{glanced_reads, take_on}
 use Rattle.tree_drops.proofs.BelowLaws.{can_child, descends_below, keys_are}
 use Rattle.tree_drops.proofs.Chaining.{chained_below, chained_glanced, chained_self, chained_then, keeps_chain, keeps_later}
@@ -94,10 +95,10 @@ covered_later root halves headers sp key v w only h =
 module _ (root : Root) (halves : List Half) (headers : List ℕ) (sp : Span) (page : ℕ) (k : Kept) (v u w : View) (only : OnlyChains v u)
     (reads : u.reads ≡ v.reads) where
   abbrev Cause : KeptWhy → ℕ → ℕ → Type 0
-  Cause why word seen = IsUncoveredCause v.layout.slots root halves headers v.pages sp page why word
+  Cause why word seen = IsUncoveredCause v.layout.slots root halves headers v.heads v.pages sp page why word
 
   -- for the header of the first page
-  pub kept_first : HasMisshapen v.pages ⊎ IsUncovered root halves headers v.pages sp page → KeptForHeader root.slot k u w
+  pub kept_first : HasMisshapen v.pages ⊎ IsUncovered root halves headers v.heads v.pages sp page → KeptForHeader root.slot k u w
       → w.reads ≡ u.reads → KeepsUncovered root halves headers sp page k v w
   kept_first cause h more = (
     keeps_later (λ (why : KeptWhy) word seen. (why ≡ Unlike) × (word ≡ page_at u.layout.slots root.slot 0)) Cause k v u w only
@@ -113,32 +114,66 @@ module _ (root : Root) (halves : List Half) (headers : List ℕ) (sp : Span) (pa
 
   -- for what is below another page
   pub kept_later : (own : Span) (n : ℕ)
-      → (IsUncovered root halves headers v.pages own n → IsUncovered root halves headers v.pages sp page)
+      → (IsUncovered root halves headers v.heads v.pages own n → IsUncovered root halves headers v.heads v.pages sp page)
       → KeepsUncovered root halves headers own n k u w → KeepsUncovered root halves headers sp page k v w
   kept_later own n up h = (
-    keeps_later (λ (why : KeptWhy) word seen. IsUncoveredCause u.layout.slots root halves headers u.pages own n why word) Cause k v u w only
+    keeps_later (λ (why : KeptWhy) word seen. IsUncoveredCause u.layout.slots root halves headers u.heads u.pages own n why word) Cause k v u w only
         (λ c. record {
           unlike = c.unlike;
           place = c.place ∙ ap (λ (l : Layout). page_at l.slots root.slot 0) (layout_chained v u only.looks.on);
           cause = elim c.cause [
             | inl odd ↦ inl (subst (λ ps. HasMisshapen ps) (pages_chained v u only.looks.on) odd)
-            | inr more ↦ inr (up (subst (λ ps. IsUncovered root halves headers ps own n) (pages_chained v u only.looks.on) more))
+            | inr more ↦
+                inr (up (subst (λ (hs : List Head). IsUncovered root halves headers hs v.pages own n) only.looks.heads
+                (subst (λ ps. IsUncovered root halves headers u.heads ps own n) (pages_chained v u only.looks.on) more)))
           ];
         })
         h.0,
     h.1 ∙ reads,
   )
 
+-- the keys of a leaf whose header is locked are what the pass knows of it
+lacking : (root : Root) (halves : List Half) (headers : List ℕ) (sp : Span) (page key : ℕ) (v w : View)
+    → CanCover root halves headers sp page v → ChainsOn v w → (h : Half) (leaf : IsLeafOf root halves headers h) (x : Head)
+    → Contains v.heads x → x.slot ≡ h.slot → has_key x.keys (key_in sp key) ≡ false
+    → IsLacking w.known h.slot (count_of leaf.header) (key_in sp key)
+lacking root halves headers sp page key v w can on h leaf x has slot none =
+    let own = can.take.taken.head x has in
+    let same : own.index ≡ leaf.index =
+    can.take.chain.once own.index leaf.index own.half h own.header leaf.header own.page leaf.page (sym own.slot ∙ slot) in
+    let at : slice_get (all_headers headers) leaf.index ≡ Some own.header =
+    subst (λ i. slice_get (all_headers headers) i ≡ Some own.header) same own.page.header in
+    let there = leaf.page.header in
+    let header : own.header ≡ leaf.header = cc in record {
+      leaf = record { slot = own.half.slot; keys = x.keys };
+      has = on.known (record { slot = own.half.slot; keys = x.keys }) own.knows;
+      slot = sym own.slot ∙ slot;
+      all = own.are.long ∙ ap (λ (n : ℕ). count_of n) header;
+      none = none;
+    }
+
 -- the cause as it is told
 pub kept_cover : (root : Root) (halves : List Half) (headers : List ℕ) (sp : Span) (page : ℕ) (k : Kept) (v w : View)
-    → KeepsUncovered root halves headers sp page k v w → HasCovered root halves headers sp page (Err k) v w
-kept_cover root halves headers sp page k v w h = (
-  keeps_later (λ (why : KeptWhy) word seen. IsUncoveredCause v.layout.slots root halves headers v.pages sp page why word)
-      (λ (why : KeptWhy) word seen. IsCoverCause v.layout.slots root halves headers v.pages sp page why word) k v v w (chained_self v)
+    → CanCover root halves headers sp page v → KeepsUncovered root halves headers sp page k v w
+    → HasCovered root halves headers sp page (Err k) v w
+kept_cover root halves headers sp page k v w can h = (
+  keeps_later (λ (why : KeptWhy) word seen. IsUncoveredCause v.layout.slots root halves headers v.heads v.pages sp page why word)
+      (λ (why : KeptWhy) word seen. IsCoverCause v.layout.slots root halves headers w.known v.pages sp page why word) k v v w
+      (chained_self v)
       (λ c. record {
         unlike = c.unlike;
         place = c.place;
-        cause = elim c.cause [ inl odd ↦ inl odd | inr x ↦ inr (x.key, x.found, x.stored, x.none) ];
+        cause = elim c.cause [
+          | inl odd ↦ inl odd
+          | inr x ↦ inr (
+            x.key,
+            x.found,
+            x.stored,
+            λ g leaf low high.
+                let lacks = x.none g leaf low high in
+                lacking root halves headers sp page x.key v w can h.0.looks.on g leaf lacks.0 lacks.1 lacks.2 lacks.3,
+          )
+        ];
       })
       h.0,
   h.1,
@@ -161,10 +196,12 @@ found_some (x ∷ rs) r has = by_test (eqb x.key r.key) refl (λ more. found_som
 
 pub lacks_leaf : (root : Root) (halves : List Half) (headers : List ℕ) (sp : Span) (key : ℕ) (v : View)
     → sp.storage ≡ (keys_in root).storage → LacksFrom root halves headers 0 key v → (h : Half) → IsLeafOf root halves headers h → h.low ≤ key
-    → key ≤ h.high → (keys : List Key) × (has_key keys (key_in sp key) ≡ false)
+    → key ≤ h.high → (x : Head) × Contains v.heads x × (x.slot ≡ h.slot) × (has_key x.keys (key_in sp key) ≡ false)
 lacks_leaf root halves headers sp key v same lacks h leaf low high =
     let x = lacks leaf.index h leaf.header (omega arith) leaf.page leaf.leaf low high in (
-      (x.0).keys,
+      x.0,
+      x.1,
+      x.2,
       subst (λ (n : ℕ). has_key (x.0).keys (let k : Key = record { storage = n; key = key } in k) ≡ false) (sym same) x.3,
     )
 
@@ -172,7 +209,7 @@ lacks_leaf root halves headers sp key v same lacks h leaf low high =
 pub uncovered_here : (root : Root) (halves : List Half) (headers : List ℕ) (leaf : StoredPage) (index key : ℕ) (v w : View)
     → OnlyChains v w → leaf.span.storage ≡ (keys_in root).storage → HasCount v.pages leaf.span leaf.page leaf.count → index < leaf.count
     → key ≡ get_or (page_words v.pages leaf.page) (16 + 3 * index) 0 → IsCoveredOr root halves headers leaf.span key false w
-    → IsUncovered root halves headers v.pages leaf.span leaf.page
+    → IsUncovered root halves headers v.heads v.pages leaf.span leaf.page
 uncovered_here root halves headers leaf index key v w only same count less is lacks =
     let words : List ℕ = page_words v.pages leaf.page in
     let x = found_some (rest_of words 0 leaf.count) (record_at words index) (rest_has words 0 leaf.count index (omega arith) (omega (arith, less))) in
@@ -189,7 +226,9 @@ uncovered_here root halves headers leaf index key v w only same count less is la
               ∙ (ap (λ n. record_for (rest_of words 0 leaf.count) n) is ∙ x.1);
         },
       );
-      none = lacks_leaf root halves headers leaf.span key w same lacks.2;
+      none = λ h own low high.
+          let y = lacks_leaf root halves headers leaf.span key w same lacks.2 h own low high in
+          (y.0, subst (λ (l : List Head). Contains l y.0) only.looks.heads y.1, y.2, y.3);
     }
 
 pub rest_none : (root : Root) (halves : List Half) (leaf : StoredPage) (index : ℕ) (v : View) → index ≡ leaf.count
@@ -261,12 +300,13 @@ covers_blank root halves sp page v none =
 
 -- ---- the children of a page
 
-pub uncovered_up : (root : Root) (halves : List Half) (headers : List ℕ) (pages : List (List ℕ)) (sp own : Span) (page n j : ℕ) (q : PagePlace)
+pub uncovered_up : (root : Root) (halves : List Half) (headers : List ℕ) (heads : List Head) (pages : List (List ℕ)) (sp own : Span)
+    (page n j : ℕ) (q : PagePlace)
     → slice_get (tree_below pages sp page) j ≡ Some q → sp.low ≤ q.low → q.high ≤ sp.high → own ≡ keys_of sp q → n ≡ q.number
-    → IsUncovered root halves headers pages own n → IsUncovered root halves headers pages sp page
-uncovered_up root halves headers pages sp own page n j q at low high same number x =
-    let y = subst (λ (z : Span). IsUncovered root halves headers pages z q.number) same
-    (subst (λ m. IsUncovered root halves headers pages own m) number x) in
+    → IsUncovered root halves headers heads pages own n → IsUncovered root halves headers heads pages sp page
+uncovered_up root halves headers heads pages sp own page n j q at low high same number x =
+    let y = subst (λ (z : Span). IsUncovered root halves headers heads pages z q.number) same
+    (subst (λ m. IsUncovered root halves headers heads pages own m) number x) in
     let from = y.from in
     let to = y.to in record {
       key = y.key;
@@ -463,7 +503,7 @@ module _ (root : Root) (halves : List Half) (headers : List ℕ) (page : StoredP
       → HasOpenedBelow root halves headers page index (Err k) v z
   kept_child k z found =
       kept_later root halves headers page.span page.page k v w z goes stays own n
-      (uncovered_up root halves headers v.pages page.span own page.page n index h.child h.at h.part.from h.part.to keys_same h.says) found
+      (uncovered_up root halves headers v.heads v.pages page.span own page.page n index h.child h.at h.part.from h.part.to keys_same h.says) found
 
 -- behind a look
 pub opened_earlier : (root : Root) (halves : List Half) (headers : List ℕ) (page : StoredPage) (index : ℕ) (r : Result StoredPage Kept)
@@ -496,7 +536,7 @@ pub from_below : (root : Root) (halves : List Half) (headers : List ℕ) (page c
     → HasCoveredFrom root halves headers page index (Err k) v w
 from_below root halves headers page child index k v u w h below =
     kept_later root halves headers page.span page.page k v u w h.only h.reads child.span child.page
-    (uncovered_up root halves headers v.pages page.span child.span page.page child.page index h.place h.at h.low h.high h.span h.number) below
+    (uncovered_up root halves headers v.heads v.pages page.span child.span page.page child.page index h.place h.at h.low h.high h.span h.number) below
 
 pub from_more : (root : Root) (halves : List Half) (headers : List ℕ) (page child : StoredPage) (index : ℕ) (r : Result (Unit {0}) Kept)
     (v u z w : View) → HasOpenedChild root halves headers page index v child u
@@ -512,10 +552,10 @@ from_more root halves headers page child index (Err k) v u z w h below rest =
     (λ x. x) rest
 
 pub covered_all : (root : Root) (halves : List Half) (headers : List ℕ) (sp : Span) (page count : ℕ) (r : Result (Unit {0}) Kept) (v u w : View)
-    → HasCoveredPage root halves headers sp page (Ok count) v u
+    → CanCover root halves headers sp page v → HasCoveredPage root halves headers sp page (Ok count) v u
     → HasCoveredFrom root halves headers (record { span = sp; page = page; count = count }) 0 r u w
     → HasCovered root halves headers sp page r v w
-covered_all root halves headers sp page count (Ok x) v u w h rest = (
+covered_all root halves headers sp page count (Ok x) v u w can h rest = (
   chained_then v u w h.0 rest.0,
   covers_inner root halves sp page count v h.1 record {
     each = λ j q more less at.
@@ -525,5 +565,5 @@ covered_all root halves headers sp page count (Ok x) v u w h rest = (
   },
   rest.2 ∙ h.2,
 )
-covered_all root halves headers sp page count (Err k) v u w h rest =
-    kept_cover root halves headers sp page k v w (kept_later root halves headers sp page k v u w h.0 h.2 sp page (λ x. x) rest)
+covered_all root halves headers sp page count (Err k) v u w can h rest =
+    kept_cover root halves headers sp page k v w can (kept_later root halves headers sp page k v u w h.0 h.2 sp page (λ x. x) rest)

@@ -1,12 +1,11 @@
 -- A chain was dropped or kept, and all its slots are left: what the visit of its pointer comes to.
-use Rattle.std.proofs.Common.{◌≡◌, ◌≢◌, ◌⊎◌, inl, inr, ℕ, zero, suc, ◌+◌, ◌^◌, ◌<◌, ◌≤◌, Bool, true, false, true≢false, eqb, eq-eqb, eqb-true}
-use Rattle.std.proofs.Common.{List, [], ◌∷◌, ◌++◌, length, map, replicate, Option, Some, None, refl, sym, ap, ◌∙◌, subst, arith}
-use Rattle.std.specs.Prelude.{◌||◌, reverse, Err, Ok, ⊤}
-use Rattle.std.specs.List.{Contains, slice_get}
+use Rattle.std.proofs.Common.{◌≡◌, ◌≢◌, ◌⊎◌, inl, inr, ℕ, zero, suc, ◌+◌, ◌<◌, ◌≤◌, Bool, true, false, true≢false, eqb, eq-eqb, eqb-true}
+use Rattle.std.proofs.Common.{List, [], ◌∷◌, ◌++◌, length, replicate, Option, Some, None, refl, sym, ap, ◌∙◌, subst, arith}
+use Rattle.std.specs.Prelude.{◌||◌, reverse, ⊤}
+use Rattle.std.specs.List.{Contains}
 use Rattle.std.proofs.lemmas.List.{append-nil, append_assoc, reverse-append}
 use Rattle.lists.specs.Elements.{in_cases, in_head, in_none, in_tail}
 use Rattle.lists.specs.Fronts.{IsFront, front_refl}
-use Rattle.homes.specs.declared.places.Span.{Span}
 use Rattle.drop_core.specs.declared.grip.Grip.{Grip}
 use Rattle.drop_core.specs.Event.{without}
 use Rattle.drop_core.specs.Table.{has_slot}
@@ -14,13 +13,11 @@ use Rattle.engine_pages.specs.declared.layout.Layout.{Layout}
 use Rattle.engine_pages.specs.declared.view.Inner.{Inner}
 use Rattle.engine_pages.specs.declared.view.KeptPage.{KeptPage}
 use Rattle.engine_pages.specs.declared.view.KeptWhy.{KeptWhy}
-use Rattle.engine_pages.specs.declared.view.KeptWhy.TheVariants.{Changed, Locked, Long, Under, Unlike}
-use Rattle.engine_pages.specs.declared.view.Read.{Read}
+use Rattle.engine_pages.specs.declared.view.KeptWhy.TheVariants.{Changed}
+use Rattle.engine_pages.specs.declared.view.Known.{Known}
 use Rattle.engine_pages.specs.declared.view.Swung.{Swung}
 use Rattle.engine_pages.specs.declared.view.View.{View}
 use Rattle.engine_pages.specs.declared.view.Way.{Way}
-use Rattle.engine_pages.specs.Layout.{page_at}
-use Rattle.engine_pages.specs.Pointers.{half_of}
 use Rattle.engine_pages.specs.Slots.{MayRetire, left, retired}
 use Rattle.engine_pages.specs.Steps.{kept_at}
 use Rattle.chain_steps.specs.declared.halves.Half.{Half}
@@ -28,25 +25,25 @@ use Rattle.chain_steps.specs.Notes.{last_note, noted_again}
 use Rattle.chain_steps.specs.Swings.{slots_of, swung_all, swung_chain}
 use Rattle.page_drops.specs.declared.calls.Dropped.{Dropped}
 use Rattle.page_drops.specs.declared.noting.Kept.{Kept}
-use Rattle.page_drops.specs.Calls.{slots_on, IsElsewhere, IsNoteOf}
-use Rattle.page_drops.specs.Visits.{note_here}
+use Rattle.page_drops.specs.Calls.{IsElsewhere, IsNoteOf}
 use Rattle.page_drops.specs.Works.{read_of, SawMore}
 use Rattle.page_drops.proofs.Entries.{entry_of, own_entry}
 use Rattle.page_drops.proofs.Holds.{as_held, without_first}
 use Rattle.tree_drops.specs.declared.taking.Root.{Root}
 use Rattle.tree_drops.specs.Chains.{AreFresh, ChainLooks, ChainsOn, NotedFor}
-use Rattle.tree_drops.specs.Releases.{left_all, retired_all, CanLeaveAll, CanRetireAll, CanWorkChain, HasWorkedChain, HoldsHalves, IsWholeCause}
+use Rattle.tree_drops.specs.Releases.{left_all, retired_all, CanLeaveAll, CanRetireAll, CanWorkChain, HoldsHalves, IsWholeCause}
 use Rattle.tree_drops.specs.Taking.{all_slots, keys_in, HasTakenChain, KeepsBeside}
 use Rattle.tree_drops.specs.Turns.{page_met, HasEndedChain}
 use Rattle.tree_drops.specs.Works.{TellsPointer}
-use Rattle.tree_drops.specs.Visits.{MetPages, GoesOver, HasTallied, HasTurned, IsHeaderCause, KeepsInners, WasSplit, dropped_in}
-use Rattle.tree_drops.specs.Visits.{notes_in, row_length, slots_in, swings_in}
+use Rattle.tree_drops.specs.Visits.{MetPages, GoesOver, HasTallied, IsHeaderCause, WasSplit, dropped_in}
+use Rattle.tree_drops.specs.Visits.{notes_in, slots_in}
+use Rattle.tree_drops.proofs.Notings.{split_noted}
 use Rattle.tree_drops.proofs.Asks.{way_held}
 use Rattle.tree_drops.proofs.ChainEnds.{cause_met}
 use Rattle.tree_drops.proofs.ChainLeft.{can_leave_all, can_retire_all, fresh_in, left_gone, left_grip, left_inners, left_kept, left_layout}
-use Rattle.tree_drops.proofs.ChainLeft.{left_out, left_pages, left_reads, left_role, left_seat, left_swung, left_ways, retired_gone}
+use Rattle.tree_drops.proofs.ChainLeft.{once_with, left_out, left_pages, left_reads, left_seat, left_swung, left_ways, retired_gone}
 use Rattle.tree_drops.proofs.ChainLeft.{retired_grip, retired_inners, retired_kept, retired_layout, retired_out, retired_reads}
-use Rattle.tree_drops.proofs.ChainLeft.{retired_role, retired_seat, retired_shuts, retired_swung, retired_ways, stay_all, stay_rest}
+use Rattle.tree_drops.proofs.ChainLeft.{retired_seat, retired_shuts, retired_swung, retired_ways, stay_all, stay_rest}
 use Rattle.tree_drops.proofs.ChainRows.{row_of, dropped_all, dropped_none, each_half, halves_met, length_row, notes_dropped, notes_kept}
 use Rattle.tree_drops.proofs.ChainRows.{slots_row, swings_dropped, swings_kept}
 use Rattle.tree_drops.proofs.Chaining.{as_chained, chains_then}
@@ -155,14 +152,14 @@ out_again count n v w is =
 header_other : (slots u word seen expected : ℕ) → IsHeaderCause slots u (Changed expected) word seen → seen ≢ expected
 header_other slots u word seen expected h = h.1
 
-whole_other : (slots : ℕ) (root : Root) (halves : List Half) (splits : List ℕ) (v : View) (word seen expected : ℕ)
-    → IsWholeCause slots root halves splits v (Changed expected) word seen → seen ≢ expected
-whole_other slots root halves splits v word seen expected (inl held) = elim held.2 [
+whole_other : (slots : ℕ) (root : Root) (halves : List Half) (splits : List ℕ) (known : List Known) (v : View) (word seen expected : ℕ)
+    → IsWholeCause slots root halves splits known v (Changed expected) word seen → seen ≢ expected
+whole_other slots root halves splits known v word seen expected (inl held) = elim held.2 [
   | inl header ↦ header.1
   | inr parted ↦ absurd (let why = parted.0 in cc)
 ]
-whole_other slots root halves splits v word seen expected (inr (inl long)) = absurd (let why = long.0 in cc)
-whole_other slots root halves splits v word seen expected (inr (inr some)) = elim some.2 [
+whole_other slots root halves splits known v word seen expected (inr (inl long)) = absurd (let why = long.0 in cc)
+whole_other slots root halves splits known v word seen expected (inr (inr some)) = elim some.2 [
   | inl header ↦ header.2.1
   | inr rest ↦ elim rest [
     | inl record_cause ↦ record_cause.2.cause.1
@@ -256,18 +253,20 @@ module _ (root : Root) (header : ℕ) (halves : List Half) (splits : List ℕ) (
   abbrev Row : Option KeptPage → MetPages
   Row note = row_of (root.target).at (keys_in root) (root.target).page note halves splits
 
-  was_split : (note : Option KeptPage) → (note ≡ None → (2 ≤ length halves) × (length halves < 63))
-      → ((k : KeptPage) → note ≡ Some k → IsWholeCause v.layout.slots root halves splits v k.why k.word k.seen)
+  was_split : (known : List Known) (note : Option KeptPage) → (note ≡ None → (2 ≤ length halves) × (length halves < 63))
+      → ((k : KeptPage) → note ≡ Some k → IsWholeCause v.layout.slots root halves splits known v k.why k.word k.seen)
       → WasSplit v.layout.slots t (root.target).epoch v.pages
       (page_met (root.target).at (keys_in root) (root.target).page t note) (Row note)
-  was_split note many why = record {
+  was_split known note many why = record {
+    once = λ u. once_with u t v.grip.holds slots (slots_in (Row note))
+        (slots_row (root.target).at (keys_in root) (root.target).page note halves splits) h.fresh can.work.held;
     each = each_half t (root.target).at (keys_in root) (root.target).page note halves splits v a h;
     halved = λ none.
         let x = many none in
         let long = length_row (root.target).at (keys_in root) (root.target).page note halves splits in
         let low = x.0 in
         let high = x.1 in (omega (arith, long, low), omega (arith, long, high));
-    cause = λ k is. elim (cause_met root note halves splits v a v h v.layout.slots k.why k.word k.seen (why k is)) [
+    cause = λ k is. elim (cause_met root note halves splits v a v h v.layout.slots known k.why k.word k.seen (why k is)) [
       | inl cause ↦ inl cause
       | inr turned ↦ inr record {
         expected = root.word;
@@ -282,7 +281,7 @@ module _ (root : Root) (header : ℕ) (halves : List Half) (splits : List ℕ) (
   -- ---- it was kept
 
   module _ (k : Kept) (e : View) (same : a ≡ e) (looks : ChainLooks v e)
-      (noted : NotedFor (IsWholeCause v.layout.slots root halves splits v) k v e) (count n : ℕ) (g : View)
+      (noted : NotedFor (IsWholeCause v.layout.slots root halves splits e.known v) k v e) (count n : ℕ) (g : View)
       (many : count ≡ length halves) (again : g ≡ noted_again count n e) where
     abbrev note : KeptPage
     note = noted.page
@@ -341,9 +340,9 @@ module _ (root : Root) (header : ℕ) (halves : List Half) (splits : List ℕ) (
     e_reads = left_reads slots g ∙ ap (λ (z : View). z.reads) again
 
     other_word : (why : KeptWhy) (word seen expected : ℕ) → why ≡ Changed expected
-        → IsWholeCause v.layout.slots root halves splits v why word seen → seen ≢ expected
-    other_word why word seen expected is cause = whole_other v.layout.slots root halves splits v word seen expected
-        (subst (λ y. IsWholeCause v.layout.slots root halves splits v y word seen) is cause)
+        → IsWholeCause v.layout.slots root halves splits e.known v why word seen → seen ≢ expected
+    other_word why word seen expected is cause = whole_other v.layout.slots root halves splits e.known v word seen expected
+        (subst (λ y. IsWholeCause v.layout.slots root halves splits e.known v y word seen) is cause)
 
     module _ (old new : Dropped) (w : View) (tells : TellsPointer (root.target).at root.word k v e)
         (beside : KeepsBeside root halves v e) (leaves : w ≡ left t mid)
@@ -370,7 +369,11 @@ module _ (root : Root) (header : ℕ) (halves : List Half) (splits : List ℕ) (
           let told = noted.told in
           let sight = sight_noted (λ x. ⊤) target.place (keys_in root) target.at t target.page root.word target.epoch v e can.work
           k note told tells
-          (λ is. other_word k.why k.word k.seen root.word is noted.so) in record {
+          (λ is. other_word k.why k.word k.seen root.word is noted.so) in
+          let split = was_split e.known (Some note) (λ is. absurd (cc))
+          (λ x is. subst (λ (y : KeptPage). IsWholeCause v.layout.slots root halves splits e.known v y.why y.word y.seen)
+          (let one : note ≡ x = cc in one)
+          (subst (λ (y : KeptPage). IsWholeCause v.layout.slots root halves splits e.known v y.why y.word y.seen) (sym told) noted.so)) in record {
             below = Row (Some note);
             note = Some note;
             mid = mid;
@@ -400,11 +403,9 @@ module _ (root : Root) (header : ℕ) (halves : List Half) (splits : List ℕ) (
                 ∙ (left_pages slots g ∙ (ap (λ (z : View). z.pages) again ∙ ap (λ (z : View). z.pages) looks.on.chains))))
                 (front_refl v.pages);
             there = can.work.drop.tree.there;
-            was = inr (inr (inr (inr (inl
-                (was_split (Some note) (λ is. absurd (cc))
-                (λ x is. subst (λ (y : KeptPage). IsWholeCause v.layout.slots root halves splits v y.why y.word y.seen)
-                (let one : note ≡ x = cc in one)
-                (subst (λ (y : KeptPage). IsWholeCause v.layout.slots root halves splits v y.why y.word y.seen) (sym told) noted.so)))))));
+            was = inr (inr (inr (inr (inl split))));
+            notes = split_noted w v.layout.slots t target.epoch v.pages (page_met target.at (keys_in root) target.page t (Some note))
+                (Row (Some note)) split;
             under = halves_met t target.at (keys_in root) target.page (Some note) halves splits v a h v.layout.slots target.epoch
                 v.pages w.pages
                 (subst (λ ps. IsFront v.pages ps)
@@ -631,6 +632,7 @@ module _ (root : Root) (header : ℕ) (halves : List Half) (splits : List ℕ) (
       ended_dropped =
           let target = root.target in
           let slots_are = slots_row target.at (keys_in root) target.page None halves splits in
+          let split = was_split v.known None (λ is. many) (λ x is. absurd (cc)) in
           let front : IsFront v.pages w.pages = subst (λ ps. IsFront v.pages ps) (sym (ap (λ (z : View). z.pages) leaves)) last_over.front in record {
             below = Row None;
             note = None;
@@ -682,7 +684,9 @@ module _ (root : Root) (header : ℕ) (halves : List Half) (splits : List ℕ) (
             pages = v.pages;
             front = front;
             there = can.work.drop.tree.there;
-            was = inr (inr (inr (inr (inl (was_split None (λ is. many) (λ x is. absurd (cc)))))));
+            was = inr (inr (inr (inr (inl split))));
+            notes = split_noted w v.layout.slots t target.epoch v.pages (page_met target.at (keys_in root) target.page t None) (Row None)
+                split;
             under = halves_met t target.at (keys_in root) target.page None halves splits v a h v.layout.slots target.epoch
                 v.pages w.pages front can.work.drop.tree.there;
             counts = tallied_as old new (count + 1) (dropped_in (Row None) + 1) [] (notes_in (Row None) ++ [])

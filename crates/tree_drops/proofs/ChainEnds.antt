@@ -1,45 +1,24 @@
 -- A chain was dropped or kept, and all its pages are left: what the visit of its pointer comes to.
-use Rattle.std.proofs.Common.{◌≡◌, ◌≢◌, ◌⊎◌, inl, inr, ℕ, zero, suc, ◌+◌, ◌^◌, ◌<◌, ◌≤◌, Bool, true, false, true≢false, cond, eqb, eq-eqb, eqb-true}
-use Rattle.std.proofs.Common.{not, List, [], ◌∷◌, ◌++◌, filter, length, replicate, Option, Some, None, refl, sym, ap, ◌∙◌, subst, arith}
-use Rattle.std.specs.Prelude.{◌||◌, reverse}
+use Rattle.std.proofs.Common.{◌≡◌, ◌≢◌, ◌⊎◌, inl, inr, ℕ, zero, suc, ◌+◌, ◌≤◌}
+use Rattle.std.proofs.Common.{List, [], ◌∷◌, ◌++◌, length, Option, Some, refl, sym, ap, ◌∙◌, subst, arith}
 use Rattle.std.specs.List.{Contains, slice_get}
-use Rattle.std.proofs.lemmas.List.{append-nil, append_assoc, reverse-append}
-use Rattle.std.proofs.lemmas.List.Elements.{Contains-append_cases, Contains-append_left, Contains-append_right}
 use Rattle.lists.specs.Elements.{in_cases, in_head, in_none, in_tail}
-use Rattle.lists.specs.Fronts.{IsFront, front_refl}
 use Rattle.homes.specs.declared.places.Span.{Span}
-use Rattle.homes.specs.Homes.{has_key}
-use Rattle.serial_model.specs.declared.key.Key.{Key}
-use Rattle.drop_core.specs.declared.grip.Grip.{Grip}
-use Rattle.drop_core.specs.Event.{without}
-use Rattle.drop_core.specs.Table.{has_slot}
-use Rattle.engine_rule.specs.JointState.{keeps_word}
-use Rattle.engine_pages.specs.declared.layout.Layout.{Layout}
-use Rattle.engine_pages.specs.declared.view.Inner.{Inner}
 use Rattle.engine_pages.specs.declared.view.KeptPage.{KeptPage}
 use Rattle.engine_pages.specs.declared.view.KeptWhy.{KeptWhy}
-use Rattle.engine_pages.specs.declared.view.KeptWhy.TheVariants.{Changed, Long, Unlike}
+use Rattle.engine_pages.specs.declared.view.KeptWhy.TheVariants.{Changed}
+use Rattle.engine_pages.specs.declared.view.Known.{Known}
 use Rattle.engine_pages.specs.declared.view.View.{View}
-use Rattle.engine_pages.specs.declared.view.Way.{Way}
-use Rattle.engine_pages.specs.Layout.{page_at}
-use Rattle.engine_pages.specs.Pointers.{half_of}
-use Rattle.engine_pages.specs.Slots.{left, other_ways, retired}
 use Rattle.chain_steps.specs.declared.halves.Half.{Half}
-use Rattle.chain_steps.specs.Swings.{slots_of, swung_all, swung_chain}
-use Rattle.page_drops.specs.declared.noting.Kept.{Kept}
-use Rattle.page_drops.specs.Calls.{IsElsewhere, IsNoteOf}
-use Rattle.page_drops.specs.Works.{read_of}
-use Rattle.page_drops.proofs.Sights.{saw_same}
+use Rattle.chain_steps.specs.Swings.{slots_of}
 use Rattle.tree_drops.specs.declared.taking.Root.{Root}
-use Rattle.tree_drops.specs.Chains.{first_page, pages_of, span_in, AreFresh, ChainLooks, ChainsOn, IsHoldCause, NotedFor}
-use Rattle.tree_drops.specs.Releases.{left_all, retired_all, CanLeaveAll, CanRetireAll, HoldsHalves, IsHalfless, IsWholeCause}
-use Rattle.tree_drops.specs.Taking.{all_pages, all_slots, keys_in, IsCoverCause, IsLeafOf, IsPageAt, IsTakeCause, KeepsBeside}
-use Rattle.tree_drops.specs.Turns.{page_met, HasEndedChain}
-use Rattle.tree_drops.specs.Visits.{MetPage, MetPages, NoPages, PageThen, HasTurned, IsAmong, IsChainCause, IsChainLeaf, IsHeaderCause, IsPartedOut}
-use Rattle.tree_drops.specs.Visits.{GoesOver, KeepsInners, slots_in}
-use Rattle.tree_drops.proofs.ChainRows.{half_met, row_of, among_at, at_row, chain_leaf, chain_page, in_row, length_row, slots_row}
-use Rattle.tree_drops.proofs.Ends.{out_left, out_then, GoesOut}
-use Rattle.tree_drops.proofs.Overs.{as_went}
+use Rattle.tree_drops.specs.Chains.{first_page, pages_of, span_in}
+use Rattle.tree_drops.specs.Releases.{HoldsHalves, IsHalfless, IsWholeCause}
+use Rattle.tree_drops.specs.Taking.{all_pages, keys_in, IsCoverCause, IsLeafOf}
+use Rattle.tree_drops.specs.Turns.{page_met}
+use Rattle.tree_drops.specs.Visits.{MetPage, MetPages, NoPages, PageThen, IsAmong, IsChainCause, IsChainLeaf, IsHeaderCause, IsPartedOut}
+use Rattle.tree_drops.specs.Visits.{slots_in}
+use Rattle.tree_drops.proofs.ChainRows.{half_met, row_of, among_at, at_row, chain_leaf, chain_page, in_row, slots_row}
 
 push_new : (hs : List Half) (g : Half) → Contains (hs ++ g ∷ []) g
 push_new [] g = in_head g []
@@ -140,9 +119,9 @@ module _ (root : Root) (note : Option KeptPage) (halves : List Half) (splits : L
 
   missing_met : (headers : List ℕ)
       → ((h : Half) → Contains (all_pages root halves) h → IsHalfless splits h.slot → IsLeafOf root halves headers h)
-      → (slots : ℕ) (why : KeptWhy) (word seen : ℕ)
-      → IsCoverCause slots root halves headers b.pages sp (root.target).page why word → Cause slots why word seen
-  missing_met headers all slots why word seen c = elim c.cause [
+      → (slots : ℕ) (known : List Known) (why : KeptWhy) (word seen : ℕ)
+      → IsCoverCause slots root halves headers known b.pages sp (root.target).page why word → Cause slots why word seen
+  missing_met headers all slots known why word seen c = elim c.cause [
     | inl bad ↦ inr (inr (inl record {
       unlike = c.unlike;
       place = c.place;
@@ -159,14 +138,16 @@ module _ (root : Root) (note : Option KeptPage) (halves : List Half) (splits : L
       below = none.2;
       none = λ u keys leaf low high.
           let x = leaf_told headers all u keys leaf in
-          none.3 x.0 x.1 (subst (λ (z : Span). z.low ≤ none.0) (sym x.3) low) (subst (λ (z : Span). none.0 ≤ z.high) (sym x.3) high);
+          let lacks = none.3 x.0 x.1 (subst (λ (z : Span). z.low ≤ none.0) (sym x.3) low)
+          (subst (λ (z : Span). none.0 ≤ z.high) (sym x.3) high) in (lacks.leaf.keys, lacks.none);
     })
   ]
 
-  pub cause_met : (slots : ℕ) (why : KeptWhy) (word seen : ℕ) → IsWholeCause slots root halves splits b why word seen
+  pub cause_met : (slots : ℕ) (known : List Known) (why : KeptWhy) (word seen : ℕ)
+      → IsWholeCause slots root halves splits known b why word seen
       → Cause slots why word seen ⊎ ((word ≡ (root.target).at) × (why ≡ Changed root.word) × (seen ≢ root.word))
-  cause_met slots why word seen (inl held) = inl (page_cause slots why word seen held.0 held.1 held.2)
-  cause_met slots why word seen (inr (inl long)) =
+  cause_met slots known why word seen (inl held) = inl (page_cause slots why word seen held.0 held.1 held.2)
+  cause_met slots known why word seen (inr (inl long)) =
       let many = long.3 in
       let count : length (slots_in met) ≡ suc (length halves) = slots_long in
       inl (inl record { long = long.0; place = long.1; moved = long.2; many = omega (arith, many, count) })
@@ -183,7 +164,7 @@ module _ (root : Root) (note : Option KeptPage) (halves : List Half) (splits : L
       slots_long =
           push_long (slots_in row)
           ∙ ap suc (ap length (slots_row (root.target).at sp (root.target).page note halves splits) ∙ slots_count halves)
-  cause_met slots why word seen (inr (inr some)) = elim some.2 [
+  cause_met slots known why word seen (inr (inr some)) = elim some.2 [
     | inl header ↦ inl (page_cause slots why word seen header.0 header.1 (inl header.2))
     | inr rest ↦ elim rest [
       | inl record_kept ↦ inl (inr (inr (inr (inr (
@@ -194,7 +175,7 @@ module _ (root : Root) (note : Option KeptPage) (halves : List Half) (splits : L
         record_kept.2,
       )))))
       | inr last ↦ elim last [
-        | inl cover ↦ inl (missing_met some.0 some.1.1 slots why word seen cover)
+        | inl cover ↦ inl (missing_met some.0 some.1.1 slots known why word seen cover)
         | inr turned ↦ inr turned
       ]
     ]

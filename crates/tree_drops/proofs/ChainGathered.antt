@@ -1,19 +1,15 @@
 -- All pages of a chain are held: what was found in them is what locking them asks, and what work on it comes to.
-use Rattle.std.proofs.Common.{◌≡◌, ◌≢◌, ◌⊎◌, inl, inr, ℕ, zero, suc, ◌+◌, ◌*◌, ◌<◌, ◌≤◌, Bool, true, false, true≢false, ltb, ltb-true, ltb-false}
-use Rattle.std.proofs.Common.{List, [], ◌∷◌, ◌++◌, length, reverse, refl, sym, ap, ◌∙◌, subst, arith, Some}
+use Rattle.std.proofs.Common.{◌≡◌, ◌≢◌, ◌⊎◌, inl, inr, ℕ, zero, suc, ◌+◌, ◌<◌, ◌≤◌, Bool, true, false, true≢false, ltb, ltb-true, ltb-false}
+use Rattle.std.proofs.Common.{List, [], ◌∷◌, ◌++◌, length, refl, sym, ap, ◌∙◌, subst, arith, Some}
 use Rattle.std.specs.Prelude.{Err, Ok, Result, ◌||◌, ◌==◌}
 use Rattle.std.specs.List.{Contains, slice_get}
-use Rattle.lists.specs.Elements.{at_below, in_cases, in_head, in_none, in_tail}
-use Rattle.serial_model.specs.declared.key.Key.{Key}
-use Rattle.homes.specs.declared.places.Span.{Span}
+use Rattle.lists.specs.Elements.{in_cases, in_head, in_none, in_tail}
 use Rattle.homes.specs.Homes.{has_key, in_span}
 use Rattle.homes.specs.Laws.{in_span-parts}
 use Rattle.drop_core.specs.declared.grip.Grip.{Grip}
 use Rattle.drop_core.specs.Table.{has_slot}
 use Rattle.engine_pages.specs.declared.layout.Layout.{Layout}
 use Rattle.engine_pages.specs.declared.view.Head.{Head}
-use Rattle.engine_pages.specs.declared.view.KeptPage.{KeptPage}
-use Rattle.engine_pages.specs.declared.view.KeptWhy.{KeptWhy}
 use Rattle.engine_pages.specs.declared.view.Moved.{Moved}
 use Rattle.engine_pages.specs.declared.view.Role.TheVariants.{Keeper}
 use Rattle.engine_pages.specs.declared.view.Took.{Took}
@@ -25,11 +21,10 @@ use Rattle.tree_heads.specs.Headers.{moved_bit, IsTreeAt}
 use Rattle.chain_steps.specs.declared.halves.Half.{Half}
 use Rattle.chain_steps.specs.Swings.{slots_of}
 use Rattle.page_drops.specs.declared.noting.Kept.{Kept}
-use Rattle.page_drops.specs.Calls.{IsElsewhere}
 use Rattle.page_drops.specs.Works.{read_of, IsOutside}
 use Rattle.page_drops.proofs.Entries.{seen_same}
 use Rattle.tree_drops.specs.declared.taking.Root.{Root}
-use Rattle.tree_drops.specs.Chains.{first_page, pages_of, span_in, split_header, way_in, AreFound, AreFresh, AreHeld, CanGather, HasGathered}
+use Rattle.tree_drops.specs.Chains.{first_page, span_in, split_header, way_in, AreFound, AreFresh, AreHeld, CanGather, HasGathered}
 use Rattle.tree_drops.specs.Chains.{IsBeside, IsEarlier, IsFoundSo, IsHoldCause, IsUnsplit, NotedFor}
 use Rattle.tree_drops.specs.Leaves.{AtTree}
 use Rattle.tree_drops.specs.Releases.{CanWorkChain, HasKeptLong, HasWorkedChain, HoldsHalves, IsHalfless, IsLongSo, IsWholeCause}
@@ -38,7 +33,7 @@ use Rattle.tree_drops.specs.Taking.{IsLeafOf, IsPageAt, IsTakeCause, IsWholeChai
 use Rattle.tree_drops.proofs.Chaining.{chain_then, layout_chained, lead_chained, pages_chained, past_chained, role_chained}
 use Rattle.tree_drops.proofs.Chaining.{tree_at_chained, tree_chained}
 use Rattle.tree_drops.proofs.ChainLeft.{fresh_in, fresh_other}
-use Rattle.tree_drops.proofs.ChainSwung.{first_in, in_slots, index_of, page_index, page_slot, place_chained, slot_in, some_at}
+use Rattle.tree_drops.proofs.ChainSwung.{first_in, in_slots, index_of, place_chained, slot_in, some_at}
 use Rattle.tree_drops.proofs.ChainTakes.{beside_then}
 use Rattle.tree_drops.proofs.ChainUndo.{noted_between}
 use Rattle.tree_drops.proofs.Heads.{tells_around}
@@ -204,7 +199,7 @@ module _ (root : Root) (header : ℕ) (v : View) (can : CanWorkChain root header
           },
           (
             chain_then v a w held.looks h.looks,
-            noted_between (IsLongSo a.layout.slots root) (IsWholeCause v.layout.slots root halves splits v) k v a w w kept h.kept refl
+            noted_between (IsLongSo a.layout.slots root) (IsWholeCause v.layout.slots root halves splits w.known v) k v a w w kept h.kept refl
                 (λ so. inr (inl (
                   so.0,
                   so.1 ∙ ap (λ (l : Layout). page_at l.slots root.slot 0) layout,
@@ -496,13 +491,14 @@ module _ (root : Root) (header : ℕ) (v : View) (can : CanWorkChain root header
         },
         (
           chain_then v a w held.looks keeps.looks,
-          noted_between (IsTakeCause a.layout.slots root halves headers a.pages) (IsWholeCause v.layout.slots root halves splits v) k
-              v a w w kept keeps.kept refl
+          noted_between (IsTakeCause a.layout.slots root halves headers w.known a.pages)
+              (IsWholeCause v.layout.slots root halves splits w.known v) k v a w w kept keeps.kept refl
               (λ so. inr (inr (
                 headers,
                 (leaf_halfless, halfless_leaf),
-                subst (λ ps. IsTakeCause v.layout.slots root halves headers ps k.why k.word k.seen) (pages_chained v a held.looks.on)
-                    (subst (λ (l : Layout). IsTakeCause l.slots root halves headers a.pages k.why k.word k.seen) layout so),
+                subst (λ ps. IsTakeCause v.layout.slots root halves headers w.known ps k.why k.word k.seen)
+                    (pages_chained v a held.looks.on)
+                    (subst (λ (l : Layout). IsTakeCause l.slots root halves headers w.known a.pages k.why k.word k.seen) layout so),
               ))),
           tells_around (root.target).at root.word k v a w w pointer_stays refl tells,
           beside_then root halves v a w layout beside_held beside,

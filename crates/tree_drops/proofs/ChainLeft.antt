@@ -1,21 +1,22 @@
 -- Slots are left, and given up, one after another.
-use Rattle.std.proofs.Common.{◌≡◌, ◌≢◌, ◌⊎◌, inl, inr, ℕ, suc, ◌+◌, ◌<◌, ◌≤◌, Bool, true, false, true≢false, cond, eqb, eq-eqb, eqb-true}
+use Rattle.std.proofs.Common.{◌≡◌, ◌≢◌, inl, inr, ℕ, ◌+◌, ◌<◌, ◌≤◌, Bool, true, false, true≢false, cond, eqb, eq-eqb, eqb-true}
 use Rattle.std.proofs.Common.{ne_eqb, not, List, [], ◌∷◌, ◌++◌, filter, refl, sym, ap, ◌∙◌, subst, arith}
 use Rattle.std.specs.Prelude.{◌||◌, reverse}
 use Rattle.std.specs.List.{Contains}
+use Rattle.std.proofs.lemmas.Bool.{or_right}
 use Rattle.std.proofs.lemmas.List.{append_assoc, reverse-append}
 use Rattle.lists.specs.Elements.{in_cases, in_head, in_none, in_tail}
 use Rattle.lists.specs.Fronts.{front_refl}
-use Rattle.drop_core.specs.declared.grip.Grip.{Grip}
 use Rattle.drop_core.specs.Event.{without}
 use Rattle.drop_core.specs.Table.{has_slot}
 use Rattle.engine_rule.specs.JointState.{keeps_word}
-use Rattle.engine_pages.specs.declared.layout.Layout.{Layout}
 use Rattle.engine_pages.specs.declared.view.Inner.{Inner}
 use Rattle.engine_pages.specs.declared.view.View.{View}
 use Rattle.engine_pages.specs.declared.view.Way.{Way}
 use Rattle.engine_pages.specs.Slots.{left, other_shuts, retired}
+use Rattle.page_drops.specs.Visits.{times}
 use Rattle.page_drops.proofs.Sights.{saw_same}
+use Rattle.page_drops.proofs.Stays.{times_append}
 use Rattle.tree_drops.specs.Chains.{AreFresh}
 use Rattle.tree_drops.specs.Releases.{left_all, retired_all, CanLeaveAll, CanRetireAll}
 use Rattle.tree_drops.proofs.Ends.{filter_in, out_left, out_then, GoesOut}
@@ -139,6 +140,45 @@ fresh_in holds (t ∷ ts) u fresh has = elim (in_cases u t ts has) [
 pub fresh_other : (t u : ℕ) (holds ts : List ℕ) → AreFresh (t ∷ holds) ts → Contains ts u → u ≡ t → ⊥
 fresh_other t u holds ts fresh has same =
     true≢false (sym (ap (λ (c : Bool). c || has_slot holds u) (eq-eqb t u (sym same))) ∙ fresh_in (t ∷ holds) ts u fresh has)
+
+-- ---- each of them is another one
+
+-- one that was held is none of them
+fresh_none : (holds ts : List ℕ) (u : ℕ) → AreFresh holds ts → has_slot holds u ≡ true → times u ts ≡ 0
+fresh_none holds [] u fresh held = refl
+fresh_none holds (t ∷ ts) u fresh held =
+    let rest = fresh_none (t ∷ holds) ts u fresh.1 (or_right (eqb t u) (has_slot holds u) held) in
+    let apart : u ≢ t = λ same. true≢false (sym held ∙ (ap (λ i. has_slot holds i) same ∙ fresh.0)) in
+    let first : ◌≡◌ {A = ℕ} (cond (eqb u t) 1 0) 0 = ap (λ (b : Bool). cond b 1 0) (ne_eqb u t apart) in omega (arith, first, rest)
+
+fresh_once : (holds ts : List ℕ) (u : ℕ) → AreFresh holds ts → times u ts ≤ 1
+fresh_once holds [] u fresh = omega arith
+fresh_once holds (t ∷ ts) u fresh = by_test (eqb u t) refl (fresh_once (t ∷ holds) ts u fresh.1)
+  where
+    by_test : (c : Bool) → eqb u t ≡ c → times u ts ≤ 1 → times u (t ∷ ts) ≤ 1
+    by_test true is rest =
+        let none = fresh_none (t ∷ holds) ts u fresh.1
+        (ap (λ (c : Bool). c || has_slot holds u) (eq-eqb t u (sym (eqb-true u t is)))) in
+        let first : ◌≡◌ {A = ℕ} (cond (eqb u t) 1 0) 1 = ap (λ (b : Bool). cond b 1 0) is in omega (arith, first, none)
+    by_test false is rest =
+        let first : ◌≡◌ {A = ℕ} (cond (eqb u t) 1 0) 0 = ap (λ (b : Bool). cond b 1 0) is in omega (arith, first, rest)
+
+-- nor with one that was held
+pub once_with : (u t : ℕ) (holds ts some : List ℕ) → some ≡ ts → AreFresh holds ts → has_slot holds t ≡ true
+    → times u ((some ++ t ∷ []) ++ []) ≤ 1
+once_with u t holds ts some same fresh held =
+    subst (λ l. times u ((l ++ t ∷ []) ++ []) ≤ 1) (sym same) (by_test (eqb u t) refl)
+  where
+    sum : times u ((ts ++ t ∷ []) ++ []) ≡ (times u ts + times u (t ∷ [])) + times u []
+    sum = times_append u (ts ++ t ∷ []) [] ∙ ap (λ (n : ℕ). n + times u []) (times_append u ts (t ∷ []))
+
+    by_test : (c : Bool) → eqb u t ≡ c → times u ((ts ++ t ∷ []) ++ []) ≤ 1
+    by_test true is =
+        let none = fresh_none holds ts u fresh (ap (λ i. has_slot holds i) (eqb-true u t is) ∙ held) in
+        let first : ◌≡◌ {A = ℕ} (cond (eqb u t) 1 0) 1 = ap (λ (b : Bool). cond b 1 0) is in omega (arith, sum, none, first)
+    by_test false is =
+        let rest = fresh_once holds ts u fresh in
+        let first : ◌≡◌ {A = ℕ} (cond (eqb u t) 1 0) 0 = ap (λ (b : Bool). cond b 1 0) is in omega (arith, sum, rest, first)
 
 -- ---- they are left
 

@@ -1,26 +1,20 @@
 -- The pages of a chain, as they are told: a row of halves below the first page, dropped or kept alike.
-use Rattle.std.proofs.Common.{◌≡◌, ◌≢◌, ◌⊎◌, inl, inr, ℕ, zero, suc, ◌+◌, ◌^◌, ◌<◌, ◌≤◌, List, [], ◌∷◌, ◌++◌, length, map, replicate}
+use Rattle.std.proofs.Common.{◌≡◌, ◌⊎◌, inl, inr, ℕ, zero, suc, ◌+◌, ◌≤◌, List, [], ◌∷◌, ◌++◌, length, replicate}
 use Rattle.std.proofs.Common.{Option, Some, None, refl, sym, ap, ◌∙◌, subst, arith}
 use Rattle.std.specs.List.{Contains, slice_get}
-use Rattle.std.proofs.lemmas.List.{append-nil, append_assoc}
 use Rattle.lists.specs.Elements.{in_cases, in_head, in_none, in_tail}
-use Rattle.lists.specs.Fronts.{IsFront, front_refl}
+use Rattle.lists.specs.Fronts.{IsFront}
 use Rattle.homes.specs.declared.places.Span.{Span}
 use Rattle.engine_pages.specs.declared.view.KeptPage.{KeptPage}
-use Rattle.engine_pages.specs.declared.view.KeptWhy.{KeptWhy}
-use Rattle.engine_pages.specs.declared.view.KeptWhy.TheVariants.{Changed, Unlike}
 use Rattle.engine_pages.specs.declared.view.Swung.{Swung}
 use Rattle.engine_pages.specs.declared.view.View.{View}
 use Rattle.chain_steps.specs.declared.halves.Half.{Half}
 use Rattle.chain_steps.specs.Swings.{slots_of, swung_all}
-use Rattle.page_drops.specs.Visits.{dropped_here, note_here, swing_here}
-use Rattle.tree_drops.specs.declared.taking.Root.{Root}
-use Rattle.tree_drops.specs.Chains.{first_page, span_in, IsEarlier, IsHoldCause}
-use Rattle.tree_drops.specs.Releases.{HoldsHalves, IsHalfless, IsWholeCause}
-use Rattle.tree_drops.specs.Taking.{all_pages, keys_in, IsCoverCause, IsLeafOf, IsPageAt, IsTakeCause}
+use Rattle.tree_drops.specs.Chains.{first_page, span_in, IsEarlier}
+use Rattle.tree_drops.specs.Releases.{HoldsHalves, IsHalfless}
 use Rattle.tree_drops.specs.Turns.{page_met}
-use Rattle.tree_drops.specs.Visits.{MetPage, MetPages, NoPages, PageThen, AreMet, HasTurned, IsAmong, IsBefore, IsChainCause, IsChainLeaf}
-use Rattle.tree_drops.specs.Visits.{IsChainPage, IsHalfMet, IsMet, WasHalf, WasPage, WasSplit, dropped_in, met_at, notes_in}
+use Rattle.tree_drops.specs.Visits.{MetPage, MetPages, NoPages, PageThen, AreMet, IsAmong, IsBefore, IsChainLeaf}
+use Rattle.tree_drops.specs.Visits.{IsChainPage, IsHalfMet, IsMet, dropped_in, met_at, notes_in}
 use Rattle.tree_drops.specs.Visits.{row_length, slots_in, swings_in}
 
 -- ---- the row

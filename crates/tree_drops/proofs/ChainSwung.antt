@@ -1,17 +1,15 @@
 -- A chain all of which is locked is swung from; what is known of it stays, and locks are opened again where it is kept.
-use Rattle.std.proofs.Common.{◌≡◌, ◌≢◌, ◌⊎◌, inl, inr, ℕ, zero, suc, ◌+◌, ◌*◌, ◌<◌, ◌≤◌, Bool, true, false, true≢false, cond, eqb, eq-eqb, eqb-true}
-use Rattle.std.proofs.Common.{ltb, ltb-true, ltb-false, ne_eqb, not, List, [], ◌∷◌, ◌++◌, length, refl, sym, ap, ◌∙◌, subst, arith, Some, filter}
-use Rattle.std.specs.Prelude.{◌||◌, MatchBool}
+use Rattle.std.proofs.Common.{◌≡◌, ◌≢◌, ◌⊎◌, inl, inr, ℕ, zero, suc, ◌+◌, ◌*◌, ◌<◌, ◌≤◌, Bool, true, false, true≢false, eqb, eq-eqb, eqb-true}
+use Rattle.std.proofs.Common.{ltb, ltb-true, ltb-false, List, [], ◌∷◌, ◌++◌, length, refl, sym, ap, ◌∙◌, subst, arith, Some}
+use Rattle.std.specs.Prelude.{◌||◌}
 use Rattle.std.specs.List.{Contains, slice_get}
 use Rattle.lists.specs.Elements.{at_below, in_cases, in_head, in_none, in_tail}
 use Rattle.serial_model.specs.declared.key.Key.{Key}
 use Rattle.homes.specs.declared.places.At.{At}
 use Rattle.homes.specs.declared.places.At.TheVariants.{Root as RootOf, In}
 use Rattle.homes.specs.declared.places.Span.{Span}
-use Rattle.homes.specs.Homes.{has_key, in_span}
+use Rattle.homes.specs.Homes.{in_span}
 use Rattle.homes.specs.Laws.{in_span-parts}
-use Rattle.snapshot_store.specs.Places.{Found}
-use Rattle.drop_core.specs.Event.{without}
 use Rattle.drop_core.specs.Table.{has_slot}
 use Rattle.engine_pages.specs.declared.layout.Layout.{Layout}
 use Rattle.engine_pages.specs.declared.view.Head.{Head}
@@ -20,16 +18,13 @@ use Rattle.engine_pages.specs.Layout.{page_at, words_of}
 use Rattle.engine_pages.specs.Pages.{is_array, is_tree, root_span}
 use Rattle.engine_pages.specs.Layout.{root_at}
 use Rattle.engine_pages.specs.Pointers.{IsPointerAt}
-use Rattle.engine_pages.specs.Steps.{seen_at}
 use Rattle.tree_heads.specs.Headers.{count_of, moved_bit}
 use Rattle.chain_steps.specs.declared.halves.Half.{Half}
 use Rattle.chain_steps.specs.Swings.{slots_of, CanSwingChain, HasKeyIn, IsLockedLeaf, IsSealedLeaf}
-use Rattle.page_drops.specs.Works.{read_of, IsOutside, KeepsReads}
-use Rattle.page_drops.proofs.Entries.{seen_same}
+use Rattle.page_drops.specs.Works.{IsOutside}
 use Rattle.tree_drops.specs.declared.taking.Root.{Root}
-use Rattle.tree_drops.specs.Chains.{first_page, pages_of, span_in, split_header, way_in, ChainLooks, ChainsOn, HoldsSame, OnlyChains}
-use Rattle.tree_drops.specs.Leaves.{AtTree, KnowsKeys}
-use Rattle.tree_drops.specs.Taking.{all_headers, all_pages, all_slots, keys_in, AreTaken, CanTake, Covers, IsKnownPage, IsPageAt}
+use Rattle.tree_drops.specs.Chains.{first_page, span_in, split_header, way_in, ChainsOn}
+use Rattle.tree_drops.specs.Taking.{all_slots, keys_in, CanTake, Covers, IsKnownPage, IsPageAt}
 use Rattle.tree_drops.specs.Taking.{IsWholeChain}
 use Rattle.tree_drops.proofs.Chaining.{keys_chained, layout_chained, lead_chained, past_chained, tree_chained}
 use Rattle.tree_drops.proofs.KeyLists.{has_at}

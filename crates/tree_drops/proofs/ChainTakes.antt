@@ -1,48 +1,40 @@
 -- A chain is locked unit by unit: what each asks, what comes of all, and what stays where it is kept.
-use Rattle.std.proofs.Common.{◌≡◌, ◌≢◌, ◌⊎◌, inl, inr, ℕ, zero, suc, ◌+◌, ◌*◌, ◌<◌, ◌≤◌, Bool, true, false, true≢false, eqb, eq-eqb, eqb-true}
+use Rattle.std.proofs.Common.{◌≡◌, ◌≢◌, inl, inr, ℕ, zero, suc, ◌+◌, ◌*◌, ◌<◌, ◌≤◌, Bool, true, false, true≢false, eqb, eq-eqb, eqb-true}
 use Rattle.std.proofs.Common.{List, [], ◌∷◌, ◌++◌, length, refl, sym, ap, ◌∙◌, subst, arith, Some}
-use Rattle.std.specs.Prelude.{Err, Ok, Result, ◌||◌}
+use Rattle.std.specs.Prelude.{Err, Ok, ◌||◌}
 use Rattle.std.specs.List.{Contains, slice_get}
-use Rattle.lists.specs.Elements.{in_cases, in_head, in_none, in_tail}
-use Rattle.serial_model.specs.declared.key.Key.{Key}
+use Rattle.lists.specs.Elements.{in_cases, in_head, in_tail}
 use Rattle.homes.specs.declared.places.Span.{Span}
-use Rattle.homes.specs.Homes.{has_key, in_span}
 use Rattle.commit_core.specs.CoreState.{can_begin}
 use Rattle.drop_core.specs.Table.{has_slot}
 use Rattle.engine_pages.specs.declared.layout.Layout.{Layout}
 use Rattle.engine_pages.specs.declared.view.Head.{Head}
 use Rattle.engine_pages.specs.declared.view.KeptWhy.{KeptWhy}
-use Rattle.engine_pages.specs.declared.view.KeptWhy.TheVariants.{Changed}
+use Rattle.engine_pages.specs.declared.view.Known.{Known}
 use Rattle.engine_pages.specs.declared.view.View.{View}
 use Rattle.engine_pages.specs.Layout.{page_at}
 use Rattle.engine_pages.specs.Steps.{seen_at}
-use Rattle.engine_pages.specs.Words.{spot}
-use Rattle.tree_heads.specs.Headers.{count_of, kind_of, moved_bit, open_word}
-use Rattle.tree_heads.specs.Heads.{CanOpenHeader, head_opened}
+use Rattle.tree_heads.specs.Headers.{count_of, moved_bit}
 use Rattle.chain_steps.specs.declared.halves.Half.{Half}
-use Rattle.chain_steps.specs.Seals.{CanUnseal, unsealed_at}
-use Rattle.chain_steps.specs.Swings.{slots_of, swung_chain}
+use Rattle.chain_steps.specs.Swings.{slots_of}
 use Rattle.page_drops.specs.declared.noting.Kept.{Kept}
 use Rattle.page_drops.specs.Calls.{IsElsewhere}
-use Rattle.page_drops.specs.Works.{read_of, IsOutside, KeepsReads}
+use Rattle.page_drops.specs.Works.{IsOutside, KeepsReads}
 use Rattle.page_drops.proofs.Entries.{reads_more, reads_self, seen_same}
-use Rattle.page_records.specs.Locks.{opened}
 use Rattle.tree_drops.specs.declared.taking.ChainPage.{ChainPage}
 use Rattle.tree_drops.specs.declared.taking.Done.{Done}
 use Rattle.tree_drops.specs.declared.taking.Done.TheVariants.{Nothing, Sealed, Headed, Recorded}
 use Rattle.tree_drops.specs.declared.taking.Root.{Root}
-use Rattle.tree_drops.specs.Chains.{first_page, span_in, split_header, ChainLooks, ChainsOn, HoldsSame, KeepsChain}
-use Rattle.tree_drops.specs.Leaves.{AreKeys, AtTree, IsKeyOf, KnowsKeys}
-use Rattle.tree_drops.specs.Taking.{all_pages, all_slots, keys_in, AreTaken, CanTake, CanTakeKey, CanUndo, CanWorkOn, HasDone}
-use Rattle.tree_drops.specs.Taking.{HasHeadedPage, HasRecorded, HasSealedPage, HasTaken, HasTakenChain, HasUndone, IsCoverCause}
+use Rattle.tree_drops.specs.Chains.{span_in, split_header, ChainsOn, HoldsSame, KeepsChain}
+use Rattle.tree_drops.specs.Leaves.{AreKeys, AtTree, KnowsKeys}
+use Rattle.tree_drops.specs.Taking.{all_pages, keys_in, AreTaken, CanTake, CanTakeKey, CanUndo, CanWorkOn, HasDone}
+use Rattle.tree_drops.specs.Taking.{HasTaken, HasUndone}
 use Rattle.tree_drops.specs.Taking.{IsPageAt, IsPageCause, IsTakeCause, IsThatPage, IsWholeChain, KeepsBeside}
-use Rattle.tree_drops.specs.Works.{TellsPointer}
-use Rattle.tree_drops.proofs.Chaining.{chain_then, chains_self, chains_then, holds_self, holds_then, layout_chained, pages_chained}
+use Rattle.tree_drops.proofs.Chaining.{chains_self, chains_then, holds_self, holds_then, layout_chained, pages_chained}
 use Rattle.tree_drops.proofs.Chaining.{tree_chained}
 use Rattle.tree_drops.proofs.ChainSwung.{page_slot, whole_on}
 use Rattle.tree_drops.proofs.ChainUndo.{can_open_recorded, undone_headed, undone_recorded, undone_sealed}
 use Rattle.tree_drops.proofs.Heads.{tells_around}
-use Rattle.tree_drops.proofs.Swung.{below_next}
 use Rattle.tree_drops.proofs.TakenUnits.{key_new, key_untaken, same_page, taken_headed, taken_nothing, taken_recorded, taken_sealed}
 use Rattle.tree_drops.proofs.Works.{opened_is, reopened}
 
@@ -250,9 +242,9 @@ module _ (root : Root) (halves : List Half) (headers : List ℕ) (i j : ℕ) (pa
 
   -- ---- it is kept at this unit
 
-  cause_of : (why : KeptWhy) (word seen : ℕ) → IsPageCause v.layout.slots root own v.pages why word seen
-      → IsTakeCause v.layout.slots root halves headers v.pages why word seen
-  cause_of why word seen (inl header) = inl (h, page_among, header)
+  cause_of : (known : List Known) (why : KeptWhy) (word seen : ℕ) → IsPageCause v.layout.slots root own v.pages why word seen
+      → IsTakeCause v.layout.slots root halves headers known v.pages why word seen
+  cause_of known why word seen (inl header) = inl (h, page_among, header)
     where
       at_among : (hs : List Half) (k : ℕ) (g : Half) → slice_get hs k ≡ Some g → Contains hs g
       at_among [] k g at = absurd (cc)
@@ -261,9 +253,9 @@ module _ (root : Root) (halves : List Half) (headers : List ℕ) (i j : ℕ) (pa
 
       page_among : Contains (all_pages root halves) h
       page_among = at_among (all_pages root halves) i h that.at.page
-  cause_of why word seen (inr (inl both)) =
+  cause_of known why word seen (inr (inl both)) =
       inr (inl (h, record { index = i; header = n; page = that.at; leaf = both.0 }, both.1))
-  cause_of why word seen (inr (inr other)) =
+  cause_of known why word seen (inr (inr other)) =
       inr (inr (inl record { unlike = other.0; place = other.1; cause = inl other.2 }))
 
   pub kept_here : (k : Kept) (w : View) → KeepsChain (IsPageCause v.layout.slots root page v.pages) k v w × KeepsReads page.slot v w
@@ -278,7 +270,7 @@ module _ (root : Root) (halves : List Half) (headers : List ℕ) (i j : ℕ) (pa
             page = h'.0.kept.page;
             is = h'.0.kept.is;
             told = h'.0.kept.told;
-            so = cause_of k.why k.word k.seen h'.0.kept.so;
+            so = cause_of w.known k.why k.word k.seen h'.0.kept.so;
           };
         },
         (
@@ -289,12 +281,13 @@ module _ (root : Root) (halves : List Half) (headers : List ℕ) (i j : ℕ) (pa
 
   -- ---- or behind it
 
-  cause_back : (w : View) → ChainsOn v w → (why : KeptWhy) (word seen : ℕ)
-      → IsTakeCause w.layout.slots root halves headers w.pages why word seen
-      → IsTakeCause v.layout.slots root halves headers v.pages why word seen
-  cause_back w on why word seen so =
-      subst (λ ps. IsTakeCause v.layout.slots root halves headers ps why word seen) (pages_chained v w on)
-      (subst (λ (l : Layout). IsTakeCause l.slots root halves headers w.pages why word seen) (layout_chained v w on) so)
+  cause_back : (known later : List Known) (w : View) → ChainsOn v w → later ≡ known → (why : KeptWhy) (word seen : ℕ)
+      → IsTakeCause w.layout.slots root halves headers known w.pages why word seen
+      → IsTakeCause v.layout.slots root halves headers later v.pages why word seen
+  cause_back known later w on same why word seen so =
+      subst (λ (xs : List Known). IsTakeCause v.layout.slots root halves headers xs v.pages why word seen) (sym same)
+      (subst (λ ps. IsTakeCause v.layout.slots root halves headers known ps why word seen) (pages_chained v w on)
+      (subst (λ (l : Layout). IsTakeCause l.slots root halves headers known w.pages why word seen) (layout_chained v w on) so))
 
   -- what is around a unit of work
   pub record IsAround (w : View) : Type 0 where
@@ -422,20 +415,24 @@ module _ (root : Root) (halves : List Half) (headers : List ℕ) (i j : ℕ) (pa
               let before = x.5 in absurd (omega (arith, before, index, first))
 
       by_done : ChainsOn v e → (d : Done) → HasDone root own j d v w → HasUndone own j d e z
-          → KeepsChain (IsTakeCause v.layout.slots root halves headers v.pages) k v z × KeepsReads h.slot e z
+          → KeepsChain (IsTakeCause v.layout.slots root halves headers z.known v.pages) k v z × KeepsReads h.slot e z
       by_done all Nothing s u =
-          subst (λ (y : View). KeepsChain (IsTakeCause v.layout.slots root halves headers v.pages) k v y × KeepsReads h.slot e y) (sym u)
-          (subst (λ (y : View). KeepsChain (IsTakeCause y.layout.slots root halves headers y.pages) k y e) s.0 h'.0, reads_self h.slot e)
+          subst (λ (y : View). KeepsChain (IsTakeCause v.layout.slots root halves headers y.known v.pages) k v y × KeepsReads h.slot e y)
+          (sym u)
+          (subst (λ (y : View). KeepsChain (IsTakeCause y.layout.slots root halves headers e.known y.pages) k y e) s.0 h'.0, reads_self h.slot e)
       by_done all Sealed s u = (
-        undone_sealed (IsTakeCause w.layout.slots root halves headers w.pages) (IsTakeCause v.layout.slots root halves headers v.pages) k own
+        undone_sealed (IsTakeCause w.layout.slots root halves headers e.known w.pages)
+            (IsTakeCause v.layout.slots root halves headers z.known v.pages) k own
             (page_at e.layout.slots h.slot 0) split_header v w e z s.0 (low_seals s.2) h'.0 u
-            (cause_back w s.0.on k.why k.word k.seen),
+            (cause_back e.known z.known w s.0.on (ap (λ (y : View). y.known) u) k.why k.word k.seen),
         reads_more h.slot 0 (page_at e.layout.slots h.slot 0) split_header e e z (omega arith) refl (reads_self h.slot e)
             (ap (λ (y : View). y.reads) u),
       )
       by_done all Headed s u = (
-        undone_headed (IsTakeCause w.layout.slots root halves headers w.pages) (IsTakeCause v.layout.slots root halves headers v.pages) k own
-            (page_at e.layout.slots h.slot 0) n v w e z s.0 (low_heads s.2) h'.0 u (cause_back w s.0.on k.why k.word k.seen),
+        undone_headed (IsTakeCause w.layout.slots root halves headers e.known w.pages)
+            (IsTakeCause v.layout.slots root halves headers z.known v.pages) k own
+            (page_at e.layout.slots h.slot 0) n v w e z s.0 (low_heads s.2) h'.0 u
+            (cause_back e.known z.known w s.0.on (ap (λ (y : View). y.known) u) k.why k.word k.seen),
         reads_more h.slot 0 (page_at e.layout.slots h.slot 0) n e e z (omega arith) refl (reads_self h.slot e)
             (ap (λ (y : View). y.reads) u),
       )
@@ -448,9 +445,9 @@ module _ (root : Root) (halves : List Half) (headers : List ℕ) (i j : ℕ) (pa
           let tree = tree_chained h.slot (root.target).page (span_in (keys_in root) h) v e all own_tree in
           let at = page_at e.layout.slots h.slot (17 + 3 * r) in
           let is : z ≡ reopened key at word e = opened_is key at word e z tree.idle (u r s.1) in (
-            undone_recorded (IsTakeCause w.layout.slots root halves headers w.pages)
-                (IsTakeCause v.layout.slots root halves headers v.pages) k root own r at word key v w e z s.4 h'.0 is
-                (cause_back w s.4.on k.why k.word k.seen),
+            undone_recorded (IsTakeCause w.layout.slots root halves headers e.known w.pages)
+                (IsTakeCause v.layout.slots root halves headers z.known v.pages) k root own r at word key v w e z s.4 h'.0 is
+                (cause_back e.known z.known w s.4.on (ap (λ (y : View). y.known) is) k.why k.word k.seen),
             reads_more h.slot (17 + 3 * r) at word e e z (omega (arith, few, next, low)) refl (reads_self h.slot e)
                 (ap (λ (y : View). y.reads) is),
           )

@@ -1,5 +1,5 @@
 -- A chain was dropped, or kept: what leaving its pages asks.
-use Rattle.std.proofs.Common.{◌≡◌, ℕ, suc, ◌+◌, ◌<◌, ◌≤◌, true, false, List, [], ◌∷◌, ◌++◌, length, refl, sym, ap, ◌∙◌, subst, arith}
+use Rattle.std.proofs.Common.{◌≡◌, ℕ, suc, ◌+◌, ◌<◌, true, false, List, [], ◌∷◌, ◌++◌, length, refl, sym, ap, ◌∙◌, subst}
 use Rattle.std.specs.Prelude.{Err, Ok, replicate}
 use Rattle.drop_core.specs.Table.{has_slot}
 use Rattle.engine_rule.specs.JointState.{keeps_word}

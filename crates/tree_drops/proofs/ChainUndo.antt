@@ -1,10 +1,9 @@
 -- What was locked of a chain is opened again where the chain is kept, the last first.
-use Rattle.std.proofs.Common.{◌≡◌, ◌⊎◌, inl, inr, ℕ, suc, ◌+◌, ◌*◌, ◌<◌, ◌≤◌, Bool, true, false, true≢false, cond, eqb, eq-eqb, eqb-true}
-use Rattle.std.proofs.Common.{ne_eqb, not, List, [], ◌∷◌, ◌++◌, filter, refl, sym, ap, ◌∙◌, subst, arith, Some}
-use Rattle.std.specs.List.{Contains, slice_get}
+use Rattle.std.proofs.Common.{◌≡◌, inl, ℕ, ◌+◌, Bool, true, false, cond, eqb, eq-eqb}
+use Rattle.std.proofs.Common.{ne_eqb, not, List, [], ◌∷◌, ◌++◌, filter, refl, sym, ap, ◌∙◌, subst, arith}
+use Rattle.std.specs.List.{Contains}
 use Rattle.lists.specs.Elements.{in_head, in_push_new, in_tail}
 use Rattle.serial_model.specs.declared.key.Key.{Key}
-use Rattle.homes.specs.declared.places.Span.{Span}
 use Rattle.homes.specs.Homes.{has_key, same_key}
 use Rattle.commit_core.specs.CoreState.{can_begin}
 use Rattle.drop_core.specs.Event.{without}
@@ -16,15 +15,13 @@ use Rattle.engine_pages.specs.declared.view.View.{View}
 use Rattle.engine_pages.specs.Slots.{other_heads}
 use Rattle.engine_pages.specs.Words.{spot}
 use Rattle.page_records.specs.Locks.{not_at, took_at, CanOpenAgain}
-use Rattle.tree_heads.specs.Headers.{open_word}
-use Rattle.tree_heads.specs.Heads.{CanOpenHeader, head_opened}
-use Rattle.chain_steps.specs.Seals.{CanUnseal, unsealed_at}
+use Rattle.tree_heads.specs.Heads.{head_opened}
+use Rattle.chain_steps.specs.Seals.{unsealed_at}
 use Rattle.page_drops.specs.declared.noting.Kept.{Kept}
 use Rattle.page_drops.proofs.Holds.{without_first}
 use Rattle.tree_drops.specs.declared.taking.ChainPage.{ChainPage}
 use Rattle.tree_drops.specs.declared.taking.Root.{Root}
-use Rattle.tree_drops.specs.Chains.{ChainLooks, ChainsOn, HoldsSame, KeepsChain, NotedFor}
-use Rattle.tree_drops.specs.Leaves.{IsNew}
+use Rattle.tree_drops.specs.Chains.{ChainLooks, ChainsOn, KeepsChain, NotedFor}
 use Rattle.tree_drops.specs.Taking.{HasHeadedPage, HasRecorded, HasSealedPage}
 use Rattle.tree_drops.proofs.Chaining.{chains_then, holds_then}
 use Rattle.tree_drops.proofs.KeyLists.{locks_back, took_back}

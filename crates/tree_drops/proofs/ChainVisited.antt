@@ -1,34 +1,29 @@
 -- A chain was gone over, and its slots are left: what the visit of its pointer comes to.
-use Rattle.std.proofs.Common.{◌≡◌, ◌≢◌, ◌⊎◌, inl, inr, ℕ, ◌+◌, ◌^◌, ◌≤◌, Bool, true, false, true≢false, cond, eqb, eqb-true}
+use Rattle.std.proofs.Common.{◌≡◌, ◌≢◌, inl, inr, ℕ, ◌+◌, true, false, true≢false, eqb}
 use Rattle.std.proofs.Common.{List, [], ◌∷◌, ◌++◌, Some, refl, sym, ap, ◌∙◌, subst, arith}
-use Rattle.std.proofs.lemmas.List.{append-nil, append_assoc, reverse-append}
+use Rattle.std.proofs.lemmas.List.{append-nil, reverse-append}
 use Rattle.std.proofs.lemmas.List.Elements.{Contains-append_cases, Contains-append_left, Contains-append_right}
-use Rattle.std.specs.Prelude.{◌||◌, not, reverse}
-use Rattle.std.specs.List.{Contains, filter}
-use Rattle.lists.specs.Elements.{in_cases, in_head, in_none, in_tail}
-use Rattle.lists.specs.Fronts.{IsFront, front_refl, front_then}
+use Rattle.std.specs.Prelude.{reverse}
+use Rattle.std.specs.List.{Contains}
+use Rattle.lists.specs.Elements.{in_cases, in_head, in_none}
 use Rattle.homes.specs.declared.places.At.{At}
 use Rattle.homes.specs.declared.places.Span.{Span}
 use Rattle.drop_core.specs.declared.grip.Grip.{Grip}
 use Rattle.drop_core.specs.Event.{without}
 use Rattle.drop_core.specs.Table.{has_slot}
 use Rattle.engine_pages.specs.declared.layout.Layout.{Layout}
-use Rattle.engine_pages.specs.declared.view.Inner.{Inner}
-use Rattle.engine_pages.specs.declared.view.KeptPage.{KeptPage}
-use Rattle.engine_pages.specs.declared.view.Lead.{Lead}
 use Rattle.engine_pages.specs.declared.view.View.{View}
-use Rattle.engine_pages.specs.Slots.{left, other_shuts, other_ways}
+use Rattle.engine_pages.specs.Slots.{other_ways}
 use Rattle.page_drops.specs.declared.calls.Dropped.{Dropped}
 use Rattle.page_drops.specs.declared.visits.Held.{Held}
-use Rattle.page_drops.specs.Calls.{GoesIn, HasIn, IsElsewhere, slots_on}
+use Rattle.page_drops.specs.Calls.{HasIn, IsElsewhere, slots_on}
 use Rattle.page_drops.specs.Visits.{dropped_here, note_here, swing_here}
-use Rattle.page_drops.specs.Works.{read_of, IsOutside, SawMore}
-use Rattle.page_drops.proofs.Holds.{as_held, ways_first, without_first}
-use Rattle.page_drops.proofs.Sights.{saw_same, saw_then}
+use Rattle.page_drops.specs.Works.{read_of, IsOutside}
+use Rattle.page_drops.proofs.Holds.{ways_first, without_first}
 use Rattle.tree_drops.specs.Turns.{page_met, HasEndedChain}
-use Rattle.tree_drops.specs.Visits.{AreMet, CanVisit, GoesOver, HasTallied, HasVisited, IsCapped, KeepsInners, MetPages}
+use Rattle.tree_drops.specs.Visits.{AreMet, CanVisit, GoesOver, HasVisited, KeepsInners, MetPages}
 use Rattle.tree_drops.specs.Visits.{WasPage, dropped_in, notes_in, slots_in, swings_in}
-use Rattle.tree_drops.proofs.Overs.{as_went, held_over, layout_over, over_then}
+use Rattle.tree_drops.proofs.Overs.{layout_over}
 use Rattle.tree_drops.proofs.Ends.{out_in, out_left, out_over, out_then, over_out, or_false, or_true, filter_in, tallied_as}
 
 module _ (x : At) (sp : Span) (at page epoch : ℕ) (held : Held) (old new : Dropped) (v a w : View) (can : CanVisit x sp at page epoch v)
@@ -136,6 +131,7 @@ module _ (x : At) (sp : Span) (at page epoch : ℕ) (held : Held) (old new : Dro
           ),
         );
         under = subst (λ n. AreMet n epoch w.pages under) slots h.under;
+        notes = h.notes;
         over = over;
         kept = ap (λ (z : View). z.kept) h.leaves
             ∙ (h.kept

@@ -1,22 +1,17 @@
 -- Work on a chain, step by step.
-use Rattle.std.proofs.Common.{◌≡◌, inl, inr, ℕ, ◌+◌, ◌≤◌, [], ◌∷◌, ◌++◌, refl, sym, ap, ◌∙◌, subst, arith}
-use Rattle.std.specs.List.{Contains}
+use Rattle.std.proofs.Common.{◌≡◌, inl, inr, ℕ, ◌+◌, [], ◌∷◌, ◌++◌, refl, sym, ap, ◌∙◌, subst, arith}
 use Rattle.homes.specs.declared.places.Span.{Span}
-use Rattle.drop_core.specs.declared.grip.Grip.{Grip}
 use Rattle.engine_pages.specs.declared.layout.Layout.{Layout}
-use Rattle.engine_pages.specs.declared.view.KeptPage.{KeptPage}
 use Rattle.engine_pages.specs.declared.view.KeptWhy.{KeptWhy}
 use Rattle.engine_pages.specs.declared.view.View.{View}
-use Rattle.engine_pages.specs.declared.view.Way.{Way}
 use Rattle.engine_pages.specs.Pages.{is_tree}
 use Rattle.engine_pages.specs.Steps.{read_at}
 use Rattle.dual_pointer.specs.Copies.{IsLeadOf}
 use Rattle.tree_heads.specs.Headers.{IsTreeAt}
 use Rattle.page_drops.specs.declared.noting.Kept.{Kept}
-use Rattle.page_drops.specs.Calls.{IsNoteOf}
 use Rattle.page_drops.specs.Works.{note_of, noted, HasGlanced, IsNoted}
 use Rattle.tree_drops.specs.Belows.{HasGoneBelow}
-use Rattle.tree_drops.specs.Chains.{ChainLooks, Chaining, ChainsOn, HoldsSame, KeepsChain, NotedFor, OnlyChains}
+use Rattle.tree_drops.specs.Chains.{ChainLooks, Chaining, ChainsOn, HoldsSame, KeepsChain, OnlyChains}
 use Rattle.tree_drops.specs.Leaves.{AtTree, KnowsKeys}
 use Rattle.tree_drops.specs.Works.{KeepsIt, LooksOn, OnlyLooks, WorksOn}
 

@@ -245,6 +245,7 @@ module _ (x : At) (sp : Span) (at page epoch : ℕ) (held : Held) (old new : Dro
           ),
         );
         under = subst (λ n. AreMet n epoch w.pages under) slots h.under;
+        notes = h.notes;
         over = over;
         kept = ap (λ (z : View). z.kept) h.leaves
             ∙ (h.done.kept

@@ -1,5 +1,5 @@
 -- What the pass knows of interior pages, while it looks at a pointer and holds the slot.
-use Rattle.std.proofs.Common.{◌≡◌, ℕ, Bool, true, false, true≢false, eqb, sym, ap, ◌∙◌, subst, refl}
+use Rattle.std.proofs.Common.{◌≡◌, ℕ, Bool, true, false, true≢false, eqb, sym, ap, ◌∙◌, subst}
 use Rattle.std.specs.Prelude.{MatchBool}
 use Rattle.std.specs.List.{Contains}
 use Rattle.drop_core.specs.Table.{has_slot}

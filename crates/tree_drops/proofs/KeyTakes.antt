@@ -1,13 +1,11 @@
 -- One record of a leaf of a chain is compared with what the snapshot has for its key, and locked.
-use Rattle.std.proofs.Common.{◌≡◌, ◌≢◌, ◌⊎◌, inl, inr, ℕ, suc, ◌+◌, ◌*◌, ◌<◌, ◌≤◌, true, List, [], ◌∷◌, ◌++◌, length, Some, refl, sym, ap, ◌∙◌, subst, arith}
+use Rattle.std.proofs.Common.{◌≡◌, ◌≢◌, inl, inr, ℕ, suc, ◌+◌, ◌*◌, ◌<◌, ◌≤◌, true, List, [], ◌∷◌, ◌++◌, Some, refl, sym, ap, ◌∙◌, subst, arith}
 use Rattle.std.specs.Prelude.{Err, Ok}
 use Rattle.std.specs.List.{Contains, slice_get}
-use Rattle.lists.specs.Elements.{at_below}
 use Rattle.serial_model.specs.declared.key.Key.{Key}
 use Rattle.homes.specs.declared.places.Span.{Span}
 use Rattle.homes.specs.Homes.{has_key, in_span}
 use Rattle.homes.specs.Laws.{in_span-parts}
-use Rattle.snapshot_store.specs.Places.{Found}
 use Rattle.snapshot_store.specs.TreePages.{record_for}
 use Rattle.engine_pages.specs.declared.layout.Layout.{Layout}
 use Rattle.engine_pages.specs.declared.view.KeptWhy.{KeptWhy}
@@ -18,10 +16,8 @@ use Rattle.engine_pages.specs.Layout.{page_at}
 use Rattle.engine_pages.specs.Words.{spot}
 use Rattle.dual_pointer.specs.Installs.{tree_records}
 use Rattle.page_records.specs.Locks.{took_at}
-use Rattle.tree_heads.specs.Headers.{count_of, moved_bit}
+use Rattle.tree_heads.specs.Headers.{count_of}
 use Rattle.chain_steps.specs.Below.{IsStoredIn}
-use Rattle.chain_steps.specs.Swings.{IsLockedBelow}
-use Rattle.pointer_swings.specs.TreeSwings.{IsTreeLockedAs}
 use Rattle.page_drops.specs.declared.noting.Kept.{Kept}
 use Rattle.page_drops.specs.Works.{locked_at, HasGlanced, KeepsReads}
 use Rattle.page_drops.proofs.Entries.{reads_same, reads_then}
@@ -30,13 +26,13 @@ use Rattle.tree_drops.specs.declared.taking.ChainPage.{ChainPage}
 use Rattle.tree_drops.specs.declared.taking.Done.TheVariants.{Recorded}
 use Rattle.tree_drops.specs.declared.taking.Root.{Root}
 use Rattle.tree_drops.specs.Belows.{CanGoBelow, HasGoneBelow, HasMisshapen, IsLeafFor}
-use Rattle.tree_drops.specs.Chains.{KeepsChain, OnlyChains}
+use Rattle.tree_drops.specs.Chains.{OnlyChains}
 use Rattle.tree_drops.specs.Leaves.{AtTree, HasCompared, HasCount, HasTaken, IsKeyOf, IsNew, IsRecordCause, IsUntaken, KeptForHeader, KnowsKeys}
-use Rattle.tree_drops.specs.Taking.{keys_in, CanTakeKey, HasRecorded, HasWorked, IsPageCause}
-use Rattle.tree_drops.specs.Works.{KeepsIt, OnlyLooks}
+use Rattle.tree_drops.specs.Taking.{keys_in, CanTakeKey, HasWorked, IsPageCause}
+use Rattle.tree_drops.specs.Works.{KeepsIt}
 use Rattle.tree_drops.proofs.BelowLaws.{leaf_for_keys}
 use Rattle.tree_drops.proofs.Chaining.{chained_below, chained_glanced, chained_looked, chained_then, chains_then, chains_worked}
-use Rattle.tree_drops.proofs.Chaining.{holds_then, holds_worked, keeps_chain, keeps_later, lead_chained, sealed_worked, tree_chained}
+use Rattle.tree_drops.proofs.Chaining.{holds_then, holds_worked, keeps_chain, keeps_later, sealed_worked, tree_chained}
 use Rattle.tree_drops.proofs.KeyLists.{has_at}
 
 module _ (root : Root) (page : ChainPage) (r : ℕ) (v a : View) (can : CanTakeKey root page r v) (glanced : HasGlanced v a) (key : Key)

@@ -1,5 +1,5 @@
 -- A key of a leaf of a chain, as a leaf of the snapshot is looked up for it.
-use Rattle.std.proofs.Common.{◌≡◌, ℕ, zero, suc, ◌-◌, ◌<◌, ◌≤◌, Bool, true, false, ltb, ltb-true, ltb-false, List, Option, Some, None, refl, subst, arith}
+use Rattle.std.proofs.Common.{◌≡◌, ℕ, zero, suc, ◌-◌, ◌≤◌, Bool, true, false, ltb, ltb-true, ltb-false, List, Option, Some, None, refl, subst, arith}
 use Rattle.std.specs.List.{slice_get}
 use Rattle.serial_model.specs.declared.key.Key.{Key}
 use Rattle.homes.specs.declared.places.Span.{Span}

@@ -54,3 +54,5 @@ pub mod SwungAway
 pub mod TakenFrom
 pub mod ChainTold
 pub mod KeyUnits
+pub mod Lefts
+pub mod Notings

@@ -35,7 +35,7 @@ use Rattle.page_drops.specs.Calls.{GoesOver as DropsOver, HasIn, HasNone, IsCaus
 use Rattle.page_drops.specs.Visits.{dropped_here, note_here, IsSightBefore}
 use Rattle.page_drops.specs.Works.{read_of, HasGlanced, KeepsReadsBut}
 use Rattle.tree_drops.specs.declared.visits.Opened.{Opened}
-use Rattle.tree_drops.specs.Branches.{CanDropBranchFrom, HasChild, HasDroppedBranch, IsBranchCauseBelow, IsParted, KeepsBranch}
+use Rattle.tree_drops.specs.Branches.{AreLeft, AreLeftFor, CanDropBranchFrom, HasChild, HasDroppedBranch, IsBranchCauseBelow, IsParted, KeepsBranch}
 use Rattle.tree_drops.specs.Leaves.{KnowsKeys}
 use Rattle.tree_drops.specs.Turns.{page_met, CanGoFrom, CanWork, HasClosed, HasEnded, HasEndedPage, HasFinished}
 use Rattle.tree_drops.specs.Turns.{HasTakenLeaf, IsChildTarget, IsOpened, KnowsParts, LooksIn}
@@ -46,6 +46,7 @@ use Rattle.tree_drops.proofs.Asks.{branch_over, can_child, go_over}
 use Rattle.tree_drops.proofs.ChainVisited.{visited_chain}
 use Rattle.tree_drops.proofs.Ends.{tallied_as, visited_ended}
 use Rattle.tree_drops.proofs.Finishes.{branch_dropped, branch_kept, PartedNote}
+use Rattle.tree_drops.proofs.Notings.{none_below}
 use Rattle.tree_drops.proofs.Overs.{looks_children, looks_glanced, looks_goes, looks_header, looks_then, looks_twins, over_self}
 use Rattle.tree_drops.proofs.Rows.{row_looked, tallied_none}
 
@@ -169,6 +170,7 @@ module _ (sp : Span) (at page epoch t : ℕ) (old new : Dropped) (note : Option 
     there = there;
     was = was;
     under = tt;
+    notes = none_below w (page_met at sp page t note);
     counts = counts_as;
   }
 
@@ -203,23 +205,26 @@ ended_taken sp at page epoch t old new (Err k) v b c w looks there leave taken o
     ended_leaf sp at page epoch t old new (Some taken.0) v b c w looks there leave (kept taken.0 taken.1) taken.2
 
 -- either answer of the work on an interior page
-pub closed_by : (x : At) (sp : Span) (at page epoch t word : ℕ) (old new : Dropped) (r : Result (Unit {0}) Kept) (v c w : View)
+pub closed_by : (x : At) (sp : Span) (at page epoch t word count : ℕ) (old new : Dropped) (r : Result (Unit {0}) Kept) (v c w : View)
     → CanWork x sp at t page word epoch v → KeepsReadsBut t at v c → OnOk r (HasDroppedBranch t at page v c)
     → IfErr r (λ k. KeepsBranch (IsBranchCauseBelow v.layout.slots t sp v.pages page at word) k v c)
-    → IfErr r (λ k. TellsPointer at word k v c) → w ≡ left t c → OnOk r (HasTallied old 1 [] new)
-    → IfErr r (λ k. (note : KeptPage) → IsNoteOf k note → HasTallied old 0 (note ∷ []) new) → HasClosed sp at page t old v new w
-closed_by x sp at page epoch t word old new (Ok u) v c w can reads drops keeps tells leave one kept = record {
+    → IfErr r (λ k. TellsPointer at word k v c) → OnOk r (AreLeft None t sp page count 0 v c)
+    → IfErr r (λ k. AreLeftFor t sp page count 0 k v c) → w ≡ left t c → OnOk r (HasTallied old 1 [] new)
+    → IfErr r (λ k. (note : KeptPage) → IsNoteOf k note → HasTallied old 0 (note ∷ []) new) → HasClosed sp at page t count old v new w
+closed_by x sp at page epoch t word count old new (Ok u) v c w can reads drops keeps tells lefts later leave one kept = record {
   note = None;
   mid = c;
   done = branch_dropped x sp at t page word epoch v c can reads drops;
+  lefts = lefts;
   leaves = leave;
   counts = one;
 }
-closed_by x sp at page epoch t word old new (Err k) v c w can reads drops keeps tells leave one kept =
+closed_by x sp at page epoch t word count old new (Err k) v c w can reads drops keeps tells lefts later leave one kept =
     let h = branch_kept x sp at t page word epoch v c can reads k keeps tells in record {
       note = Some h.0;
       mid = c;
       done = h.2;
+      lefts = subst (λ (p : KeptPage). AreLeft (Some (p.word, p.seen)) t sp page count 0 v c) (sym h.1) later.0;
       leaves = leave;
       counts = kept h.0 h.1;
     }
@@ -249,6 +254,7 @@ visited_none x sp at page epoch old v w can few none inn = record {
   noted = record { read = none.read.0; is = none.read.1; sight = none.read.2 };
   met = inl (refl, refl, λ k is. absurd (cc));
   under = tt;
+  notes = none_below w (record { at = at; span = sp; page = page; slot = None; half = None; kept = None });
   over = over_gone v w none.over;
   kept = none.kept ∙ sym (append-nil v.kept);
   gone = none.gone;
@@ -293,6 +299,7 @@ module _ (x : At) (sp : Span) (at page epoch : ℕ) (old new : Dropped) (k : Kep
               (why, word, omega (arith, same, high)),
         );
         under = tt;
+        notes = none_below w (record { at = at; span = sp; page = page; slot = None; half = None; kept = Some note });
         over = over_gone v w keeps.over;
         kept = keeps.kept.is;
         gone = gone;
@@ -339,6 +346,7 @@ module _ (x : At) (sp : Span) (at page epoch : ℕ) (old new : Dropped) (k : Kep
           ),
         );
         under = tt;
+        notes = none_below w (page_met at sp page t (Some note));
         over = over_gone v w keeps.over;
         kept = keeps.kept.is;
         gone = gone;

@@ -1,5 +1,5 @@
 -- A page of a tree is gone into: what is asked of its kind, and what comes of it.
-use Rattle.std.proofs.Common.{◌≡◌, ◌≢◌, ◌⊎◌, inl, inr, ℕ, ◌^◌, ◌<◌, ◌≤◌, Bool, true, false, [], ◌∷◌, ◌++◌, Some, refl, sym, ap, ◌∙◌, length}
+use Rattle.std.proofs.Common.{◌≡◌, ◌≢◌, ◌⊎◌, inl, inr, ℕ, ◌^◌, ◌<◌, ◌≤◌, Bool, true, false, [], ◌∷◌, ◌++◌, Some, refl, sym, ap, ◌∙◌}
 use Rattle.std.proofs.Common.{subst, arith}
 use Rattle.std.proofs.lemmas.Bool.Decides.{nat_tests}
 use Rattle.std.specs.List.{Contains}
@@ -63,6 +63,7 @@ chain_looked_then sp at page epoch t old new v u w looks held h =
       there = h.there;
       was = subst (λ (l : Layout). WasPage l.slots t epoch h.pages (page_met at sp page t h.note) h.below) layout h.was;
       under = subst (λ (l : Layout). AreMet l.slots epoch w.pages h.below) layout h.under;
+      notes = h.notes;
       counts = h.counts;
     }
 

@@ -1,16 +1,17 @@
 -- The pointers of an interior page of a tree are gone over, each with all below it.
-use Rattle.std.proofs.Common.{◌≡◌, inl, inr, ℕ, zero, suc, ◌+◌, ◌<◌, ◌≤◌, true, false, List, [], ◌∷◌, ◌++◌, length}
+use Rattle.std.proofs.Common.{◌≡◌, ◌≢◌, inl, inr, ℕ, zero, suc, ◌+◌, ◌<◌, ◌≤◌, Bool, true, false, true≢false, cond, eqb, eq-eqb, ne_eqb, List, [], ◌∷◌, ◌++◌, length}
 use Rattle.std.proofs.Common.{Some, None, refl, sym, ap, ◌∙◌, subst, arith}
 use Rattle.std.proofs.lemmas.List.{append-nil, append_assoc, length-append, reverse-append}
 use Rattle.std.proofs.lemmas.List.Elements.{Contains-append_cases, Contains-append_left, Contains-append_right}
-use Rattle.std.specs.Prelude.{reverse, slice_get}
+use Rattle.std.specs.Prelude.{reverse, slice_get, ⊤, ◌||◌}
 use Rattle.std.specs.List.{Contains}
 use Rattle.lists.specs.Elements.{in_cases, in_head, in_none, in_tail}
-use Rattle.lists.specs.Fronts.{IsFront, front_length, front_then}
+use Rattle.lists.specs.Fronts.{IsFront, front_length, front_refl, front_then}
 use Rattle.homes.specs.declared.places.At.{At}
 use Rattle.homes.specs.declared.places.Span.{Span}
 use Rattle.snapshot_store.specs.declared.place.PagePlace.{PagePlace}
 use Rattle.snapshot_store.specs.TreePages.{tree_format}
+use Rattle.drop_core.specs.declared.grip.Grip.{Grip}
 use Rattle.drop_core.specs.Table.{has_slot}
 use Rattle.engine_pages.specs.declared.layout.Layout.{Layout}
 use Rattle.engine_pages.specs.declared.view.KeptPage.{KeptPage}
@@ -22,17 +23,20 @@ use Rattle.engine_pages.proofs.Named.{page_longer}
 use Rattle.pointer_swings.specs.Children.{keys_of}
 use Rattle.page_drops.specs.declared.calls.Dropped.{Dropped}
 use Rattle.page_drops.specs.Calls.{IsElsewhere}
-use Rattle.page_drops.specs.Visits.{dropped_here, note_here, slot_here, swing_here}
+use Rattle.page_drops.specs.Visits.{dropped_here, note_here, slot_here, swing_here, times}
 use Rattle.page_drops.specs.Works.{read_of, IsOutside}
 use Rattle.page_drops.proofs.Belows.{held_apart}
 use Rattle.page_drops.proofs.Counts.{first_none, first_then}
+use Rattle.page_drops.proofs.Stays.{Goes, Spares, times_append, times_in, times_reverse}
 use Rattle.tree_drops.specs.declared.branches.Branch.{Branch}
 use Rattle.tree_drops.specs.declared.visits.Opened.{Opened}
 use Rattle.tree_drops.specs.declared.visits.Target.{Target}
-use Rattle.tree_drops.specs.Turns.{page_met, CanGoFrom, HasClosed, HasEnded, HasGoneFrom, IsChildTarget, IsInside, IsRow, LooksIn}
-use Rattle.tree_drops.specs.Visits.{AreMet, CanVisit, GoesOver, HasTallied, HasVisited, IsCapped, IsFew, IsMet, IsNoted, MetPage, MetPages}
+use Rattle.tree_drops.specs.Branches.{IsLeft}
+use Rattle.tree_drops.specs.Turns.{page_met, word_of_note, CanGoFrom, HasClosed, HasEnded, HasGoneFrom, IsChildTarget, IsInside, IsRow, LooksIn}
+use Rattle.tree_drops.specs.Visits.{AreMet, AreNoted, IsNotedUnder, CanVisit, GoesOver, HasTallied, HasVisited, IsCapped, IsFew, IsMet, IsNoted, MetPage, MetPages}
 use Rattle.tree_drops.specs.Visits.{NoPages, PageThen, WasPage, dropped_in, met_at, notes_in, row_length, slots_in, swings_in}
-use Rattle.tree_drops.proofs.Ends.{capped_few, capped_then, tallied_as, visited_ended}
+use Rattle.tree_drops.proofs.Ends.{capped_few, capped_then, or_false, tallied_as, visited_ended}
+use Rattle.tree_drops.proofs.Notings.{met_less, noted_left, notes_stay, under_stays}
 use Rattle.tree_drops.proofs.Overs.{held_over, inners_then, layout_over, over_self, over_then}
 
 -- ---- what was met stays met
@@ -80,6 +84,30 @@ tallied_few a b d xs h = record {
   kept = capped_few (a.kept + length xs) b.kept h.kept;
 }
 
+-- ---- words of pages
+
+pub same_place : (slots t u j i : ℕ) → j < 64 → i < 64 → page_at slots t j ≡ page_at slots u i → t ≡ u
+same_place slots t u j i less fits is = omega (arith, less, fits, is)
+
+-- slots that were left before, and none of which is left behind that more than once
+pub spared_rest : (t : ℕ) (ts own : List ℕ) (u w : View) → w.gone ≡ reverse ts ++ u.gone
+    → ((s : ℕ) → Contains own s → 1 ≤ times s u.gone) → ((s : ℕ) → Contains own s → s ≡ t → ⊥)
+    → Spares (λ word. IsElsewhere u.layout.slots (t ∷ ts) word) u w own
+spared_rest t ts own u w went before apart s has once =
+    let sum : times s w.gone ≡ times s (reverse ts) + times s u.gone =
+    ap (times s) went ∙ times_append s (reverse ts) u.gone in
+    let back = times_reverse s ts in
+    let first = before s has in
+    let none : times s ts ≡ 0 = omega (arith, sum, back, first, once) in (
+      omega (arith, sum, back, first, once),
+      λ j less k there i fits is.
+          let same = same_place u.layout.slots s k j i less fits is in
+          elim (in_cases k t ts there) [
+            | inl own ↦ absurd (apart s has (same ∙ sym own))
+            | inr more ↦ let one = times_in s ts (subst (Contains ts) (sym same) more) in absurd (omega (arith, one, none))
+          ],
+    )
+
 -- ---- rows
 
 -- none was met
@@ -122,6 +150,7 @@ gone_none t page count epoch sp n old v end few = record {
   before = λ j less. refl;
   noted = λ j c under at. absurd (cc);
   are = tt;
+  notes = tt;
   row = record {
     over = over_self v;
     kept = sym (append-nil v.kept);
@@ -321,6 +350,34 @@ module _ (t page count epoch n : ℕ) (sp : Span) (target : Target) (old mid new
         ),
       )
 
+  -- what is noted below the page that was met here stays so
+  abbrev Elsewhere : ℕ → Type 0
+  Elsewhere word = IsElsewhere u.layout.slots (t ∷ slots_in rest.met) word
+
+  goes_on : Goes Elsewhere u w
+  goes_on = record {
+    layout = layout_over u w rest.row.over;
+    front = rest.row.over.front;
+    reads = λ word out. rest.row.others word out;
+  }
+
+  -- its slots were left, and no later one is one of these
+  spared_here : Spares Elsewhere u w own
+  spared_here =
+      spared_rest t (slots_in rest.met) own u w rest.row.gone
+      (λ s has.
+      let in_gone = times_reverse s own in
+      let one = times_in s own has in
+      let sum : times s u.gone ≡ times s (reverse own) + times s b.gone =
+      ap (times s) visit.gone ∙ times_append s (reverse own) b.gone in omega (arith, in_gone, one, sum))
+      (λ s has same. true≢false (sym (held_over t true v b child.looks.over can.held)
+      ∙ (ap (λ i. has_slot b.grip.holds i) (sym same) ∙ visit.fresh s has)))
+
+  notes_all : AreNoted w met
+  notes_all =
+      let h = notes_stay Elsewhere u w goes_on (PageThen visit.here visit.below NoPages) spared_here visit.notes in
+      (h.0, (h.1.0, rest.notes))
+
   pub gone_next : HasGoneFrom t sp page count epoch n old v new w
   gone_next = record {
     met = met;
@@ -330,6 +387,7 @@ module _ (t page count epoch n : ℕ) (sp : Span) (target : Target) (old mid new
     before = before_it;
     noted = noted_all;
     are = are_all;
+    notes = notes_all;
     row = record {
       over = over_then v u w first rest.row.over;
       kept = kept_all;
@@ -351,7 +409,7 @@ module _ (t page count epoch n : ℕ) (sp : Span) (target : Target) (old mid new
 
 module _ (x : At) (sp : Span) (at page epoch : ℕ) (found : Opened) (old mid new : Dropped) (v u m w : View)
     (can : CanVisit x sp at page epoch v) (i : IsInside sp at page found v u)
-    (gone : HasGoneFrom found.slot sp page found.count epoch 0 old u mid m) (close : HasClosed sp at page found.slot mid m new w) where
+    (gone : HasGoneFrom found.slot sp page found.count epoch 0 old u mid m) (close : HasClosed sp at page found.slot found.count mid m new w) where
   abbrev t : ℕ
   t = found.slot
 
@@ -392,6 +450,98 @@ module _ (x : At) (sp : Span) (at page epoch : ℕ) (found : Opened) (old mid ne
   layout_e : i.entered.layout ≡ m.layout
   layout_e = sym (layout_over i.entered m own_row.over)
 
+  -- ---- what is noted below it
+
+  held_here : has_slot u.grip.holds t ≡ true
+  held_here =
+      ap (λ (z : View). has_slot z.grip.holds t) i.opened.looks.over.went
+      ∙ (ap (λ (g : Grip). has_slot g.holds t) i.inside.grip
+      ∙ ap (λ (b : Bool). b || has_slot v.grip.holds t) (eq-eqb i.held.slot t (sym i.opened.slot)))
+
+  -- words outside of the page, but for the pointer above
+  abbrev Beyond : ℕ → Type 0
+  Beyond word = (word ≢ at) × IsOutside m.layout.slots t word
+
+  goes_out : Goes Beyond m w
+  goes_out = record {
+    layout = ap (λ (z : View). z.layout) close.leaves ∙ layout_over m close.mid close.done.over;
+    front = subst (λ (z : View). IsFront m.pages z.pages) (sym close.leaves) close.done.over.front;
+    reads = λ word out. ap (λ (z : View). read_of z.reads word) close.leaves ∙ close.done.others word out.0 out.1;
+  }
+
+  gone_out : w.gone ≡ t ∷ m.gone
+  gone_out = ap (λ (z : View). z.gone) close.leaves ∙ ap (λ (l : List ℕ). t ∷ l) close.done.gone
+
+  -- a slot below is none that was held, so it isn't the page's, nor that of the page where the pointer above stands
+  apart_below : (s : ℕ) → Contains (slots_in gone.met) s → (s ≡ t → ⊥) × (has_slot v.grip.holds s ≡ false)
+  apart_below s has =
+      let fresh = gone.row.fresh s has in
+      let now : has_slot u.grip.holds s ≡ (eqb i.held.slot s || has_slot v.grip.holds s) =
+      ap (λ (z : View). has_slot z.grip.holds s) i.opened.looks.over.went ∙ ap (λ (g : Grip). has_slot g.holds s) i.inside.grip in (
+        λ same. true≢false (sym held_here ∙ (ap (λ k. has_slot u.grip.holds k) (sym same) ∙ fresh)),
+        or_false (eqb i.held.slot s) (has_slot v.grip.holds s) (sym now ∙ fresh),
+      )
+
+  layout_v : m.layout ≡ v.layout
+  layout_v =
+      layout_m
+      ∙ (layout_over i.entered u i.opened.looks.over ∙ ap (λ (z : View). z.layout) i.inside.over.went)
+
+  spared_below : Spares Beyond m w (slots_in gone.met)
+  spared_below s has once =
+      let far = apart_below s has in
+      let sum : times s w.gone ≡ cond (eqb s t) 1 0 + times s m.gone = ap (times s) gone_out in
+      let none : ◌≡◌ {A = ℕ} (cond (eqb s t) 1 0) 0 = ap (λ (b : Bool). cond b 1 0) (ne_eqb s t far.0) in (
+        omega (arith, sum, none, once),
+        λ j less. (
+          λ is.
+              can.apart s far.1 j less
+              (sym is ∙ ap (λ (l : Layout). page_at l.slots s j) layout_v),
+          λ k fits is. far.0 (same_place m.layout.slots s t j k less fits is),
+        ),
+      )
+
+  -- a pointer of the page is noted, as it was closed
+  noted_child : (j : ℕ) (c : MetPage) (under : MetPages) → met_at j gone.met ≡ Some (c, under)
+      → ((k : ℕ) × (k < 64) × (c.at ≡ page_at w.layout.slots t k)) × IsNotedUnder close.note w c
+  noted_child j c under has =
+      let r = gone.each j c under has in
+      let less = met_less gone.met j (c, under) has in
+      let long = gone.long in
+      let few = i.opened.opened.at.few in
+      let index : 0 + j ≡ j = omega arith in
+      let place : c.at ≡ page_at m.layout.slots t (4 + j) =
+      subst (λ k. c.at ≡ page_at u.layout.slots t (4 + k)) index r.2 ∙ ap (λ (l : Layout). page_at l.slots t (4 + j)) (sym layout_m) in
+      let there : slice_get (tree_below m.pages sp page) j ≡ Some r.0 =
+      ap (λ l. slice_get l j) places ∙ subst (λ k. slice_get (tree_below u.pages sp page) k ≡ Some r.0) index r.1 in
+      let left = close.lefts j r.0 (omega arith) (omega (arith, less, long)) there in
+      let as_met : IsLeft (word_of_note close.note) c.at c.page m close.mid =
+      subst (λ k. IsLeft (word_of_note close.note) k c.page m close.mid) (sym place)
+      (subst (λ k. IsLeft (word_of_note close.note) (page_at m.layout.slots t (4 + j)) k m close.mid) (sym r.4) left) in
+      let mid = noted_left close.note c m close.mid (gone.noted j c under has) as_met in (
+        (
+          4 + j,
+          omega (arith, less, long, few),
+          place ∙ ap (λ (l : Layout). page_at l.slots t (4 + j)) (sym goes_out.layout),
+        ),
+        under_stays (λ word. ⊤) close.mid w
+            record {
+              layout = ap (λ (z : View). z.layout) close.leaves;
+              front = subst (λ (z : View). IsFront close.mid.pages z.pages) (sym close.leaves) (front_refl close.mid.pages);
+              reads = λ word may. ap (λ (z : View). read_of z.reads word) close.leaves;
+            }
+            close.note c tt mid,
+      )
+
+  notes_closed : AreNoted w (PageThen (page_met at sp page t close.note) gone.met NoPages)
+  notes_closed = (
+    λ s slot j c under has whole.
+        let same : t ≡ s = let one : Some t ≡ Some s = slot in cc in
+        let h = noted_child j c under has in
+        (subst (λ k. (i : ℕ) × (i < 64) × (c.at ≡ page_at w.layout.slots k i)) same h.0, λ once. h.1),
+    (notes_stay Beyond m w goes_out gone.met spared_below gone.notes, tt),
+  )
+
   pub ended_branch : HasEnded sp at page epoch t old i.entered new w
   ended_branch =
       let left_pages : w.pages ≡ close.mid.pages = ap (λ (z : View). z.pages) close.leaves in
@@ -419,6 +569,7 @@ module _ (x : At) (sp : Span) (at page epoch : ℕ) (found : Opened) (old mid ne
         was = subst (λ (l : Layout). WasPage l.slots t epoch m.pages (page_met at sp page t close.note) gone.met) (sym layout_e) was_branch;
         under = subst (λ (l : Layout). AreMet l.slots epoch w.pages gone.met) (layout_m_e)
             (are_longer u.layout.slots epoch m.pages w.pages gone.met front gone.are);
+        notes = notes_closed;
         counts = tallied_then old mid new (dropped_in gone.met) (dropped_here (Some t) close.note) (notes_in gone.met)
             (note_here close.note) gone.counts close.counts;
       }

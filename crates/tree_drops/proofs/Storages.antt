@@ -1,9 +1,9 @@
 -- The roots of an engine, gone over for their trees, one after another.
-use Rattle.std.proofs.Common.{◌≡◌, inl, inr, ℕ, suc, ◌+◌, ◌-◌, ◌*◌, ◌^◌, ◌<◌, ◌≤◌, Bool, true, false, true≢false, eqb, eq-eqb, eqb-true}
+use Rattle.std.proofs.Common.{◌≡◌, inl, inr, ℕ, zero, suc, ◌+◌, ◌-◌, ◌*◌, ◌^◌, ◌<◌, ◌≤◌, Bool, true, false, true≢false, eqb, eq-eqb, eqb-true}
 use Rattle.std.proofs.Common.{List, [], ◌∷◌, ◌++◌, length, get_or, Option, Some, None, refl, sym, ap, ◌∙◌, subst, arith}
 use Rattle.std.proofs.lemmas.Bool.Decides.{nat_tests}
 use Rattle.std.proofs.lemmas.List.{append-nil, append_assoc, length-append, reverse-append}
-use Rattle.std.proofs.lemmas.List.Elements.{Contains-append_left}
+use Rattle.std.proofs.lemmas.List.Elements.{Contains-append_left, Contains-append_right}
 use Rattle.std.proofs.Math.ListN.{get_or-append}
 use Rattle.std.proofs.Math.Seq.{get_or-append_seam}
 use Rattle.std.specs.Prelude.{reverse, slice_get, ⊤}
@@ -35,13 +35,14 @@ use Rattle.page_drops.specs.Works.{read_of}
 use Rattle.page_drops.proofs.Alls.{IsOther, can_begun, in_all, root_apart, spared}
 use Rattle.page_drops.proofs.Counts.{root_few}
 use Rattle.page_drops.proofs.Roots.{decl_in, span_at}
-use Rattle.page_drops.proofs.Stays.{Goes, root_stays, times_in, times_reverse}
+use Rattle.page_drops.proofs.Stays.{Goes, Spares, root_stays, times_in, times_reverse}
 use Rattle.tree_drops.specs.Calls.{HasDroppedAll, HasGoneArrays, HasGoneOver, HasGoneTrees, HasVisitedTree, IsBegun, IsTreeMet}
 use Rattle.tree_drops.specs.Calls.{IsTreeRoot, MetTree, Grown, NoTree, dropped_trees, none_counted, notes_trees, row_of, slots_trees, swings_trees}
 use Rattle.tree_drops.specs.Visits.{AreMet, CanVisit, GoesOver, HasVisited, IsFew, IsMet}
 use Rattle.tree_drops.specs.Visits.{NoPages, PageThen, WentOver, dropped_in, notes_in, slots_in, swings_in}
 use Rattle.tree_drops.proofs.Asks.{bare_over}
 use Rattle.tree_drops.proofs.Ends.{tallied_as}
+use Rattle.tree_drops.proofs.Notings.{notes_stay}
 use Rattle.tree_drops.proofs.Overs.{layout_over, over_self, over_then}
 use Rattle.tree_drops.proofs.Rows.{are_longer, met_longer, tallied_few, tallied_then}
 
@@ -149,9 +150,10 @@ module _ (l : Layout) (r page epoch id at : ℕ) (o : Option ℕ) (sp : Span) (v
 -- ---- one more was gone over
 
 -- what was met at a root stays told, where its word is as it was
-root_met_stays : (u w : View) (roots : List ℕ) (r epoch : ℕ) (m : MetTree) → GoesOver u w
+root_met_stays : (P : ℕ → Type 0) (u w : View) (roots : List ℕ) (r epoch : ℕ) (m : MetTree) → GoesOver u w → Goes P u w
+    → Spares P u w (slots_in (row_of m))
     → read_of w.reads (root_at r) ≡ read_of u.reads (root_at r) → IsTreeMet u roots r epoch m → IsTreeMet w roots r epoch m
-root_met_stays u w roots r epoch (Grown m below) over same h =
+root_met_stays P u w roots r epoch (Grown m below) over goes spare same h =
     let layout : w.layout ≡ u.layout = layout_over u w over in record {
       tree = ap (λ (l : Layout). is_tree l.decls (root_span l.decls r).storage) layout ∙ h.tree;
       at = h.at;
@@ -167,10 +169,17 @@ root_met_stays u w roots r epoch (Grown m below) over same h =
           (met_longer u.layout.slots epoch u.pages w.pages m below over.front h.met);
       under = subst (λ (l : Layout). AreMet l.slots epoch w.pages below) (sym layout)
           (are_longer u.layout.slots epoch u.pages w.pages below over.front h.under);
+      notes = notes_stay P u w goes (PageThen m below NoPages) spare h.notes;
     }
-root_met_stays u w roots r epoch NoTree over same h =
+root_met_stays P u w roots r epoch NoTree over goes spare same h =
     let layout : w.layout ≡ u.layout = layout_over u w over in
     ap (λ (l : Layout). is_tree l.decls (root_span l.decls r).storage) layout ∙ h
+
+-- the slots of what was met at a root are among those of all
+in_trees : (xs : List MetTree) (r t : ℕ) → Contains (slots_in (row_of (get_or xs r NoTree))) t → Contains (slots_trees xs) t
+in_trees [] r t has = absurd (in_none t has)
+in_trees (x ∷ xs) zero t has = Contains-append_left (slots_in (row_of x)) (slots_trees xs) t has
+in_trees (x ∷ xs) (suc r) t has = Contains-append_right (slots_in (row_of x)) (slots_trees xs) t (in_trees xs r t has)
 
 -- a tree's root isn't an array's
 no_height : (decls : List Decl) (r last : ℕ) (sp : Span) → (root_span decls r).high ≡ 2 ^ 64 - 1 → sp ≡ root_span decls r
@@ -212,6 +221,13 @@ module _ (roots : List ℕ) (epoch n : ℕ) (old new : Dropped) (v u w : View) (
       let one = times_in t list (Contains-append_left (slots_all a.over.arrays) (slots_trees a.over.trees) t (all t has)) in
       let same : times t u.gone ≡ times t list = ap (times t) a.over.gone ∙ times_reverse t list in omega (arith, one, same)
 
+  left_tree : (own : List ℕ) → ((t : ℕ) → Contains own t → Contains (slots_trees a.over.trees) t) → (t : ℕ) → Contains own t
+      → 1 ≤ times t u.gone
+  left_tree own all t has =
+      let list = slots_all a.over.arrays ++ slots_trees a.over.trees in
+      let one = times_in t list (Contains-append_right (slots_all a.over.arrays) (slots_trees a.over.trees) t (all t has)) in
+      let same : times t u.gone ≡ times t list = ap (times t) a.over.gone ∙ times_reverse t list in omega (arith, one, same)
+
   old_array : (r : ℕ) → r < length roots → (b : Bool) → eqb r n ≡ b → IsRootTree w roots r (get_or a.over.arrays r LeftAlone)
   old_array r within true e =
       let same : r ≡ n = eqb-true r n e in
@@ -236,7 +252,10 @@ module _ (roots : List ℕ) (epoch n : ℕ) (old new : Dropped) (v u w : View) (
   old_tree : (r : ℕ) → r < n → IsTreeMet w roots r epoch (get_or a.over.trees r NoTree)
   old_tree r before =
       let apart = root_apart u.layout.slots r n ts before few in
-      root_met_stays u w roots r epoch (get_or a.over.trees r NoTree) h.over (h.others (root_at r) apart.0 apart.1)
+      let m = get_or a.over.trees r NoTree in
+      root_met_stays (IsOther u ts (root_at n)) u w roots r epoch m h.over goes
+      (spared ts u w n few h.gone (slots_in (row_of m)) (left_tree (slots_in (row_of m)) (λ t has. in_trees a.over.trees r t has)))
+      (h.others (root_at r) apart.0 apart.1)
       (a.over.tree r before)
 
   new_tree : IsTreeMet w roots n epoch now
@@ -249,6 +268,7 @@ module _ (roots : List ℕ) (epoch n : ℕ) (old new : Dropped) (v u w : View) (
     noted = h.noted;
     met = h.met;
     under = h.under;
+    notes = h.notes;
   }
 
   tree_at : (r : ℕ) (b : Bool) → eqb r n ≡ b → r < n + 1 → IsTreeMet w roots r epoch (get_or (a.over.trees ++ now ∷ []) r NoTree)
@@ -491,6 +511,9 @@ counted_tree roots r epoch c k u (Grown m below) h = record {
   noted = record { read = h.noted.read; is = h.noted.is; sight = h.noted.sight };
   met = h.met;
   under = h.under;
+  notes = notes_stay (λ (word : ℕ). ⊤) u (counted c k u)
+      record { layout = refl; front = front_refl u.pages; reads = λ word may. refl }
+      (PageThen m below NoPages) (λ t has once. (once, λ j less. tt)) h.notes;
 }
 counted_tree roots r epoch c k u NoTree h = h
 

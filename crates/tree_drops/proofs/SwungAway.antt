@@ -1,8 +1,7 @@
 -- The pointer is swung away from a chain all of which is locked, or was found to be another.
-use Rattle.std.proofs.Common.{◌≡◌, ◌≢◌, inl, inr, ℕ, suc, ◌*◌, ◌<◌, List, ◌∷◌, length, refl, sym, ap, ◌∙◌, subst, Some, eq-eqb, ne_eqb}
+use Rattle.std.proofs.Common.{◌≡◌, ◌≢◌, inl, inr, ℕ, suc, ◌*◌, ◌<◌, List, length, refl, sym, ap, ◌∙◌, subst, Some, eq-eqb, ne_eqb}
 use Rattle.std.specs.Prelude.{Err, Ok, MatchBool}
 use Rattle.std.specs.List.{Contains}
-use Rattle.serial_model.specs.declared.key.Key.{Key}
 use Rattle.homes.specs.declared.places.Span.{Span}
 use Rattle.engine_pages.specs.declared.view.Head.{Head}
 use Rattle.engine_pages.specs.declared.view.KeptWhy.TheVariants.{Changed}
@@ -11,7 +10,7 @@ use Rattle.engine_pages.specs.Layout.{words_of}
 use Rattle.engine_pages.specs.Steps.{kept_at, read_at}
 use Rattle.chain_steps.specs.declared.halves.Half.{Half}
 use Rattle.chain_steps.specs.Below.{IsStoredBelow}
-use Rattle.chain_steps.specs.Swings.{swung_chain, CanSwingChain, HasKeyIn, HasSwungChain}
+use Rattle.chain_steps.specs.Swings.{swung_chain, CanSwingChain, HasSwungChain}
 use Rattle.page_drops.specs.declared.noting.Kept.{Kept}
 use Rattle.page_drops.specs.Works.{read_of, HasSeenLast, HasTurnedFrom, IsNoted}
 use Rattle.page_drops.proofs.Dues.{turned_from}
@@ -106,7 +105,7 @@ module _ (root : Root) (halves : List Half) (headers : List ℕ) (v : View)
           → IsNoted k z y → HasTaken root halves headers (Err k) v y
       other_kept k y other told notes =
           let is = not_now other in (
-            keeps_noted (IsTakeCause v.layout.slots root halves headers v.pages) at n (Changed root.word) k v z y
+            keeps_noted (IsTakeCause v.layout.slots root halves headers y.known v.pages) at n (Changed root.word) k v z y
                 (chained_then v w z only (chained_read at n w z is)) told notes (inr (inr (inr (refl, refl, other)))),
             (
               inr (

@@ -1,24 +1,21 @@
 -- Units of work on a chain, one after another: what is locked behind each.
 use Rattle.std.proofs.Common.{◌≡◌, ◌⊎◌, inl, inr, ℕ, suc, ◌+◌, ◌*◌, ◌<◌, ◌≤◌, Bool, true, false, true≢false, cond, eqb, eq-eqb, eqb-true}
-use Rattle.std.proofs.Common.{List, [], ◌∷◌, ◌++◌, length, refl, sym, ap, ◌∙◌, subst, arith, Some}
+use Rattle.std.proofs.Common.{List, ◌∷◌, refl, sym, ap, ◌∙◌, subst, arith, Some}
 use Rattle.std.specs.Prelude.{◌||◌}
 use Rattle.std.specs.List.{Contains, slice_get}
-use Rattle.lists.specs.Elements.{at_below, in_cases, in_head, in_push_cases, in_push_new, in_push_old, in_tail}
+use Rattle.lists.specs.Elements.{at_below, in_cases, in_head, in_push_cases, in_push_old, in_tail}
 use Rattle.serial_model.specs.declared.key.Key.{Key}
 use Rattle.homes.specs.declared.places.Span.{Span}
 use Rattle.homes.specs.declared.places.Spot.{Spot}
 use Rattle.homes.specs.Homes.{has_key, in_span}
 use Rattle.homes.specs.Laws.{in_span-parts}
-use Rattle.commit_core.specs.Parts.{IsSameOrAbsent}
 use Rattle.drop_core.specs.Table.{has_slot}
-use Rattle.engine_pages.specs.declared.layout.Layout.{Layout}
 use Rattle.engine_pages.specs.declared.view.Head.{Head}
 use Rattle.engine_pages.specs.declared.view.Took.{Took}
 use Rattle.engine_pages.specs.declared.view.View.{View}
 use Rattle.engine_pages.specs.Layout.{page_at}
 use Rattle.engine_pages.specs.Pages.{decl_of, is_array, is_tree}
 use Rattle.engine_pages.specs.Pointers.{one_kind}
-use Rattle.engine_pages.specs.Resident.{found_content}
 use Rattle.engine_pages.specs.Steps.{seen_at}
 use Rattle.engine_pages.specs.Words.{spot}
 use Rattle.page_records.specs.Locks.{took_at}
@@ -28,10 +25,10 @@ use Rattle.chain_steps.specs.Below.{IsStoredIn}
 use Rattle.chain_steps.specs.Swings.{IsLockedBelow}
 use Rattle.tree_drops.specs.declared.taking.ChainPage.{ChainPage}
 use Rattle.tree_drops.specs.declared.taking.Root.{Root}
-use Rattle.tree_drops.specs.Chains.{span_in, ChainLooks, ChainsOn, OnlyChains}
+use Rattle.tree_drops.specs.Chains.{span_in, ChainLooks, ChainsOn}
 use Rattle.tree_drops.specs.Leaves.{AreKeys, IsNew, IsUntaken}
 use Rattle.tree_drops.specs.Taking.{keys_in, AreTaken, HasHeadedPage, HasRecorded, HasSealedPage, IsPageAt, IsTakenHead, IsTakenKey}
-use Rattle.tree_drops.specs.Taking.{IsThatPage, IsWholeChain}
+use Rattle.tree_drops.specs.Taking.{IsWholeChain}
 use Rattle.tree_drops.proofs.Chaining.{pages_chained, past_chained}
 use Rattle.tree_drops.proofs.KeyLists.{has_at, one_index, other_keys}
 use Rattle.tree_drops.proofs.Swung.{has_push}

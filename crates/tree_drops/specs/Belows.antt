@@ -1,9 +1,7 @@
 -- What a snapshot has for a key below a page that stands for the keys of a whole chain, and whether a chain has each of its
 -- keys.
-use Rattle.std.specs.Prelude.{◌≡◌, ◌≢◌, ℕ, ◌%◌, ◌^◌, ◌<◌, ◌≤◌, true, false, Bool, List, length, get_or, Option, Some, None, Contains}
-use Rattle.serial_model.specs.declared.key.Key.{Key}
+use Rattle.std.specs.Prelude.{◌≡◌, ℕ, ◌%◌, ◌^◌, ◌<◌, ◌≤◌, true, List, length, get_or, Option, Some, None, Contains}
 use Rattle.homes.specs.declared.places.Span.{Span}
-use Rattle.homes.specs.Homes.{in_span}
 use Rattle.snapshot_store.specs.Places.{Found, page as page_words}
 use Rattle.snapshot_store.specs.TreePages.{record_for}
 use Rattle.engine_pages.specs.declared.view.Lead.{Lead}

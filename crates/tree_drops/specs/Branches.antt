@@ -1,6 +1,6 @@
 -- What is compared and shut of an interior page of a tree.
 use Rattle.std.specs.Prelude.{◌≡◌, ◌≢◌, ◌⊎◌, ℕ, suc, ◌+◌, ◌/◌, ◌%◌, ◌^◌, ◌<◌, ◌≤◌, List, [], ◌∷◌, ◌++◌, length}
-use Rattle.std.specs.Prelude.{get_or, slice_get, Some, Contains}
+use Rattle.std.specs.Prelude.{get_or, slice_get, Option, Some, None, Contains}
 use Rattle.homes.specs.declared.places.At.{At}
 use Rattle.homes.specs.declared.places.Span.{Span}
 use Rattle.wire_form.specs.Leaves.{tree_fan}
@@ -20,12 +20,13 @@ use Rattle.engine_pages.specs.Pages.{part_between}
 use Rattle.engine_pages.specs.Pointers.{IsPointerAt, half_of}
 use Rattle.engine_pages.specs.Resident.{tree_below}
 use Rattle.engine_pages.specs.Slots.{other_copies, other_heads, other_inners, other_leaves}
-use Rattle.engine_pages.specs.Steps.{seen_at}
+use Rattle.engine_pages.specs.Steps.{seen_at, with_read}
 use Rattle.engine_pages.specs.Words.{separators_at}
 use Rattle.dual_pointer.specs.Copies.{IsLeadOf}
 use Rattle.pointer_swings.specs.Children.{IsPartOf, keys_of}
 use Rattle.pointer_swings.specs.Shuts.{shut_of}
 use Rattle.page_drops.specs.declared.noting.Kept.{Kept}
+use Rattle.page_drops.specs.Inner.{IsLaterNote, IsShutNote}
 use Rattle.page_drops.specs.Works.{read_of, HasKept, IsOutside}
 use Rattle.tree_drops.specs.Leaves.{AtTree}
 
@@ -207,3 +208,38 @@ pub record HasDroppedBranch (t at page : ℕ) (v w : View) : Type 0 where
   pub leads : (z : Lead) → Contains v.leads z → Contains w.leads z
   pub shuts : w.shuts ≡ []
   pub led : (r : Read) × (read_of w.reads at ≡ Some r) × (r.seen ≡ page) × (r.was ≡ seen_at v.reads at)
+
+-- ---- what was read of its pointers
+
+-- the pointer's word was left shut, with this page
+abbrev pub LeftShut : ℕ → ℕ → ℕ → View → View → Type 0
+LeftShut t j child v w = w.reads ≡ with_read v.reads (page_at v.layout.slots t (4 + j)) (child + 2 ^ 60)
+
+-- the page is kept for the pointer's word, which was found to be another
+pub record FoundOther (t j : ℕ) (k : Kept) (v w : View) : Type 0 where
+  pub word : k.word ≡ page_at v.layout.slots t (4 + j)
+  pub reads : w.reads ≡ with_read v.reads (page_at v.layout.slots t (4 + j)) k.seen
+
+-- The entry of the word here, of a pointer that leads to this page of the snapshot: it was shut with that; or the page was
+-- kept for this word, as it was seen.
+abbrev pub IsLeft : Option (ℕ × ℕ) → ℕ → ℕ → View → View → Type 0
+IsLeft None at child v w = IsShutNote (seen_at v.reads at) child (read_of w.reads at)
+IsLeft (Some x) at child v w = IsLaterNote x.0 x.1 at child (seen_at v.reads at) (read_of v.reads at) (read_of w.reads at)
+
+-- so the pointers from this one on were left, with the pages to which the snapshot's page leads
+abbrev pub AreLeft : Option (ℕ × ℕ) → ℕ → Span → ℕ → ℕ → ℕ → View → View → Type 0
+AreLeft kept t sp page count n v w = (j : ℕ) (q : PagePlace) → n ≤ j → j < count
+    → slice_get (tree_below v.pages sp page) j ≡ Some q → IsLeft kept (page_at v.layout.slots t (4 + j)) q.number v w
+
+-- those before this one are as they were
+abbrev pub KeepsFirst : ℕ → ℕ → View → View → Type 0
+KeepsFirst t n v w = (j : ℕ) → j < n
+    → read_of w.reads (page_at v.layout.slots t (4 + j)) ≡ read_of v.reads (page_at v.layout.slots t (4 + j))
+
+-- the page was kept for none of these
+abbrev pub IsBehind : ℕ → ℕ → Kept → View → Type 0
+IsBehind t n k v = (j : ℕ) → j < n → k.word ≢ page_at v.layout.slots t (4 + j)
+
+-- the page was kept, for none of the pointers before this one, and those from this one on were left so
+abbrev pub AreLeftFor : ℕ → Span → ℕ → ℕ → ℕ → Kept → View → View → Type 0
+AreLeftFor t sp page count n k v w = AreLeft (Some (k.word, k.seen)) t sp page count n v w × IsBehind t n k v

@@ -15,7 +15,7 @@ use Rattle.page_drops.specs.Calls.{GoesOver as DropsOver, HasGoneOver as HasGone
 use Rattle.page_drops.specs.Visits.{MetRoot, LeftAlone, IsRootTree}
 use Rattle.page_drops.specs.Works.{SawMore}
 use Rattle.tree_drops.specs.Visits.{MetPage, MetPages, NoPages, PageThen, dropped_in, notes_in, slots_in, swings_in}
-use Rattle.tree_drops.specs.Visits.{AreMet, GoesOver, HasTallied, HasVisited, IsMet, IsNoted}
+use Rattle.tree_drops.specs.Visits.{AreMet, AreNoted, GoesOver, HasTallied, HasVisited, IsMet, IsNoted}
 
 -- What was met at one storage's root: a tree's pages, or an array, which is left to page_drops.
 pub data MetTree : Type 0 where
@@ -57,6 +57,7 @@ pub record IsRootMet (w : View) (roots : List ℕ) (r epoch : ℕ) (m : MetPage)
   pub noted : IsNoted w m
   pub met : IsMet w.layout.slots epoch w.pages m below
   pub under : AreMet w.layout.slots epoch w.pages below
+  pub notes : AreNoted w (PageThen m below NoPages)
 
 -- what was met at the root with this index, if it is a tree's
 abbrev pub IsTreeMet : View → List ℕ → ℕ → ℕ → MetTree → Type 0

@@ -1,5 +1,5 @@
 -- Whether a leaf of a chain has a key, and what is told of the pages of a snapshot that stand for parts of its keys.
-use Rattle.std.specs.Prelude.{◌≡◌, ◌≢◌, ◌⊎◌, ℕ, suc, ◌+◌, ◌*◌, ◌/◌, ◌%◌, ◌^◌, ◌<◌, ◌≤◌, true, false, Bool, List, length, get_or}
+use Rattle.std.specs.Prelude.{◌≡◌, ◌≢◌, ◌⊎◌, ℕ, ◌+◌, ◌/◌, ◌%◌, ◌^◌, ◌<◌, ◌≤◌, true, false, Bool, List, length, get_or}
 use Rattle.std.specs.Prelude.{slice_get, Some, Contains, Result, Ok, Err}
 use Rattle.serial_model.specs.declared.key.Key.{Key}
 use Rattle.homes.specs.declared.places.Span.{Span}
@@ -70,28 +70,29 @@ IsCoveredOr root halves headers sp key false v = (sp.low ≤ key) × (key ≤ sp
 
 -- ---- why the snapshot isn't covered
 
--- The snapshot has a record of this key of the span, below the page with this number, and no leaf of the chain has it.
-pub record IsUncovered (root : Root) (halves : List Half) (headers : List ℕ) (pages : List (List ℕ)) (sp : Span) (page : ℕ)
-    : Type 0 where
+-- The snapshot has a record of this key of the span, below the page with this number, and no leaf of the chain has it,
+-- each of whose headers is locked.
+pub record IsUncovered (root : Root) (halves : List Half) (headers : List ℕ) (heads : List Head) (pages : List (List ℕ))
+    (sp : Span) (page : ℕ) : Type 0 where
   pub key : ℕ
   pub found : Found
   pub from : sp.low ≤ key
   pub to : key ≤ sp.high
   pub stored : IsStoredIn pages sp page key (Some found)
   pub none : (h : Half) → IsLeafOf root halves headers h → h.low ≤ key → key ≤ h.high
-      → (keys : List Key) × (has_key keys (key_in sp key) ≡ false)
+      → (x : Head) × Contains heads x × (x.slot ≡ h.slot) × (has_key x.keys (key_in sp key) ≡ false)
 
 -- the header of the chain's first page was seen, and so it is, or a page of the snapshot is misshapen
-pub record IsUncoveredCause (slots : ℕ) (root : Root) (halves : List Half) (headers : List ℕ) (pages : List (List ℕ)) (sp : Span)
-    (page : ℕ) (why : KeptWhy) (word : ℕ) : Type 0 where
+pub record IsUncoveredCause (slots : ℕ) (root : Root) (halves : List Half) (headers : List ℕ) (heads : List Head)
+    (pages : List (List ℕ)) (sp : Span) (page : ℕ) (why : KeptWhy) (word : ℕ) : Type 0 where
   pub unlike : why ≡ Unlike
   pub place : word ≡ page_at slots root.slot 0
-  pub cause : HasMisshapen pages ⊎ IsUncovered root halves headers pages sp page
+  pub cause : HasMisshapen pages ⊎ IsUncovered root halves headers heads pages sp page
 
 -- the chain is kept for it
 abbrev pub KeepsUncovered : Root → List Half → List ℕ → Span → ℕ → Kept → View → View → Type 0
 KeepsUncovered root halves headers sp page k v w =
-    KeepsChain (λ why word seen. IsUncoveredCause v.layout.slots root halves headers v.pages sp page why word) k v w
+    KeepsChain (λ why word seen. IsUncoveredCause v.layout.slots root halves headers v.heads v.pages sp page why word) k v w
     × (w.reads ≡ v.reads)
 
 -- ---- the records of a leaf

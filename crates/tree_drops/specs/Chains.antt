@@ -1,5 +1,5 @@
 -- What is asked and told of the pages of a chain that are held: a leaf of a tree that was split, and its halves.
-use Rattle.std.specs.Prelude.{◌≡◌, ◌≢◌, ◌⊎◌, ℕ, suc, ◌+◌, ◌*◌, ◌/◌, ◌%◌, ◌^◌, ◌<◌, ◌≤◌, true, false, List, [], ◌∷◌, ◌++◌, length}
+use Rattle.std.specs.Prelude.{◌≡◌, ◌≢◌, ◌⊎◌, ℕ, ◌+◌, ◌^◌, ◌<◌, ◌≤◌, true, false, List, [], ◌∷◌, ◌++◌, length}
 use Rattle.std.specs.Prelude.{◌-◌, ◌==◌, reverse, slice_get, if◌then◌else◌, Some, Contains, Result, Ok, Err, ⊤}
 use Rattle.lists.specs.Fronts.{IsFront}
 use Rattle.homes.specs.declared.places.Span.{Span}

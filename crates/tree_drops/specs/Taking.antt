@@ -1,6 +1,6 @@
 -- What is asked and told of a chain all pages of which are held: they are locked, one after another, as the snapshot has
 -- them, and the pointer is swung away from the first.
-use Rattle.std.specs.Prelude.{◌≡◌, ◌≢◌, ◌⊎◌, ℕ, suc, ◌+◌, ◌*◌, ◌%◌, ◌^◌, ◌<◌, ◌≤◌, true, false, List, [], ◌∷◌, ◌++◌, length}
+use Rattle.std.specs.Prelude.{◌≡◌, ◌≢◌, ◌⊎◌, ℕ, suc, ◌+◌, ◌*◌, ◌^◌, ◌<◌, ◌≤◌, true, false, List, [], ◌∷◌, ◌++◌, length}
 use Rattle.std.specs.Prelude.{slice_get, Some, Contains, Result, Ok, Err, ⊤}
 use Rattle.serial_model.specs.declared.key.Key.{Key}
 use Rattle.homes.specs.declared.places.Span.{Span}
@@ -8,6 +8,7 @@ use Rattle.homes.specs.Homes.{has_key, in_span}
 use Rattle.snapshot_store.specs.Places.{Found}
 use Rattle.drop_core.specs.Table.{has_slot}
 use Rattle.engine_pages.specs.declared.view.Head.{Head}
+use Rattle.engine_pages.specs.declared.view.Known.{Known}
 use Rattle.engine_pages.specs.declared.view.KeptWhy.{KeptWhy}
 use Rattle.engine_pages.specs.declared.view.KeptWhy.TheVariants.{Unlike, Changed}
 use Rattle.engine_pages.specs.declared.view.Moved.{Moved}
@@ -171,23 +172,31 @@ pub record IsLeafOf (root : Root) (halves : List Half) (headers : List ℕ) (h :
   pub page : IsPageAt root halves headers index h header
   pub leaf : header < moved_bit
 
--- a page of the snapshot was misshapen, or it has a record of a key that no leaf has, below the page with this number,
--- which stands for these keys
-pub record IsCoverCause (slots : ℕ) (root : Root) (halves : List Half) (headers : List ℕ) (pages : List (List ℕ)) (sp : Span)
-    (page : ℕ) (why : KeptWhy) (word : ℕ) : Type 0 where
+-- These are keys that a pass knows of leaves: of the one in the slot all, so many, and this key isn't one of them.
+pub record IsLacking (known : List Known) (t count : ℕ) (k : Key) : Type 0 where
+  pub leaf : Known
+  pub has : Contains known leaf
+  pub slot : leaf.slot ≡ t
+  pub all : length leaf.keys ≡ count
+  pub none : has_key leaf.keys k ≡ false
+
+-- A page of the snapshot was misshapen, or it has a record of a key that no leaf has, below the page with this number,
+-- which stands for these keys. What the pass knows of the leaves are these keys.
+pub record IsCoverCause (slots : ℕ) (root : Root) (halves : List Half) (headers : List ℕ) (known : List Known)
+    (pages : List (List ℕ)) (sp : Span) (page : ℕ) (why : KeptWhy) (word : ℕ) : Type 0 where
   pub unlike : why ≡ Unlike
   pub place : word ≡ page_at slots root.slot 0
   pub cause : HasMisshapen pages ⊎ ((key : ℕ) × (f : Found) × IsStoredIn pages sp page key (Some f)
-      × ((h : Half) → IsLeafOf root halves headers h → h.low ≤ key → key ≤ h.high
-      → (keys : List Key) × (has_key keys (record { storage = sp.storage; key = key }) ≡ false)))
+      × ((h : Half) (leaf : IsLeafOf root halves headers h) → h.low ≤ key → key ≤ h.high
+      → IsLacking known h.slot (count_of leaf.header) (record { storage = sp.storage; key = key })))
 
--- why a chain all of which is held was kept
-abbrev pub IsTakeCause : ℕ → Root → List Half → List ℕ → List (List ℕ) → KeptWhy → ℕ → ℕ → Type 0
-IsTakeCause slots root halves headers pages why word seen =
+-- why a chain all of which is held was kept, of whose leaves the pass knows these keys
+abbrev pub IsTakeCause : ℕ → Root → List Half → List ℕ → List Known → List (List ℕ) → KeptWhy → ℕ → ℕ → Type 0
+IsTakeCause slots root halves headers known pages why word seen =
     ((h : Half) × Contains (all_pages root halves) h × IsHeaderCause slots h.slot why word seen)
     ⊎ (((h : Half) × IsLeafOf root halves headers h × IsRecordKept slots h.slot (span_in (keys_in root) h) (keys_in root) pages
     (root.target).page (root.target).epoch why word seen)
-    ⊎ (IsCoverCause slots root halves headers pages (keys_in root) (root.target).page why word
+    ⊎ (IsCoverCause slots root halves headers known pages (keys_in root) (root.target).page why word
     ⊎ ((word ≡ (root.target).at) × (why ≡ Changed root.word) × (seen ≢ root.word))))
 
 -- what was read of words that stand in no page of the chain is as it was, but for the pointer's
@@ -339,7 +348,7 @@ Covers root halves sp page v = (d key : ℕ) (f : Found) → IsStoredBelow d v.p
 abbrev pub HasCovered : Root → List Half → List ℕ → Span → ℕ → Result (Unit {0}) Kept → View → View → Type 0
 HasCovered root halves headers sp page (Ok u) v w = OnlyChains v w × Covers root halves sp page v × (w.reads ≡ v.reads)
 HasCovered root halves headers sp page (Err k) v w =
-    KeepsChain (λ why word seen. IsCoverCause v.layout.slots root halves headers v.pages sp page why word) k v w
+    KeepsChain (λ why word seen. IsCoverCause v.layout.slots root halves headers w.known v.pages sp page why word) k v w
     × (w.reads ≡ v.reads)
 
 -- ---- all of it
@@ -348,5 +357,5 @@ HasCovered root halves headers sp page (Err k) v w =
 abbrev pub HasTaken : Root → List Half → List ℕ → Result (Unit {0}) Kept → View → View → Type 0
 HasTaken root halves headers (Ok u) v w = HasTakenChain root halves v w × KeepsBeside root halves v w
 HasTaken root halves headers (Err k) v w =
-    KeepsChain (IsTakeCause v.layout.slots root halves headers v.pages) k v w
+    KeepsChain (IsTakeCause v.layout.slots root halves headers w.known v.pages) k v w
     × (TellsPointer (root.target).at root.word k v w × KeepsBeside root halves v w)

@@ -1,6 +1,6 @@
 -- What the parts of a visit of a tree's pointer leave and tell.
 use Rattle.std.specs.Prelude.{◌≡◌, ◌≢◌, ◌⊎◌, ℕ, suc, ◌+◌, ◌<◌, ◌≤◌, List, [], ◌∷◌, ◌++◌, length, reverse, false, true, slice_get}
-use Rattle.std.specs.Prelude.{Option, Some, None, Contains, Result, Ok, Err, IfErr, OnOk, ⊤}
+use Rattle.std.specs.Prelude.{Option, Some, None, Contains, Result, Ok, Err, IfErr, OnOk, ⊤, option_map}
 use Rattle.lists.specs.Fronts.{IsFront}
 use Rattle.homes.specs.declared.places.At.{At}
 use Rattle.homes.specs.declared.places.Span.{Span}
@@ -29,9 +29,9 @@ use Rattle.page_drops.specs.Visits.{dropped_here, note_here, swing_here}
 use Rattle.page_drops.specs.Works.{read_of, HasGlanced, IsOutside, KeepsReads, KeepsReadsBut}
 use Rattle.tree_drops.specs.declared.visits.Opened.{Opened}
 use Rattle.tree_drops.specs.declared.visits.Target.{Target}
-use Rattle.tree_drops.specs.Branches.{AreAlike, AtBranch, IsInnerOf}
+use Rattle.tree_drops.specs.Branches.{AreAlike, AreLeft, AtBranch, IsInnerOf}
 use Rattle.tree_drops.specs.Leaves.{AtTree, CanDrop}
-use Rattle.tree_drops.specs.Visits.{CanVisit, MetPage, MetPages, AreMet, GoesOver, HasTallied, IsBranchKept, IsLeafKept}
+use Rattle.tree_drops.specs.Visits.{CanVisit, MetPage, MetPages, AreMet, AreNoted, NoPages, PageThen, GoesOver, HasTallied, IsBranchKept, IsLeafKept}
 use Rattle.tree_drops.specs.Visits.{IsNarrower, IsNoted, IsSight, KeepsInners, WasPage, dropped_in, met_at, notes_in, row_length}
 use Rattle.tree_drops.specs.Visits.{slots_in, swings_in}
 
@@ -110,6 +110,7 @@ pub record HasEnded (sp : Span) (at page epoch t : ℕ) (old : Dropped) (v : Vie
   pub there : page ≤ length pages
   pub was : WasPage v.layout.slots t epoch pages (page_met at sp page t note) below
   pub under : AreMet v.layout.slots epoch w.pages below
+  pub notes : AreNoted w (PageThen (page_met at sp page t note) below NoPages)
   pub counts : HasTallied old (dropped_in below + dropped_here (Some t) note) (notes_in below ++ note_here note) new
 
 -- A chain was worked on, to whose first page the pointer led, and all its slots are left: it was dropped, or kept, whole.
@@ -132,6 +133,7 @@ pub record HasEndedChain (sp : Span) (at page epoch t : ℕ) (old : Dropped) (v 
   pub there : page ≤ length pages
   pub was : WasPage v.layout.slots t epoch pages (page_met at sp page t note) below
   pub under : AreMet v.layout.slots epoch w.pages below
+  pub notes : AreNoted w (PageThen (page_met at sp page t note) below NoPages)
   pub counts : HasTallied old (dropped_in below + dropped_here (Some t) note) (notes_in below ++ note_here note) new
 
 -- a leaf was worked on: it was dropped, or else kept for this
@@ -203,11 +205,16 @@ pub record IsInside (sp : Span) (at page : ℕ) (found : Opened) (v w : View) : 
   pub inners : KeepsInners v entered
   pub opened : HasOpened sp page held.slot held.word found entered w
 
--- It was dropped, or kept for cause, and the slot is left.
-pub record HasClosed (sp : Span) (at page t : ℕ) (old : Dropped) (v : View) (new : Dropped) (w : View) : Type 0 where
+-- the word for which a page was kept, as it was seen
+abbrev pub word_of_note : Option KeptPage → Option (ℕ × ℕ)
+word_of_note note = option_map (λ (k : KeptPage). (k.word, k.seen)) note
+
+-- It was dropped, or kept for cause, each of its pointers was left so, and the slot is left.
+pub record HasClosed (sp : Span) (at page t count : ℕ) (old : Dropped) (v : View) (new : Dropped) (w : View) : Type 0 where
   pub note : Option KeptPage
   pub mid : View
   pub done : HasFinished (IsBranchKept v.layout.slots t sp v.pages page at) t at page note v mid
+  pub lefts : AreLeft (word_of_note note) t sp page count 0 v mid
   pub leaves : w ≡ left t mid
   pub counts : HasTallied old (dropped_here (Some t) note) (note_here note) new
 
@@ -250,5 +257,6 @@ pub record HasGoneFrom (t : ℕ) (sp : Span) (page count epoch n : ℕ) (old : D
   pub before : (j : ℕ) → j < n → read_of w.reads (page_at v.layout.slots t (4 + j)) ≡ read_of v.reads (page_at v.layout.slots t (4 + j))
   pub noted : (j : ℕ) (c : MetPage) (under : MetPages) → met_at j met ≡ Some (c, under) → IsNoted w c
   pub are : AreMet v.layout.slots epoch w.pages met
+  pub notes : AreNoted w met
   pub row : IsRow t met v w
   pub counts : HasTallied old (dropped_in met) (notes_in met) new

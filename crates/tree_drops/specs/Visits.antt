@@ -1,5 +1,5 @@
 -- What a call tells that goes over the pages of a tree: each pointer that it met, once, with what was met below it.
-use Rattle.std.specs.Prelude.{◌≡◌, ◌≢◌, ◌⊎◌, ℕ, zero, suc, ◌+◌, ◌*◌, ◌/◌, ◌%◌, ◌^◌, ◌<◌, ◌≤◌, List, [], ◌++◌, length, reverse, get_or}
+use Rattle.std.specs.Prelude.{◌≡◌, ◌≢◌, ◌⊎◌, ℕ, zero, suc, ◌+◌, ◌/◌, ◌%◌, ◌^◌, ◌<◌, ◌≤◌, List, [], ◌++◌, length, reverse, get_or}
 use Rattle.std.specs.Prelude.{false, true, slice_get, Option, Some, None, Contains, ⊤}
 use Rattle.lists.specs.Fronts.{IsFront}
 use Rattle.serial_model.specs.declared.key.Key.{Key}
@@ -27,7 +27,7 @@ use Rattle.pointer_swings.specs.Children.{keys_of}
 use Rattle.chain_steps.specs.Below.{IsStoredIn}
 use Rattle.page_drops.specs.declared.calls.Dropped.{Dropped}
 use Rattle.page_drops.specs.Calls.{IsBare, IsFirst, KeepsOtherReads}
-use Rattle.page_drops.specs.Visits.{LeadsSo, dropped_here, note_here, slot_here, swing_here}
+use Rattle.page_drops.specs.Visits.{LeadsSo, dropped_here, note_here, slot_here, swing_here, times}
 use Rattle.page_drops.specs.Works.{read_of, IsOutside, SawMore}
 use Rattle.tree_drops.specs.Branches.{IsBranchCause, IsParted}
 use Rattle.tree_drops.specs.Leaves.{IsLeafCause, IsRecordCause}
@@ -103,6 +103,46 @@ pub record IsNoted (w : View) (m : MetPage) : Type 0 where
   pub read : Read
   pub is : read_of w.reads m.at ≡ Some read
   pub sight : IsSight m.slot m.kept m.at m.page read
+
+-- ---- how pointers below a page were seen
+
+-- How a pointer's word was seen before it was shut, or found to be another.
+abbrev pub WasSight : Option ℕ → Option KeptPage → ℕ → ℕ → ℕ → Type 0
+WasSight None None at page n = n < 2 ^ 32
+WasSight None (Some k) at page n = (k.why ≡ Locked) × (k.word ≡ at) × (k.seen ≡ n) × (2 ^ 60 ≤ n)
+WasSight (Some t) None at page n = n ≡ page
+WasSight (Some t) (Some k) at page n = LeadsSo t page n ⊎ ((k.word ≡ at) × ((expected : ℕ) × (k.why ≡ Changed expected)
+    × (half_of expected ≡ Some t) × (n ≢ expected)))
+
+-- it was seen so before
+abbrev pub WasSeenSo : MetPage → Read → Type 0
+WasSeenSo m r = (n : ℕ) × (r.was ≡ Some n) × WasSight m.slot m.kept m.at m.page n
+
+-- What the view has of the word of a pointer in a page that was kept for this word. Where that word is the pointer's, it
+-- tells how it was found, and how it was seen before; of another pointer it tells how it was seen, or that it was shut
+-- with the newest snapshot's page, and opened again.
+abbrev pub IsSightUnder : KeptPage → MetPage → Read → Type 0
+IsSightUnder k m r = (IsSight m.slot m.kept m.at m.page r × (k.word ≢ m.at))
+    ⊎ (((k.word ≡ m.at) × (k.seen ≡ r.seen) × WasSeenSo m r)
+    ⊎ ((r.seen ≡ m.page) × (r.was ≡ Some (m.page + 2 ^ 60)) × (k.word ≢ m.at)))
+
+-- And of one in a page that was dropped: it was seen so, and found to lead where the newest snapshot's page leads, and
+-- was shut.
+abbrev pub IsNotedUnder : Option KeptPage → View → MetPage → Type 0
+IsNotedUnder None w m = (r : Read) × (read_of w.reads m.at ≡ Some r) × (r.seen ≡ m.page + 2 ^ 60) × WasSeenSo m r
+IsNotedUnder (Some k) w m = (r : Read) × (read_of w.reads m.at ≡ Some r) × IsSightUnder k m r
+
+-- Each pointer that was met below the page of this slot is one of its words, and if the slot was left once in the call,
+-- the view has it so. The halves of a leaf that was split are below it by no pointer of its page.
+abbrev pub AreNotedIn : View → ℕ → Option KeptPage → MetPages → Type 0
+AreNotedIn w t kept below = (j : ℕ) (c : MetPage) (under : MetPages) → met_at j below ≡ Some (c, under) → c.half ≡ None
+    → ((i : ℕ) × (i < 64) × (c.at ≡ page_at w.layout.slots t i)) × (times t w.gone ≡ 1 → IsNotedUnder kept w c)
+
+-- so they are below each page
+abbrev pub AreNoted : View → MetPages → Type 0
+AreNoted w NoPages = ⊤
+AreNoted w (PageThen m below more) = ((t : ℕ) → m.slot ≡ Some t → AreNotedIn w t m.kept below)
+    × (AreNoted w below × AreNoted w more)
 
 -- ---- what pages were
 
@@ -265,9 +305,10 @@ pub record IsHalfMet (t : ℕ) (m : MetPage) (below : MetPages) (j : ℕ) (c : M
   pub from : m.span.low ≤ c.span.low
   pub to : c.span.high ≤ m.span.high
 
--- A leaf that was split, with all halves below it, one after another: a chain. It is dropped whole, by one swing of the
--- pointer, or kept whole.
+-- A leaf that was split, with all halves below it, one after another: a chain, in as many slots as it has pages. It is
+-- dropped whole, by one swing of the pointer, or kept whole.
 pub record WasSplit (slots t epoch : ℕ) (pages : List (List ℕ)) (m : MetPage) (below : MetPages) : Type 0 where
+  pub once : (u : ℕ) → times u (slots_in (PageThen m below NoPages)) ≤ 1
   pub each : (j : ℕ) (c : MetPage) (under : MetPages) → met_at j below ≡ Some (c, under) → IsHalfMet t m below j c under
   pub halved : m.kept ≡ None → (2 ≤ row_length below) × (row_length below < 63)
   pub cause : (k : KeptPage) → m.kept ≡ Some k
@@ -393,6 +434,7 @@ pub record HasVisited (sp : Span) (at page epoch : ℕ) (old : Dropped) (v : Vie
   pub noted : IsNoted w here
   pub met : IsMet w.layout.slots epoch w.pages here below
   pub under : AreMet w.layout.slots epoch w.pages below
+  pub notes : AreNoted w (PageThen here below NoPages)
   pub over : GoesOver v w
   pub kept : w.kept ≡ v.kept ++ notes_in (PageThen here below NoPages)
   pub gone : w.gone ≡ reverse (slots_in (PageThen here below NoPages)) ++ v.gone

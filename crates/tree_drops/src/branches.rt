@@ -1,5 +1,5 @@
 // An interior page of a tree is compared with a snapshot's, shut, and taken out of memory.
-ghost use Rattle.std.specs.Prelude.{◌≡◌, ◌<◌, ℕ, suc, [], get_or, slice_get, Some, Contains, IfErr, OnOk};
+ghost use Rattle.std.specs.Prelude.{◌≡◌, ◌<◌, ℕ, suc, [], get_or, slice_get, Some, None, Contains, IfErr, OnOk};
 ghost use Rattle.drop_core.specs.Table.{at_index};
 ghost use Rattle.engine_pages.specs.declared.view.Shut.{Shut};
 ghost use Rattle.snapshot_store.specs.declared.place.PagePlace.{PagePlace};
@@ -8,7 +8,9 @@ ghost use Rattle.engine_pages.specs.Pages.{part_between, part_high, part_low};
 ghost use Rattle.engine_pages.specs.Passes.{view, IsPassOf};
 ghost use Rattle.page_drops.specs.Works.{HasGlanced, KeepsReads, KeepsReadsBut};
 ghost use Rattle.snapshot_store.specs.Places.{page as page_words};
-ghost use Rattle.tree_drops.specs.Branches.{AreAlike, AtBranch, CanDropBranchFrom, HasChild, HasDroppedBranch};
+ghost use Rattle.page_drops.specs.Calls.{KeepsAllBut};
+ghost use Rattle.tree_drops.specs.Branches.{AreAlike, AreLeft, AreLeftFor, AtBranch, CanDropBranchFrom, FoundOther, HasChild};
+ghost use Rattle.tree_drops.specs.Branches.{HasDroppedBranch, KeepsFirst, LeftShut};
 ghost use Rattle.tree_drops.specs.Branches.{IsBranchCause, IsBranchCauseBelow, IsInnerOf, IsParted, KeepsBranch, HasShut};
 ghost use Rattle.tree_drops.specs.Works.{TellsPointer};
 
@@ -165,6 +167,11 @@ pub(crate) fn drop_branch_from(
         branch.span (view pass.old).pages branch.page pointer.at pointer.word) k (view pass.old) (view pass.new)) }
     ensures tells { IfErr result (λ k. TellsPointer pointer.at pointer.word k (view pass.old) (view pass.new)) }
     ensures reads { KeepsReadsBut branch.slot pointer.at (view pass.old) (view pass.new) }
+    ensures lefts { OnOk result (AreLeft None branch.slot branch.span branch.page branch.count index (view pass.old)
+        (view pass.new)) }
+    ensures later { IfErr result (λ k. AreLeftFor branch.slot branch.span branch.page branch.count index k
+        (view pass.old) (view pass.new)) }
+    ensures first { KeepsFirst branch.slot index (view pass.old) (view pass.new) }
 {
     if index == branch.count {
         return swing_away(engine, pass, pointer, branch);
@@ -207,6 +214,8 @@ fn shut_child(
     ensures keeps { IfErr result (λ k. KeepsBranch (IsBranchCause (view pass.old).layout.slots branch.slot branch.span
         (view pass.old).pages branch.page) k (view pass.old) (view pass.new)) }
     ensures reads { KeepsReads branch.slot (view pass.old) (view pass.new) }
+    ensures left { OnOk result (LeftShut branch.slot index child (view pass.old) (view pass.new)) }
+    ensures found { IfErr result (λ k. FoundOther branch.slot index k (view pass.old) (view pass.new)) }
 {
     let place = At::In(Spot {
         slot: branch.slot,
@@ -246,6 +255,8 @@ fn swing_away(
         branch.span (view pass.old).pages branch.page pointer.at pointer.word) k (view pass.old) (view pass.new)) }
     ensures tells { IfErr result (λ k. TellsPointer pointer.at pointer.word k (view pass.old) (view pass.new)) }
     ensures reads { KeepsReadsBut branch.slot pointer.at (view pass.old) (view pass.new) }
+    ensures others { KeepsAllBut pointer.at (view pass.old) (view pass.new) }
+    ensures above { IfErr result (λ k. k.word ≡ pointer.at) }
 {
     let at = pointer.at;
     let word = pointer.word;

@@ -1,5 +1,5 @@
 // The pages of a chain are held: a leaf of a tree that was split, with all halves that came of it.
-ghost use Rattle.std.specs.Prelude.{◌≡◌, ◌⊎◌, ℕ, suc, ◌+◌, ◌^◌, ◌<◌, ◌≤◌, List, [], length, Some, Contains, IfOk, MatchBool};
+ghost use Rattle.std.specs.Prelude.{◌≡◌, ◌⊎◌, ℕ, suc, ◌+◌, ◌<◌, ◌≤◌, List, [], length, Some, Contains, IfOk, MatchBool};
 ghost use Rattle.homes.specs.declared.places.Span.{Span as Keys};
 ghost use Rattle.engine_pages.specs.declared.view.View.{View};
 ghost use Rattle.engine_pages.specs.Layout.{page_at};

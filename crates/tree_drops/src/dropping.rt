@@ -1,9 +1,8 @@
 // A leaf of a tree that is what the snapshot has is taken out of memory.
-ghost use Rattle.std.specs.Prelude.{◌≡◌, ◌^◌, ◌+◌, ◌<◌, ◌≤◌, length, IfErr, OnOk};
+ghost use Rattle.std.specs.Prelude.{◌≡◌, ◌^◌, ◌<◌, IfErr, OnOk};
 ghost use Rattle.engine_pages.specs.Passes.{view, IsPassOf};
 ghost use Rattle.page_drops.specs.Works.{KeepsReadsBut};
 ghost use Rattle.tree_heads.specs.Headers.{count_of, kind_of};
-ghost use Rattle.tree_heads.specs.Heads.{head_opened};
 ghost use Rattle.tree_drops.specs.Leaves.{CanDrop, CanDropFrom, HasCount, HasDropped, IsCauseBelow, KnowsKeys};
 ghost use Rattle.tree_drops.specs.Works.{IsSeenAt, KeepsIt, TellsPointer};
 

@@ -1,6 +1,5 @@
 // A leaf of a tree is compared with a snapshot's, record by record.
-ghost use Rattle.std.specs.Prelude.{◌≡◌, ℕ, ◌+◌, ◌<◌, ◌≤◌, true, false, length, Contains, IfErr, IfOk, OnOk, MatchBool};
-ghost use Rattle.serial_model.specs.declared.key.Key.{Key};
+ghost use Rattle.std.specs.Prelude.{◌≡◌, ℕ, ◌<◌, ◌≤◌, true, Contains, IfErr, OnOk};
 ghost use Rattle.homes.specs.Homes.{has_key};
 ghost use Rattle.dual_pointer.specs.Installs.{tree_records};
 ghost use Rattle.engine_pages.specs.Passes.{view, IsPassOf};

@@ -1,11 +1,11 @@
 // All pages of a chain are locked, one after another, as the snapshot has them, and the pointer is swung away from it.
-ghost use Rattle.std.specs.Prelude.{◌≡◌, ◌+◌, ◌*◌, ◌^◌, ◌<◌, ◌≤◌, suc, length, Some, Contains};
+ghost use Rattle.std.specs.Prelude.{◌≡◌, ◌*◌, ◌^◌, ◌<◌, ◌≤◌, suc, length, Some, Contains};
 ghost use Rattle.engine_pages.specs.declared.view.Moved.{Moved};
 ghost use Rattle.engine_pages.specs.declared.view.Role.TheVariants.{Keeper};
 ghost use Rattle.engine_pages.specs.Layout.{page_at};
 ghost use Rattle.engine_pages.specs.Passes.{view, IsPassOf};
 ghost use Rattle.engine_pages.specs.Steps.{seen_at};
-ghost use Rattle.tree_heads.specs.Headers.{count_of, kind_of, moved_bit, IsTreeAt};
+ghost use Rattle.tree_heads.specs.Headers.{count_of, kind_of, IsTreeAt};
 ghost use Rattle.tree_drops.specs.Chains.{split_header};
 ghost use Rattle.tree_drops.specs.Leaves.{AtTree, KeptForHeader};
 ghost use Rattle.tree_drops.specs.Taking.{CanTake, CanTakeKey, CanUndo, CanWorkOn, HasTaken, HasUndone, HasWorked, IsThatPage};

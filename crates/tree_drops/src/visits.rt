@@ -303,7 +303,7 @@ fn close(
     requires opened { IsOpened opened.slot target.span target.page opened.count (view pass.old) }
     requires few { IsFew before }
     ensures of { IsPassOf engine.now pass.new }
-    ensures closes { HasClosed target.span target.at target.page opened.slot before (view pass.old) result (view pass.new) }
+    ensures closes { HasClosed target.span target.at target.page opened.slot opened.count before (view pass.old) result (view pass.new) }
 {
     let branch = Branch {
         slot: opened.slot,

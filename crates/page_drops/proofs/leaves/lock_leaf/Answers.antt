@@ -1,8 +1,7 @@
-use Rattle.std.proofs.Common.{◌+◌, arith}
+use Rattle.std.proofs.Common.{arith}
 use Rattle.engine_pages.specs.Passes.{view}
 use Rattle.snapshot_store.specs.Places.{page as page_words}
-use Rattle.pointer_swings.specs.Swings.{key_in}
-use Rattle.page_drops.specs.Leaves.{HasMoved, HasRow, LocksOne, MetOne}
+use Rattle.page_drops.specs.Leaves.{LocksNext, MetOne}
 use Rattle.page_drops.specs.Works.{IsLeafCause, IsSeenStill, KeepsLeaf}
 use Rattle.page_drops.proofs.Looks.{layout_worked, leaf_worked, worked_then}
 use Rattle.page_drops.proofs.Entries.{reads_self, reads_then, still_behind}
@@ -79,20 +78,17 @@ loop-index-preserved c =
     let v = view c.args.pass.now in
     let u = view c.loop-index.pass in
     let w = view c.lock_record.new.pass in
-    record {
+    let one = ok_told c.lock_record.result
+    (LocksNext c.args.leaf.slot c.args.leaf.span (page_words u.pages c.args.leaf.page) c.loop-index.index u w)
+    c.lock_record.ensures.locks c.in_default.not-Err in record {
       of = c.lock_record.ensures.of;
-      moved = moved_then v u w c.loop-index.invariant.moved
-          (ok_told c.lock_record.result (HasMoved u w) c.lock_record.ensures.moves c.in_default.not-Err);
-      row = next_locked c.args.leaf.slot c.args.leaf.page c.loop-index.index c.args.leaf.span v u w c.loop-index.invariant.moved
-          (ok_told c.lock_record.result
-          (HasRow c.args.leaf.slot c.args.leaf.span (page_words u.pages c.args.leaf.page) 0 (c.loop-index.index + 1) w)
-          c.lock_record.ensures.row c.in_default.not-Err);
+      moved = moved_then v u w c.loop-index.invariant.moved one.moves;
+      row = next_locked c.args.leaf.slot c.args.leaf.page c.loop-index.index c.args.leaf.span v u w
+          c.loop-index.invariant.moved one.row;
       reads = reads_then c.args.leaf.slot v u w (layout_worked v u c.loop-index.invariant.moved.worked)
           c.loop-index.invariant.reads c.lock_record.ensures.reads;
       more = saw_then v u w c.loop-index.invariant.more c.lock_record.ensures.more;
-      free = next_free c.args.leaf.span c.loop-index.index v u w c.loop-index.invariant.free
-          (ok_told c.lock_record.result (LocksOne (key_in c.args.leaf.span c.loop-index.index) u w) c.lock_record.ensures.own
-          c.in_default.not-Err);
+      free = next_free c.args.leaf.span c.loop-index.index v u w c.loop-index.invariant.free one.own;
     }
 
 pub returns-clause-moves : goal.returns-clause-moves

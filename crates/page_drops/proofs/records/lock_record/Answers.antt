@@ -136,23 +136,23 @@ returns-then-found-number-clause-keeps c =
     (page_words v.pages c.args.leaf.page) c.requires.index word (let low = c.if-found-ge-LOCK.false in omega (arith, low))
     c.word_of-number.ensures.word c.if-found-number.true)
 
-pub returns-clause-moves : goal.returns-clause-moves
-returns-clause-moves c =
+pub returns-clause-locks : goal.returns-clause-locks
+returns-clause-locks c =
     let v = view c.args.pass.now in
     let u = view c.word_of-number.new.pass in
-    (locked_now c.args.leaf.slot c.args.index c.word_at-at.result c.word_of-number.result c.args.leaf.span
-    (page_words v.pages c.args.leaf.page) c.key_of-key.result (spot c.args.leaf.slot c.args.index) v u (view c.lock-found.new.pass)
+    let w = view c.lock-found.new.pass in
+    let keeper = (leaf_worked c.args.leaf.slot c.args.leaf.page c.args.leaf.span v u
+    (glanced_looked v u c.word_of-number.ensures.glances).worked c.requires.at).keeper in
+    let both = locked_now c.args.leaf.slot c.args.index c.word_at-at.result c.word_of-number.result c.args.leaf.span
+    (page_words v.pages c.args.leaf.page) c.key_of-key.result (spot c.args.leaf.slot c.args.index) v u w
     c.lock-found.result c.key_of-key.ensures refl c.word_of-number.ensures.word c.if-found-number.false
-    c.word_of-number.ensures.glances c.requires.row c.lock-found.ensures.locks).0
-
-pub returns-clause-row : goal.returns-clause-row
-returns-clause-row c =
-    let v = view c.args.pass.now in
-    let u = view c.word_of-number.new.pass in
-    (locked_now c.args.leaf.slot c.args.index c.word_at-at.result c.word_of-number.result c.args.leaf.span
-    (page_words v.pages c.args.leaf.page) c.key_of-key.result (spot c.args.leaf.slot c.args.index) v u (view c.lock-found.new.pass)
-    c.lock-found.result c.key_of-key.ensures refl c.word_of-number.ensures.word c.if-found-number.false
-    c.word_of-number.ensures.glances c.requires.row c.lock-found.ensures.locks).1
+    c.word_of-number.ensures.glances c.requires.row c.lock-found.ensures.locks in record {
+      moves = both.0;
+      row = both.1;
+      own = locks_one c.key_of-key.result (key_in c.args.leaf.span c.args.index) (spot c.args.leaf.slot c.args.index)
+          c.word_at-at.result c.word_of-number.result c.lock-found.result v u w c.key_of-key.ensures keeper
+          c.if-found-number.false c.word_of-number.ensures.glances c.lock-found.ensures.locks;
+    }
 
 pub returns-then-found-ge-LOCK-clause-reads : goal.returns-then-found-ge-LOCK-clause-reads
 returns-then-found-ge-LOCK-clause-reads c =
@@ -244,16 +244,6 @@ returns-then-found-number-clause-met c =
     (spot c.args.leaf.slot c.args.index) Unlike c.keep-other.result v u (view c.lock-found.new.pass) (view c.keep-other.new.pass)
     c.keep-other.ensures.is place c.if-found-number.true c.word_of-number.ensures.glances c.lock-found.ensures.locks
     c.keep-other.ensures.notes
-
-pub returns-clause-own : goal.returns-clause-own
-returns-clause-own c =
-    let v = view c.args.pass.now in
-    let u = view c.word_of-number.new.pass in
-    let keeper = (leaf_worked c.args.leaf.slot c.args.leaf.page c.args.leaf.span v u
-    (glanced_looked v u c.word_of-number.ensures.glances).worked c.requires.at).keeper in
-    locks_one c.key_of-key.result (key_in c.args.leaf.span c.args.index) (spot c.args.leaf.slot c.args.index) c.word_at-at.result
-    c.word_of-number.result c.lock-found.result v u (view c.lock-found.new.pass) c.key_of-key.ensures keeper
-    c.if-found-number.false c.word_of-number.ensures.glances c.lock-found.ensures.locks
 
 pub returns-then-found-ge-LOCK-clause-still : goal.returns-then-found-ge-LOCK-clause-still
 returns-then-found-ge-LOCK-clause-still c =

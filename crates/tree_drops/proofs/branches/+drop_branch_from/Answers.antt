@@ -1,5 +1,5 @@
-use Rattle.std.specs.Prelude.{Err, Some}
-use Rattle.std.proofs.Common.{◌≡◌, ◌+◌, List, ◌∷◌, inl, subst, sym, ap, ◌∙◌, arith}
+use Rattle.std.specs.Prelude.{Err, None, Some}
+use Rattle.std.proofs.Common.{◌≡◌, ◌+◌, ◌^◌, List, ◌∷◌, inl, subst, sym, ap, ◌∙◌, arith}
 use Rattle.std.proofs.lemmas.Result.{err_from_is_err_and}
 use Rattle.std.specs.List.{Contains, slice_get}
 use Rattle.engine_pages.specs.declared.view.Shut.{Shut}
@@ -10,9 +10,11 @@ use Rattle.engine_pages.specs.Passes.{view}
 use Rattle.engine_pages.specs.Resident.{tree_below}
 use Rattle.pointer_swings.specs.Shuts.{CanReopen, reopened, shut_of}
 use Rattle.page_drops.proofs.Entries.{reads_but, reads_glanced, reads_same, reads_then, seen_same}
-use Rattle.tree_drops.specs.Branches.{IsBranchCause, IsBranchCauseBelow, KeepsBranch}
+use Rattle.tree_drops.specs.Branches.{AreLeft, AreLeftFor, HasDroppedBranch, IsBranchCause, IsBranchCauseBelow, KeepsBranch}
 use Rattle.tree_drops.specs.Works.{TellsPointer}
-use Rattle.tree_drops.proofs.Covers.{err_is, index_less, ok_is}
+use Rattle.tree_drops.proofs.Covers.{err_is, err_map, index_less, ok_is, ok_map}
+use Rattle.tree_drops.proofs.Lefts.{behind_above, behind_back, behind_fewer, behind_own, first_fewer, first_kept, first_then, found_left}
+use Rattle.tree_drops.proofs.Lefts.{found_then, left_then, none_left, open_next, opened_reads, shut_next}
 use Rattle.tree_drops.proofs.Heads.{but_then, tells_around, tells_same, then_but}
 use Rattle.tree_drops.proofs.Parts.{branch_back, branch_earlier, branch_on, branch_then, goes_glanced, goes_then, on_then, pages_on}
 use Rattle.tree_drops.proofs.Places.{word_here}
@@ -320,3 +322,184 @@ shut_child-requires-clause-shut t c =
     let b = view c.part_of-part.new.pass in
     let goes = goes_then v a b found.goes (goes_glanced a b c.part_of-part.ensures.glances) in
     λ z has. can.shut.mine z (subst (λ (l : List Shut). Contains l z) goes.shuts has)
+
+pub returns-then-index-branch-clause-lefts : goal.returns-then-index-branch-clause-lefts
+returns-then-index-branch-clause-lefts t c =
+    let v = view c.args.pass.now in
+    let w = view c.swing_away.new.pass in
+    ok_map c.swing_away.result (HasDroppedBranch c.args.branch.slot c.args.pointer.at c.args.branch.page v w)
+    (AreLeft None c.args.branch.slot c.args.branch.span c.args.branch.page c.args.branch.count c.args.index v w)
+    (λ any. none_left None c.args.branch.slot c.args.branch.page c.args.branch.count c.args.index c.args.branch.span v w c.if-index-branch.true)
+    c.swing_away.ensures.drops
+
+pub returns-then-index-branch-clause-later : goal.returns-then-index-branch-clause-later
+returns-then-index-branch-clause-later t c =
+    let v = view c.args.pass.now in
+    let w = view c.swing_away.new.pass in
+    let can = c.requires.drop in
+    err_map c.swing_away.result (λ k. k.word ≡ c.args.pointer.at)
+    (λ k. AreLeftFor c.args.branch.slot c.args.branch.span c.args.branch.page c.args.branch.count c.args.index k v w)
+    (λ k word. (
+      none_left (Some (k.word, k.seen)) c.args.branch.slot c.args.branch.page c.args.branch.count c.args.index c.args.branch.span v w c.if-index-branch.true,
+      behind_above c.args.branch.slot c.args.index c.args.branch.count c.args.pointer.at k v can.index can.branch.few can.apart word,
+    ))
+    c.swing_away.ensures.above
+
+pub returns-then-index-branch-clause-first : goal.returns-then-index-branch-clause-first
+returns-then-index-branch-clause-first t c =
+    let v = view c.args.pass.now in
+    let can = c.requires.drop in
+    λ j less. c.swing_away.ensures.others (page_at v.layout.slots c.args.branch.slot (4 + j))
+    (λ same. can.apart (4 + j) (let few = can.branch.few in let end = c.if-index-branch.true in omega (arith, less, few, end)) (sym same))
+
+pub returns-in_err-shut_child-clause-later : goal.returns-in_err-shut_child-clause-later
+returns-in_err-shut_child-clause-later t c =
+    let v = view c.args.pass.now in
+    let can = c.requires.drop in
+    let less = index_less c.args.index c.args.branch.count can.index c.if-index-branch.false in
+    let a = view c.child_of-child.new.pass in
+    let found = c.child_of-child.ensures.child can.branch can.alike in
+    let b = view c.part_of-part.new.pass in
+    let gl = c.part_of-part.ensures.glances in
+    let goes = goes_then v a b found.goes (goes_glanced a b gl) in
+    let layout = ap (λ (y : View). y.layout) goes.on.shut in
+    let reads = ap (λ (y : View). y.reads) gl.is ∙ found.reads in
+    let w = view c.shut_child.new.pass in
+    let k = c.in_err-shut_child.field-0.0 in
+    let p = err_from_is_err_and c.from_residual.result c.from_residual.ensures.1 in
+    let told : c.from_residual.result ≡ Err c.in_err-shut_child.field-0.0 = let a1 = p.1 in let b1 = p.2 in cc in
+    let other = found_then c.args.branch.slot c.args.index k v b w layout reads c.in_err-shut_child.ensures.found in
+    let both : AreLeftFor c.args.branch.slot c.args.branch.span c.args.branch.page c.args.branch.count c.args.index k v w = (
+      found_left c.args.branch.slot c.args.branch.page c.args.branch.count c.args.index c.args.branch.span k v w other,
+      behind_own c.args.branch.slot c.args.index k v other.word,
+    ) in rw told both
+
+pub returns-in_err-shut_child-clause-first : goal.returns-in_err-shut_child-clause-first
+returns-in_err-shut_child-clause-first t c =
+    let v = view c.args.pass.now in
+    let can = c.requires.drop in
+    let less = index_less c.args.index c.args.branch.count can.index c.if-index-branch.false in
+    let a = view c.child_of-child.new.pass in
+    let found = c.child_of-child.ensures.child can.branch can.alike in
+    let b = view c.part_of-part.new.pass in
+    let gl = c.part_of-part.ensures.glances in
+    let goes = goes_then v a b found.goes (goes_glanced a b gl) in
+    let layout = ap (λ (y : View). y.layout) goes.on.shut in
+    let reads = ap (λ (y : View). y.reads) gl.is ∙ found.reads in
+    let w = view c.shut_child.new.pass in
+    let k = c.in_err-shut_child.field-0.0 in
+    let p = err_from_is_err_and c.from_residual.result c.from_residual.ensures.1 in
+    let told : c.from_residual.result ≡ Err c.in_err-shut_child.field-0.0 = let a1 = p.1 in let b1 = p.2 in cc in
+    let other = found_then c.args.branch.slot c.args.index k v b w layout reads c.in_err-shut_child.ensures.found in
+    first_kept c.args.branch.slot c.args.index k.seen v w other.reads
+
+pub returns-in-Err-clause-later : goal.returns-in-Err-clause-later
+returns-in-Err-clause-later t c =
+    let v = view c.args.pass.now in
+    let can = c.requires.drop in
+    let less = index_less c.args.index c.args.branch.count can.index c.if-index-branch.false in
+    let a = view c.child_of-child.new.pass in
+    let found = c.child_of-child.ensures.child can.branch can.alike in
+    let b = view c.part_of-part.new.pass in
+    let gl = c.part_of-part.ensures.glances in
+    let goes = goes_then v a b found.goes (goes_glanced a b gl) in
+    let layout = ap (λ (y : View). y.layout) goes.on.shut in
+    let reads = ap (λ (y : View). y.reads) gl.is ∙ found.reads in
+    let w = view c.shut_child.new.pass in
+    let shuts = c.in_ok-shut_child.ensures.shuts in
+    let on = on_then v b w goes.on shuts.on in
+    let layout_w = ap (λ (y : View). y.layout) on.shut in
+    let left = left_then c.args.branch.slot c.args.index c.child_of-child.result (found.child).number v b w layout reads found.says c.in_ok-shut_child.ensures.left in
+    let e = view c.drop_branch_from.new.pass in
+    let k = c.in-Err.kept in
+    let keeps = err_is c.drop_branch_from.result (λ x. KeepsBranch (IsBranchCauseBelow w.layout.slots c.args.branch.slot c.args.branch.span w.pages c.args.branch.page c.args.pointer.at c.args.pointer.word) x w e) k c.drop_branch_from.ensures.keeps c.in-Err.is in
+    let rest = err_is c.drop_branch_from.result (λ x. AreLeftFor c.args.branch.slot c.args.branch.span c.args.branch.page c.args.branch.count (c.args.index + 1) x w e) k c.drop_branch_from.ensures.later c.in-Err.is in
+    let far = on_then v w e on keeps.on in
+    let layout_e = ap (λ (y : View). y.layout) far.shut in
+    let place = word_here c.args.engine.now c.args.pass.now c.args.branch.slot (4 + c.args.index) c.word_at-at.result c.requires.of c.word_at-at.ensures in
+    let there = place ∙ sym (ap (λ (y : View). page_at y.layout.slots c.args.branch.slot (4 + c.args.index)) far.shut) in
+    let m = c.from.result in
+    let same : m ≡ c.child_of-child.result = omega arith in
+    let z = view c.reopen.new.pass in
+    let both : AreLeftFor c.args.branch.slot c.args.branch.span c.args.branch.page c.args.branch.count c.args.index k v z = (
+      open_next c.args.branch.slot c.args.branch.page c.args.branch.count c.args.index c.args.branch.span found.child v w layout_w (pages_on v w on) found.is.at
+          left k e z layout_e c.drop_branch_from.ensures.first rest.1 rest.0
+          (opened_reads c.args.branch.slot c.args.index c.word_at-at.result m (found.child).number e z there (same ∙ found.says) c.reopen.ensures.reopens),
+      behind_fewer c.args.branch.slot c.args.index (c.args.index + 1) k v (omega arith)
+          (behind_back c.args.branch.slot (c.args.index + 1) k v w layout_w rest.1),
+    ) in both
+
+pub returns-in-Err-clause-first : goal.returns-in-Err-clause-first
+returns-in-Err-clause-first t c =
+    let v = view c.args.pass.now in
+    let can = c.requires.drop in
+    let less = index_less c.args.index c.args.branch.count can.index c.if-index-branch.false in
+    let a = view c.child_of-child.new.pass in
+    let found = c.child_of-child.ensures.child can.branch can.alike in
+    let b = view c.part_of-part.new.pass in
+    let gl = c.part_of-part.ensures.glances in
+    let goes = goes_then v a b found.goes (goes_glanced a b gl) in
+    let layout = ap (λ (y : View). y.layout) goes.on.shut in
+    let reads = ap (λ (y : View). y.reads) gl.is ∙ found.reads in
+    let w = view c.shut_child.new.pass in
+    let shuts = c.in_ok-shut_child.ensures.shuts in
+    let on = on_then v b w goes.on shuts.on in
+    let layout_w = ap (λ (y : View). y.layout) on.shut in
+    let left = left_then c.args.branch.slot c.args.index c.child_of-child.result (found.child).number v b w layout reads found.says c.in_ok-shut_child.ensures.left in
+    let e = view c.drop_branch_from.new.pass in
+    let k = c.in-Err.kept in
+    let keeps = err_is c.drop_branch_from.result (λ x. KeepsBranch (IsBranchCauseBelow w.layout.slots c.args.branch.slot c.args.branch.span w.pages c.args.branch.page c.args.pointer.at c.args.pointer.word) x w e) k c.drop_branch_from.ensures.keeps c.in-Err.is in
+    let far = on_then v w e on keeps.on in
+    let place = word_here c.args.engine.now c.args.pass.now c.args.branch.slot (4 + c.args.index) c.word_at-at.result c.requires.of c.word_at-at.ensures in
+    let there = place ∙ sym (ap (λ (y : View). page_at y.layout.slots c.args.branch.slot (4 + c.args.index)) far.shut) in
+    let m = c.from.result in
+    let same : m ≡ c.child_of-child.result = omega arith in
+    let z = view c.reopen.new.pass in
+    let opens = opened_reads c.args.branch.slot c.args.index c.word_at-at.result m (found.child).number e z there (same ∙ found.says) c.reopen.ensures.reopens in
+    first_then c.args.branch.slot c.args.index v e z (ap (λ (y : View). y.layout) far.shut)
+    (first_then c.args.branch.slot c.args.index v w e layout_w (first_kept c.args.branch.slot c.args.index ((found.child).number + 2 ^ 60) v w left)
+    (first_fewer c.args.branch.slot c.args.index (c.args.index + 1) w e (omega arith) c.drop_branch_from.ensures.first))
+    (first_kept c.args.branch.slot c.args.index (found.child).number e z opens)
+
+pub returns-clause-lefts : goal.returns-clause-lefts
+returns-clause-lefts t c =
+    let v = view c.args.pass.now in
+    let can = c.requires.drop in
+    let less = index_less c.args.index c.args.branch.count can.index c.if-index-branch.false in
+    let a = view c.child_of-child.new.pass in
+    let found = c.child_of-child.ensures.child can.branch can.alike in
+    let b = view c.part_of-part.new.pass in
+    let gl = c.part_of-part.ensures.glances in
+    let goes = goes_then v a b found.goes (goes_glanced a b gl) in
+    let layout = ap (λ (y : View). y.layout) goes.on.shut in
+    let reads = ap (λ (y : View). y.reads) gl.is ∙ found.reads in
+    let w = view c.shut_child.new.pass in
+    let shuts = c.in_ok-shut_child.ensures.shuts in
+    let on = on_then v b w goes.on shuts.on in
+    let layout_w = ap (λ (y : View). y.layout) on.shut in
+    let left = left_then c.args.branch.slot c.args.index c.child_of-child.result (found.child).number v b w layout reads found.says c.in_ok-shut_child.ensures.left in
+    let e = view c.drop_branch_from.new.pass in
+    shut_next c.args.branch.slot c.args.branch.page c.args.branch.count c.args.index c.args.branch.span found.child v w layout_w (pages_on v w on) found.is.at
+    left e c.drop_branch_from.ensures.first
+    (ok_is c.drop_branch_from.result _ c.drop_branch_from.ensures.lefts c.in_default.not-Err)
+
+pub returns-clause-first : goal.returns-clause-first
+returns-clause-first t c =
+    let v = view c.args.pass.now in
+    let can = c.requires.drop in
+    let less = index_less c.args.index c.args.branch.count can.index c.if-index-branch.false in
+    let a = view c.child_of-child.new.pass in
+    let found = c.child_of-child.ensures.child can.branch can.alike in
+    let b = view c.part_of-part.new.pass in
+    let gl = c.part_of-part.ensures.glances in
+    let goes = goes_then v a b found.goes (goes_glanced a b gl) in
+    let layout = ap (λ (y : View). y.layout) goes.on.shut in
+    let reads = ap (λ (y : View). y.reads) gl.is ∙ found.reads in
+    let w = view c.shut_child.new.pass in
+    let shuts = c.in_ok-shut_child.ensures.shuts in
+    let on = on_then v b w goes.on shuts.on in
+    let layout_w = ap (λ (y : View). y.layout) on.shut in
+    let left = left_then c.args.branch.slot c.args.index c.child_of-child.result (found.child).number v b w layout reads found.says c.in_ok-shut_child.ensures.left in
+    let e = view c.drop_branch_from.new.pass in
+    first_then c.args.branch.slot c.args.index v w e layout_w (first_kept c.args.branch.slot c.args.index ((found.child).number + 2 ^ 60) v w left)
+    (first_fewer c.args.branch.slot c.args.index (c.args.index + 1) w e (omega arith) c.drop_branch_from.ensures.first)

@@ -4,6 +4,7 @@ use Rattle.engine_pages.specs.Passes.{view}
 use Rattle.page_drops.proofs.Entries.{reads_noted}
 use Rattle.tree_drops.specs.Branches.{IsBranchCause}
 use Rattle.tree_drops.proofs.Dues.{branch_shut}
+use Rattle.tree_drops.proofs.Lefts.{other_found, shut_left}
 use Rattle.tree_drops.proofs.Places.{word_here}
 use Rattle.tree_drops.proofs.Parts.{goes_self, keeps_branch, last_met, met_read}
 use Rattle.tree_drops.proofs.Shuts.{branch_locked, branch_under, branch_unlike, reads_shut, shut_as, shut_missed, shut_now}
@@ -143,3 +144,56 @@ keep-locked-requires-clause-due c =
     v w met.goes c.requires.at less (omega (arith, few, less)) (c.requires.part c.requires.at)
     (word_here c.args.engine.now c.args.pass.now c.args.branch.slot (4 + c.args.index) c.word_at-at.result c.requires.of c.word_at-at.ensures)
     c.requires.took c.requires.shut
+
+pub returns-then-found-ge-SHUT-clause-found : goal.returns-then-found-ge-SHUT-clause-found
+returns-then-found-ge-SHUT-clause-found c =
+    let v = view c.args.pass.now in
+    let w = view c.shut-found.new.pass in
+    let n = c.shut-found.result in
+    let e = c.from-expected.result in
+    let small = c.ranges.child in
+    let same : e ≡ c.args.child = omega arith in
+    let place = word_here c.args.engine.now c.args.pass.now c.args.branch.slot (4 + c.args.index) c.word_at-at.result c.requires.of c.word_at-at.ensures in
+    other_found c.args.branch.slot c.args.index c.word_at-at.result n c.keep-locked.result v w (view c.keep-locked.new.pass) place
+    c.keep-locked.ensures.is
+    (shut_missed c.args.branch.slot c.args.index c.word_at-at.result e n v w (λ (q : n ≡ e). let high = c.if-found-ge-SHUT.true in absurd (omega (arith, q, high, small, same))) c.shut-found.ensures.shuts)
+    c.keep-locked.ensures.notes
+
+pub returns-then-found-ge-SLOT-clause-found : goal.returns-then-found-ge-SLOT-clause-found
+returns-then-found-ge-SLOT-clause-found c =
+    let v = view c.args.pass.now in
+    let w = view c.shut-found.new.pass in
+    let n = c.shut-found.result in
+    let e = c.from-expected.result in
+    let small = c.ranges.child in
+    let same : e ≡ c.args.child = omega arith in
+    let place = word_here c.args.engine.now c.args.pass.now c.args.branch.slot (4 + c.args.index) c.word_at-at.result c.requires.of c.word_at-at.ensures in
+    other_found c.args.branch.slot c.args.index c.word_at-at.result n c.keep-under.result v w (view c.keep-under.new.pass) place
+    c.keep-under.ensures.is
+    (shut_missed c.args.branch.slot c.args.index c.word_at-at.result e n v w (λ (q : n ≡ e). let high = c.if-found-ge-SLOT.true in absurd (omega (arith, q, high, small, same))) c.shut-found.ensures.shuts)
+    c.keep-under.ensures.notes
+
+pub returns-then-found-expected-clause-found : goal.returns-then-found-expected-clause-found
+returns-then-found-expected-clause-found c =
+    let v = view c.args.pass.now in
+    let w = view c.shut-found.new.pass in
+    let n = c.shut-found.result in
+    let e = c.from-expected.result in
+    let small = c.ranges.child in
+    let same : e ≡ c.args.child = omega arith in
+    let place = word_here c.args.engine.now c.args.pass.now c.args.branch.slot (4 + c.args.index) c.word_at-at.result c.requires.of c.word_at-at.ensures in
+    other_found c.args.branch.slot c.args.index c.word_at-at.result n c.keep-other.result v w (view c.keep-other.new.pass) place
+    c.keep-other.ensures.is
+    (shut_missed c.args.branch.slot c.args.index c.word_at-at.result e n v w c.if-found-expected.true c.shut-found.ensures.shuts)
+    c.keep-other.ensures.notes
+
+pub returns-clause-left : goal.returns-clause-left
+returns-clause-left c =
+    let v = view c.args.pass.now in
+    let w = view c.shut-found.new.pass in
+    let n = c.shut-found.result in
+    let e = c.from-expected.result in
+    let small = c.ranges.child in
+    let same : e ≡ c.args.child = omega arith in
+    let place = word_here c.args.engine.now c.args.pass.now c.args.branch.slot (4 + c.args.index) c.word_at-at.result c.requires.of c.word_at-at.ensures in
+    shut_left c.args.branch.slot c.args.index c.args.child c.word_at-at.result e n v w place same c.if-found-expected.false c.shut-found.ensures.shuts

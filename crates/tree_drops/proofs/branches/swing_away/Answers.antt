@@ -1,4 +1,5 @@
-use Rattle.std.proofs.Common.{inr, refl}
+use Rattle.std.proofs.Common.{inr, refl, ap}
+use Rattle.page_drops.specs.declared.noting.Kept.{Kept}
 use Rattle.engine_pages.specs.declared.view.KeptWhy.TheVariants.{Changed}
 use Rattle.engine_pages.specs.Passes.{view}
 use Rattle.tree_drops.specs.Branches.{IsBranchCauseBelow}
@@ -67,3 +68,23 @@ keep-kept-requires-clause-due c =
     turned_from c.args.pointer.at c.args.pointer.word c.swing-found.result v w c.if-found-word.true
     (not_swung c.args.branch.slot c.args.pointer.at c.args.branch.page c.args.pointer.word c.swing-found.result v w c.if-found-word.true
     c.swing-found.ensures.swings) c.requires.drop.met
+
+pub returns-then-found-word-clause-others : goal.returns-then-found-word-clause-others
+returns-then-found-word-clause-others c =
+    let v = view c.args.pass.now in
+    let w = view c.swing-found.new.pass in
+    let n = c.swing-found.result in
+    λ q other.
+    changed_reads c.args.branch.slot c.args.branch.page c.args.pointer.at c.args.pointer.word n c.keep-kept.result v w (view c.keep-kept.new.pass) c.if-found-word.true
+    c.swing-found.ensures.swings c.keep-kept.ensures.notes q other
+
+pub returns-then-found-word-clause-above : goal.returns-then-found-word-clause-above
+returns-then-found-word-clause-above c = ap (λ (k : Kept). k.word) c.keep-kept.ensures.is
+
+pub returns-clause-others : goal.returns-clause-others
+returns-clause-others c =
+    let v = view c.args.pass.now in
+    let w = view c.swing-found.new.pass in
+    let n = c.swing-found.result in
+    λ q other.
+    dropped_reads c.args.branch.slot c.args.pointer.at c.args.branch.page n v w (view c.retire.new.pass) (swung_now c.args.branch.slot c.args.pointer.at c.args.branch.page c.args.pointer.word n v w c.if-found-word.false c.swing-found.ensures.swings) c.retire.ensures.retires q other

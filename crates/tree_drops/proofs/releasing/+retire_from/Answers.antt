@@ -1,4 +1,4 @@
-use Rattle.std.proofs.Common.{◌+◌, ◌-◌, ◌<◌, length, get_or, arith}
+use Rattle.std.proofs.Common.{◌+◌, ◌-◌, length, get_or, arith}
 use Rattle.engine_pages.specs.Passes.{view}
 use Rattle.chain_steps.specs.declared.halves.Half.{Half}
 use Rattle.tree_drops.proofs.Covers.{index_less}

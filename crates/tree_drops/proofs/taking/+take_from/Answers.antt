@@ -1,5 +1,5 @@
 use Rattle.std.specs.Prelude.{Err}
-use Rattle.std.proofs.Common.{◌≡◌, ◌%◌, arith}
+use Rattle.std.proofs.Common.{◌≡◌, arith}
 use Rattle.std.proofs.lemmas.Result.{err_from_is_err_and}
 use Rattle.engine_pages.specs.Passes.{view}
 use Rattle.tree_drops.proofs.TakenFrom.{all_done, err_taken, kept_now, next_here, ok_taken, taken_here, undo_here, undo_role, undo_slot}

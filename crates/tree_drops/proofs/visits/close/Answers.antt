@@ -10,7 +10,8 @@ drop_branch_from-found-requires-clause-drop c =
 pub returns-clause-closes : goal.returns-clause-closes
 returns-clause-closes c =
     closed_by c.args.target.place c.args.target.span c.args.target.at c.args.target.page c.args.target.epoch c.args.opened.slot
-    c.args.opened.word c.args.before c.and.result c.drop_branch_from-found.result (view c.args.pass.now)
+    c.args.opened.word c.args.opened.count c.args.before c.and.result c.drop_branch_from-found.result (view c.args.pass.now)
     (view c.drop_branch_from-found.new.pass) (view c.leave.new.pass) c.requires.work c.drop_branch_from-found.ensures.reads
     c.drop_branch_from-found.ensures.drops c.drop_branch_from-found.ensures.keeps c.drop_branch_from-found.ensures.tells
+    c.drop_branch_from-found.ensures.lefts c.drop_branch_from-found.ensures.later
     c.leave.ensures.leaves c.and.ensures.drops c.and.ensures.keeps

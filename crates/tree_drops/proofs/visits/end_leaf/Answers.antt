@@ -1,4 +1,4 @@
-use Rattle.std.proofs.Common.{◌^◌, inl, inr, arith}
+use Rattle.std.proofs.Common.{inl, inr, arith}
 use Rattle.engine_pages.specs.Passes.{view}
 use Rattle.tree_drops.proofs.visits.end_leaf.Goals as goal
 

@@ -1,4 +1,4 @@
-use Rattle.std.proofs.Common.{◌%◌, ◌^◌, inl, inr, ap, arith}
+use Rattle.std.proofs.Common.{◌%◌, ◌^◌, ap, arith}
 use Rattle.engine_pages.specs.declared.view.View.{View}
 use Rattle.engine_pages.specs.declared.view.KeptWhy.TheVariants.{Unlike}
 use Rattle.engine_pages.specs.Passes.{view}

@@ -2,7 +2,6 @@
 -- whose newest snapshot has the state that was recovered.
 use Rattle.std.specs.Prelude.{◌≡◌, ◌⊎◌, ℕ, ◌+◌, ◌<◌, ◌++◌, List, Option, Some, None, true}
 use Rattle.std.specs.Prelude.{IfSome, IfNone, map, length, replicate}
-use Rattle.std.proofs.Common.{subst}
 use Rattle.std.specs.List.Sorted.{IsPermutation}
 use Rattle.std.specs.Option.{option_map}
 use Rattle.outside.specs.Disk.{IfTold}
@@ -10,7 +9,6 @@ use Rattle.outside.specs.Fronts.{AllBegin}
 use Rattle.log_writer.specs.Vault.{IsWhole}
 use Rattle.log_writer.specs.declared.vault.Vault.{Vault}
 use Rattle.serial_model.specs.Keys.{id_of}
-use Rattle.serial_model.specs.State.{State}
 use Rattle.serial_model.specs.declared.decl.Decl.{Decl}
 use Rattle.wire_form.specs.Items.{Rises}
 use Rattle.wire_form.specs.Pages.{Contents}
@@ -26,8 +24,7 @@ use Rattle.joint_crashes.specs.JointCrash.{Moments, parts_of}
 use Rattle.recovery_core.specs.NewestSnapshot.{IsNewestSnapshot}
 use Rattle.recovery_core.specs.Recovered.{Recovers}
 use Rattle.joint_crashes.specs.Resting.{IsResting, HasNoRecords, AreTold}
-use Rattle.checkpoints.specs.Settled.{settled_saved, settled_pages, stores_due, SaysSettled, settled_recoverable}
-use Rattle.recovery_core.specs.Recoverable.{IsRecoverable}
+use Rattle.checkpoints.specs.Settled.{settled_saved, settled_pages, stores_due, SaysSettled}
 use Rattle.checkpoints.specs.Files.{AllTell, AreEmpty}
 use Rattle.checkpoints.specs.SettleGoesOn.{GoesOn}
 use Rattle.joint_crashes.specs.SettleRests.{RestsSince}
@@ -108,28 +105,3 @@ pub record SettlesInto {D : Type 0} (tells : D → Option (List ℕ)) (clock : D
       → HasNoRecords (parts_of old) → AreTold tells (parts_of old) found
       → RestsSince clock image_at from rest.point rest.pages rest.counted (parts_of old) → (is : Recovers found r)
       → GoesOn clock image_at from is.reading r.epoch r.state (sequence_of r.save.newest) s.save.newest (parts_of new)
-
--- So the devices of a database that told what was recovered stand for its epoch and its state, and say what is handed
--- on.
-pub record StandsSettled {D : Type 0} (tells : D → Option (List ℕ)) (r : Recovered) (new : Vault D)
-    (s : Settled) : Type 0 where
-  pub now : Images
-  pub told : AreTold tells (parts_of new) now
-  pub says : SaysSettled now s
-  pub recoverable : IsRecoverable now r.epoch r.state
-
--- they do behind each settling
-pub settled_stands : {D : Type 0} {tells : D → Option (List ℕ)} {clock : D → ℕ} {image_at : D → ℕ → List ℕ → Type 0}
-    {given : List Decl} {old new : Vault D} (r : Recovered) (s : Settled) (found : Images)
-    → SettlesInto tells clock image_at r given old new s → AreTold tells (parts_of old) found → Recovers found r
-    → StandsSettled tells r new s
-settled_stands r s found is told recovers =
-    let rests = is.rests found told recovers in
-    record {
-      now = rests.0;
-      told = rests.1;
-      says = rests.2;
-      recoverable = subst (λ e. IsRecoverable rests.0 e r.state) is.epoch
-          (subst (λ (t : State). IsRecoverable rests.0 s.saved.epoch t) is.state
-          (settled_recoverable rests.0 s rests.2 is.says));
-    }

@@ -5,7 +5,7 @@
 //! or `make` with three numbers. The crate `clap` parts the words by the definition of `specs/Commands.antt`; the
 //! numbers are read here, since they have neither a sign nor a leading zero.
 //!
-//! Promises of `read_words`, unless memory is refused:
+//! Promises of `read_words`, unless memory is refused (record `ReadsWords` of `specs/Words.antt`):
 //!
 //! - it answers what the definitions say (`command`);
 //! - for plain words it answers a run, with their numbers and the usual ones (`plain`), a dump (`plain_dump`), the

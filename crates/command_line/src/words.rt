@@ -1,11 +1,9 @@
 // The words of a call.
-ghost use Rattle.std.specs.Prelude.{◌≡◌, IfOk, IfSome, OnOk, map};
+ghost use Rattle.std.specs.Prelude.{◌≡◌, IfSome, map};
 ghost use Rattle.clap.specs.Words.{first_of, found_of, rows_of, subcommand_rows_of};
-ghost use Rattle.command_line.specs.Options.{AreInRange, AreMadeInRange, IsWithin, Refuses, arguments_of, asked};
-ghost use Rattle.command_line.specs.Options.{command_of, epoch_of, epoch_range, is_set, make_with, number_given};
-ghost use Rattle.command_line.specs.Options.{number_or, options_of, run_with, snap_with};
-ghost use Rattle.command_line.specs.Plain.{AsksForHelp, IsPlain, IsPlainDump, IsPlainMake, IsPlainSnap};
-ghost use Rattle.command_line.specs.Plain.{IsPlainSnaps};
+ghost use Rattle.command_line.specs.Options.{IsWithin, arguments_of, asked, epoch_of, is_set, make_with};
+ghost use Rattle.command_line.specs.Options.{number_given, number_or, options_of, run_with, snap_with};
+ghost use Rattle.command_line.specs.Words.{ReadsWords};
 
 use crate::command::{Command, MakeArguments, RunOptions};
 use crate::number::{Range, number_in};
@@ -163,24 +161,7 @@ fn asked(matches: &ArgMatches) -> Command
 
 /// What the words ask for, or want of memory.
 pub fn read_words(alloc: Global, words: &[&str]) -> Result<Command, Memory>
-    ensures command { IfOk result (λ command. command ≡ command_of (map (λ w. w.now) words.now)) }
-    ensures plain { (options : _) → IsPlain (map (λ w. w.now) words.now) options
-        → OnOk result (result ≡ Ok (Command.Run options)) }
-    ensures plain_dump { IsPlainDump (map (λ w. w.now) words.now)
-        → OnOk result (result ≡ Ok Command.Dump) }
-    ensures plain_snaps { IsPlainSnaps (map (λ w. w.now) words.now)
-        → OnOk result (result ≡ Ok Command.Snaps) }
-    ensures plain_snap { (epoch : _) → IsPlainSnap (map (λ w. w.now) words.now) epoch
-        → OnOk result (result ≡ Ok (Command.Snap epoch)) }
-    ensures plain_make { (arguments : _) → IsPlainMake (map (λ w. w.now) words.now) arguments
-        → OnOk result (result ≡ Ok (Command.Make arguments)) }
-    ensures ranges { (options : _) → result ≡ Ok (Command.Run options) → AreInRange options }
-    ensures made_ranges { (arguments : _) → result ≡ Ok (Command.Make arguments)
-        → AreMadeInRange arguments }
-    ensures epoch_range { (epoch : _) → result ≡ Ok (Command.Snap epoch) → IsWithin epoch_range epoch }
-    ensures refused { result ≡ Ok Command.Refused → Refuses (map (λ w. w.now) words.now) }
-    ensures help { AsksForHelp (map (λ w. w.now) words.now)
-        → OnOk result (result ≡ Ok Command.Refused) }
+    ensures { ReadsWords (map (λ w. w.now) words.now) result }
 {
     let program = program(alloc)?;
     match program.try_get_matches_from(words) {

@@ -11,3 +11,4 @@ pub mod Causal
 pub mod Crashes
 pub mod SettleRests
 pub mod RecordsAdded
+pub mod Calls

@@ -5,7 +5,6 @@ use Rattle.std.proofs.Common.{inl, inr, refl, sym, ap, ◌∙◌, subst, arith}
 use Rattle.std.specs.List.{Contains}
 use Rattle.std.proofs.lemmas.Bool.{cases_lt}
 use Rattle.outside.specs.Fronts.{AllBegin}
-use Rattle.lists.specs.Elements.{in_none}
 use Rattle.lists.specs.Fronts.{IsFront}
 use Rattle.log_writer.specs.Cuts.{whole_bank, whole_ends}
 use Rattle.outside.specs.Reads.{OnlyReads}
@@ -18,11 +17,10 @@ use Rattle.log_writer.specs.declared.records.Tie.{Tie}
 use Rattle.outside.specs.Moments.{left_after}
 use Rattle.std.proofs.lemmas.Option.{same_Some}
 use Rattle.wire_form.specs.declared.savepoint.Savepoint.{Savepoint}
-use Rattle.log_writer.specs.Newest.{names_one}
 use Rattle.log_writer.specs.Save.{Names}
-use Rattle.joint_crashes.specs.Images.{Images, counted_of}
+use Rattle.joint_crashes.specs.Images.{Images}
 use Rattle.joint_crashes.specs.JointCrash.{AreImages, CrashesNow, HasCut, Parts, Moments, IsNow, parts_of}
-use Rattle.joint_crashes.specs.Resting.{HasNoRecords, IsResting, StopsNow}
+use Rattle.joint_crashes.specs.Resting.{IsResting, StopsNow}
 use Rattle.joint_crashes.specs.VaultReads.{some_of}
 use Rattle.joint_crashes.specs.VaultReads.{VaultOnlyReads, whole_read}
 
@@ -133,37 +131,6 @@ module _ {D : Type 0} {tells : D → Option (List ℕ)} {clock : D → ℕ} {ima
 abbrev clock_in : {D : Type 0} → (D → ℕ) → Option D → ℕ
 clock_in clock None = 0
 clock_in clock (Some disk) = clock disk
-
--- Where nothing that counts is pending, and no store and no cut is recorded, a stop now is a joint crash.
-pub stops_unrecorded : {D : Type 0} {clock : D → ℕ} {image_at : D → ℕ → List ℕ → Type 0} {parts : Parts D}
-    → IsResting clock image_at parts → HasNoRecords parts → StopsNow clock image_at parts
-stops_unrecorded {clock = clock} {image_at = image_at} {parts = parts} rest none = record {
-  crashes = λ at found now images. record {
-    images = images;
-    alike = λ point names n bank there.
-        let file : found.save ≡ rest.file =
-        rest.save found.save (subst (λ m. image_at parts.save m found.save) now.save images.save) in
-        let same : point ≡ rest.point = names_one found.save point rest.point names
-        (subst (λ l. Names l rest.point) (sym file) rest.names) in
-        record {
-          front = rest.counted n;
-          size = rest.bank_sized n bank there ∙ ap (λ p. counted_of p n) (sym same);
-          same = λ c image. rest.bank n bank there c (subst (λ m. image_at bank m c) (now.bank n bank there) image);
-        };
-    past = λ point names n bank there began after cut. absurd (no_cut n began after cut);
-    stored = λ point names tie has. absurd (no_tie tie has);
-    ended = λ n bank there began after cut. absurd (no_cut n began after cut);
-  };
-  ended = λ tie end has. absurd (no_tie tie has);
-}
-  where
-    no_tie : (tie : Tie) → Contains parts.ties tie → ⊥
-    no_tie tie has = in_none tie (subst (λ l. Contains l tie) none.ties has)
-
-    no_cut : (n began after : ℕ) → HasCut parts.cuts (Bank n) began after → ⊥
-    no_cut n began after has =
-        let cut : Cut = record { device = Bank n; at = began; after = after } in
-        in_none cut (subst (λ l. Contains l cut) none.cuts has)
 
 module _ {D : Type 0} {tells : D → Option (List ℕ)} {clock : D → ℕ} {image_at : D → ℕ → List ℕ → Type 0}
     {faults : D → ℕ} where

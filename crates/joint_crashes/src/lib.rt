@@ -6,8 +6,8 @@
 //!
 //! Promises:
 //! - [`store_and_cut`] and [`cut_banks`]: each joint crash stands for one savepoint, and what was a joint crash
-//!   is one (`crashes`, `cut`); a fault is answered only where that device's count of faults rose, and where the answer
-//!   is `Ok` none did (`quiet`).
+//!   is one (`crashes` of `StoresAndCuts`, `cut` of `CutsBanks`, both in `specs/Calls.antt`); a fault is answered
+//!   only where that device's count of faults rose, and where the answer is `Ok` none did (`quiet`).
 //!
 //! Its specs/ say when nothing that counts is pending (`IsResting`), what only reads all devices (`VaultOnlyReads`), and
 //! how marks, saves, stores and cuts go on with a story, for those who write to the devices of a database.

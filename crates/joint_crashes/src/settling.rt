@@ -1,18 +1,12 @@
 // A savepoint that counts nothing of some log files, and then their cuts: what a settling does where no
 // entry counts, and what a join does for the closed side.
-ghost use Rattle.std.specs.Prelude.{◌≡◌, ◌+◌, ◌-◌, ◌^◌, ◌<◌, ◌≤◌, ℕ, [], Some};
-ghost use Rattle.std.specs.Prelude.{None, Err, length, IsSome, is_ok, is_some, OnOk, MatchResult};
+ghost use Rattle.std.specs.Prelude.{◌≡◌, ◌≤◌, ℕ, None, IsSome, length};
 ghost use Rattle.std.specs.List.{Contains};
 ghost use Rattle.log_writer.specs.Counted.{AreCounted};
-ghost use Rattle.log_writer.specs.Vault.{disk_in, IsWhole};
-ghost use Rattle.log_writer.specs.Points.{IsSaved, point_of, sequence_of};
+ghost use Rattle.log_writer.specs.Points.{IsSaved};
 ghost use Rattle.log_writer.specs.Save.{IsStored};
-ghost use Rattle.joint_crashes.specs.JointCrash.{Moments, parts_of, KeepsCrashes};
-ghost use Rattle.joint_crashes.specs.Story.{Story};
-ghost use Rattle.joint_crashes.specs.Cutting.{ArePast, AreToldIn};
-ghost use Rattle.joint_crashes.specs.RecordsAdded.{RecordsAdded};
-ghost use Rattle.joint_crashes.specs.Settling.{MayStore, IsLeft, IsSettled};
-ghost use Rattle.joint_crashes.specs.VaultReads.{RoseIn, AreQuiet};
+ghost use Rattle.log_writer.specs.Vault.{disk_in};
+ghost use Rattle.joint_crashes.specs.Calls.{StoresAndCuts};
 
 use crate::cutting::cut_banks;
 use log_writer::{Save, SaveFault, Saved, Vault};
@@ -44,37 +38,8 @@ pub fn store_and_cut<D: Disk>(
     requires banks { (n : ℕ) → Contains numbers.now n → IsSome (disk_in vault.old (Device.Bank n)) }
     requires tie_room { 1 ≤ vault.old.ties.room }
     requires cut_room { length numbers.now ≤ vault.old.cuts.room }
-    ensures crashes { (story : Story) (from : Moments) (low : ℕ)
-        → MayStore D.clock D.image_at D.tells story from low save.old.newest saved (parts_of vault.old)
-        → ArePast D.clock D.image_at (parts_of vault.old)
-        → AreToldIn D.tells numbers.now (parts_of vault.old)
-        → ((n : ℕ) → Contains numbers.now n → story.counted (sequence_of save.old.newest + 1) n ≡ [])
-        → KeepsCrashes D.clock D.image_at from (parts_of vault.old) (parts_of vault.new)
-        × MatchResult result
-        (λ _. IsSettled D.clock D.image_at story from low (sequence_of save.old.newest + 1) numbers.now
-        (parts_of vault.old) (parts_of vault.new))
-        (λ _. IsLeft D.clock D.image_at story from low (sequence_of save.old.newest + 1) (parts_of vault.new)) }
-    ensures emptied { AreToldIn D.tells numbers.now (parts_of vault.old) → OnOk result ((n : ℕ) (bank : D)
-        → Contains numbers.now n → disk_in vault.new (Device.Bank n) ≡ Some bank → D.tells bank ≡ Some []) }
-    ensures there { (n : ℕ) → IsSome (disk_in vault.old (Device.Bank n))
-        → IsSome (disk_in vault.new (Device.Bank n)) }
-    ensures whole { IsWhole vault.old → IsWhole vault.new }
-    ensures told { is_some (D.tells vault.new.save) ≡ is_some (D.tells vault.old.save) }
-    ensures snaps { vault.new.snaps ≡ vault.old.snaps }
-    ensures stores { OnOk result ((save.new.newest ≡ Some (point_of (sequence_of save.old.newest + 1) saved))
-        × (save.new.down ≡ None)
-        × IsStored D.tells D.clock D.image_at vault.new.save save.new.newest) }
-    ensures save_failed { result ≡ Err (StoreAndCutFault.Store SaveFault.Device)
-        → RoseIn D.faults Device.Save vault.old vault.new }
-    ensures bank_failed { (n : ℕ) → result ≡ Err (StoreAndCutFault.Cut n)
-        → RoseIn D.faults (Device.Bank n) vault.old vault.new }
-    ensures limit { (sequence : ℕ) → result ≡ Err (StoreAndCutFault.Store (SaveFault.Limit sequence))
-        → (sequence ≡ sequence_of save.old.newest) × (sequence ≡ 2 ^ 63 - 1) × (vault.new ≡ vault.old) }
-    ensures last { sequence_of save.old.newest ≡ 2 ^ 63 - 1
-        → result ≡ Err (StoreAndCutFault.Store (SaveFault.Limit (sequence_of save.old.newest))) }
-    ensures quiet { OnOk result (AreQuiet D.faults vault.old vault.new) }
-    ensures never_down { (count : ℕ) → result ≡ Err (StoreAndCutFault.Store (SaveFault.Down count)) → ⊥ }
-    ensures records { RecordsAdded (sequence_of save.old.newest) 1 numbers.now (is_ok result) vault.old vault.new }
+    ensures { StoresAndCuts D.tells D.clock D.image_at D.faults saved numbers.now save.old save.new
+        vault.old vault.new result }
 {
     match save.store_in(vault, saved) {
         Ok(()) => {}

@@ -1,6 +1,5 @@
 pub mod Changes
 pub mod ChangesLaws
-pub mod KeysWritten
 pub mod Logs
 pub mod LogLaws
 pub mod Moves

@@ -2,10 +2,6 @@
 //!
 //! Promises:
 //!
-//! - [`WriteSet::commit`] gives the log line of a transaction that was run: its number, and each key that it wrote,
-//!   ascending, with the value that it left there or its removal; nothing where it wrote none (`logged`, by `IsLogged`
-//!   in `specs/Changes.antt`). The write set (`write_set` of serial_model) is told before the transaction runs, by the
-//!   state alone ([`WriteSet::of`], `keys`).
 //! - [`WorkerLog::flush_and_mark`] makes the lines that wait durable, and then says so: its mark counts all of them, up
 //!   to the epoch before the clock's (`marked`).
 //! - [`WorkerLog::prepare`] makes ready for a line: its mark holds back no epoch that the clock has left (`keeps_up`),
@@ -31,6 +27,9 @@
 //!
 //! Invariants: a log's journal has the limit of a log file, and its mark counts no more (`IsLogState`).
 //!
+//! What a log gets of a transaction is said by `IsLogged` in `specs/Changes.antt`, for those who put lines: its number,
+//! and each key that it wrote, ascending, with the value that it left there or its removal; nothing where it wrote none.
+//!
 //! Terms: a *mark* is an epoch with the length of a log file that has all its worker's commits up to that epoch. An
 //! *idle* worker has no line in a round: its mark names no epoch, and holds none back. Epochs, marks and group commit
 //! by the least of them are Silo's.
@@ -40,10 +39,8 @@ mod flushing;
 mod savepoints;
 mod seen;
 mod worker_log;
-mod write_set;
 
 pub use flushing::flush_all;
 pub use savepoints::{Beside, Side, marked_lengths, save_marks};
 pub use seen::save_seen;
 pub use worker_log::WorkerLog;
-pub use write_set::WriteSet;

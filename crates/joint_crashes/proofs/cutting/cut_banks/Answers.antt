@@ -1,4 +1,5 @@
-use Rattle.std.proofs.Common.{◌≡◌, ◌+◌, ◌<◌, ◌++◌, ◌∷◌, inl, inr, length, ℕ, [], get_or, take, drop, append_assoc, refl, sym, ap, ◌∙◌, subst, arith}
+use Rattle.std.proofs.Common.{◌≡◌, ◌+◌, ◌<◌, ◌++◌, ◌∷◌, inl, inr, length, ℕ, [], get_or, take, drop}
+use Rattle.std.proofs.Common.{append_assoc, refl, sym, ap, ◌∙◌, subst, arith}
 use Rattle.std.specs.List.{Contains}
 use Rattle.std.proofs.lemmas.List.{append-nil, take_all, take_more}
 use Rattle.std.proofs.lemmas.List.Elements.{Contains-get_or, Contains-push_cases}
@@ -23,74 +24,81 @@ cut_in-requires-clause-newest g c =
     subst (λ d. IsNewest g.D.Disk.tells g.D.Disk.clock g.D.Disk.image_at d c.args.after)
     (sym c.loop-number.invariant.save) c.requires.newest
 
-pub returns-clause-records : goal.returns-clause-records
-returns-clause-records g c =
+pub returns : goal.returns
+returns g c =
     let inv = c.loop-number.invariant in
     let all = take_all c.loop-number.number-index c.args.numbers.now (omega (arith, c.loop-number-test.false)) in
-    cuts_added c.args.numbers.now [] (ap (λ t. t.items) inv.ties)
-    (subst (λ l. AddsCuts c.args.after l c.args.vault.now.cuts.items c.loop-number.vault.cuts.items) all inv.adds)
-    (sym (append-nil c.args.numbers.now)) (λ is. refl)
+    record {
+      cut = λ story from low may.
+          subst (λ l. AreCut g.D.Disk.clock g.D.Disk.image_at story from low c.args.after l
+          (parts_of c.args.vault.now) (parts_of c.loop-number.vault)) all (inv.cut story from low may).0;
+      emptied = λ tell.
+          subst (λ l. (m : ℕ) (bank : g.row.D.Denot) → Contains l m → disk_in c.loop-number.vault (Bank m)
+          ≡ Some bank → g.D.Disk.tells bank ≡ Some []) all (inv.emptied tell).0;
+      among = λ n is. absurd (cc is);
+      device = λ n is was now before after. absurd (cc is);
+      quiet = inv.stand;
+      there = λ n was. inv.still n was;
+      others = (inv.save, inv.snaps, inv.ties);
+      whole = λ was. inv.whole was;
+      records = cuts_added c.args.numbers.now [] (ap (λ t. t.items) inv.ties)
+          (subst (λ l. AddsCuts c.args.after l c.args.vault.now.cuts.items c.loop-number.vault.cuts.items) all inv.adds)
+          (sym (append-nil c.args.numbers.now)) (λ is. refl);
+      stops = λ n is. absurd (cc is);
+    }
 
-pub returns-in_default-clause-records : goal.returns-in_default-clause-records
-returns-in_default-clause-records g c =
+pub returns-in_default : goal.returns-in_default
+returns-in_default g c =
     let inv = c.loop-number.invariant in
     let within : c.loop-number.number-index < length c.args.numbers.now = omega (arith, c.loop-number-test.true) in
     let has = Contains-get_or c.args.numbers.now c.loop-number.number-index 0 within in
-    cuts_added (take c.loop-number.number-index c.args.numbers.now
-    ++ get_or c.args.numbers.now c.loop-number.number-index 0 ∷ [])
-    (drop (c.loop-number.number-index + 1) c.args.numbers.now)
-    (ap (λ t. t.items) (c.cut_in.ensures.ties ∙ inv.ties))
-    (adds_push g.D.Disk.clock c.args.vault.now c.loop-number.vault c.cut_in.new.self
-    (take c.loop-number.number-index c.args.numbers.now) _ (inv.there _ has)
-    c.cut_in.ensures.recorded inv.adds)
-    (cut_split c.args.numbers.now c.loop-number.number-index 0 within) (λ is. absurd cc)
-
-pub returns-in_default-clause-stops : goal.returns-in_default-clause-stops
-returns-in_default-clause-stops g c n is =
-    let inv = c.loop-number.invariant in
-    let within : c.loop-number.number-index < length c.args.numbers.now = omega (arith, c.loop-number-test.true) in
-    let same : get_or c.args.numbers.now c.loop-number.number-index 0 ≡ n = cc is in
     let front = take c.loop-number.number-index c.args.numbers.now in
+    let behind = drop (c.loop-number.number-index + 1) c.args.numbers.now in
+    let failed = get_or c.args.numbers.now c.loop-number.number-index 0 in
     record {
-      front = front;
-      behind = drop (c.loop-number.number-index + 1) c.args.numbers.now;
-      are = cut_split c.args.numbers.now c.loop-number.number-index 0 within
-          ∙ append_assoc front (get_or c.args.numbers.now c.loop-number.number-index 0 ∷ [])
-          (drop (c.loop-number.number-index + 1) c.args.numbers.now)
-          ∙ ap (λ j. front ++ j ∷ drop (c.loop-number.number-index + 1) c.args.numbers.now) same;
-      others = λ m other differs. kept_push c.args.vault.now front _ c.cut_in.ensures.cut inv.kept m
-          (λ has. elim (Contains-push_cases front _ m has) [
-            | inl before ↦ other before
-            | inr this ↦ differs (sym this ∙ same)
-          ]);
+      cut = λ story from low may.
+          let so_far = inv.cut story from low may in
+          vault_begun g.met.D.Disk.reads c.args.vault.now _ so_far.0.left
+          (inv.there _ has) c.cut_in.ensures.cut c.cut_in.ensures.recorded
+          c.cut_in.ensures.save c.cut_in.ensures.ties (may.none _ has) (rw inv.ties may.ended);
+      emptied = λ tell. tt;
+      among = λ n is.
+          let same : failed ≡ n = cc is in
+          subst (Contains c.args.numbers.now) same has;
+      device = λ n is was now before after.
+          let same : failed ≡ n = cc is in
+          cut_rose c.args.vault.now failed c.in_default.field-0 c.in_default.is inv.later
+          c.cut_in.ensures.cut (inv.there _ has) was now
+          (subst (λ j. disk_in c.args.vault.now (Bank j) ≡ Some was) (sym same) before)
+          (subst (λ j. disk_in c.cut_in.new.self (Bank j) ≡ Some now) (sym same) after);
+      quiet = tt;
+      there = λ n was. still_there _ n c.cut_in.ensures.cut (inv.still n was);
+      others = (
+        c.cut_in.ensures.save ∙ inv.save,
+        bank_keeps_snaps _ c.cut_in.ensures.cut ∙ inv.snaps,
+        c.cut_in.ensures.ties ∙ inv.ties,
+      );
+      whole = λ was. whole_cut c.cut_in.ensures.cut (inv.whole was);
+      records = cuts_added (front ++ failed ∷ []) behind
+          (ap (λ t. t.items) (c.cut_in.ensures.ties ∙ inv.ties))
+          (adds_push g.D.Disk.clock c.args.vault.now c.loop-number.vault c.cut_in.new.self front _ (inv.there _ has)
+          c.cut_in.ensures.recorded inv.adds)
+          (cut_split c.args.numbers.now c.loop-number.number-index 0 within) (λ is. absurd cc);
+      stops = λ n is.
+          let same : failed ≡ n = cc is in
+          record {
+            front = front;
+            behind = behind;
+            are = cut_split c.args.numbers.now c.loop-number.number-index 0 within
+                ∙ append_assoc front (failed ∷ []) behind
+                ∙ ap (λ j. front ++ j ∷ behind) same;
+            others = λ m other differs. kept_push c.args.vault.now front _ c.cut_in.ensures.cut inv.kept m
+                (λ has. elim (Contains-push_cases front _ m has) [
+                  | inl before ↦ other before
+                  | inr this ↦ differs (sym this ∙ same)
+                ]);
+          };
     }
-
-pub returns-clause-cut : goal.returns-clause-cut
-returns-clause-cut g c story from low may =
-    let all = (c.loop-number.invariant.cut story from low may).0 in
-    subst (λ l. AreCut g.D.Disk.clock g.D.Disk.image_at story from low c.args.after l (parts_of c.args.vault.now)
-    (parts_of c.loop-number.vault))
-    (take_all c.loop-number.number-index c.args.numbers.now (omega (arith, c.loop-number-test.false))) all
-
-pub returns-in_default-clause-others : goal.returns-in_default-clause-others
-returns-in_default-clause-others g c = (
-  c.cut_in.ensures.save ∙ c.loop-number.invariant.save,
-  bank_keeps_snaps _ c.cut_in.ensures.cut ∙ c.loop-number.invariant.snaps,
-  c.cut_in.ensures.ties ∙ c.loop-number.invariant.ties,
-)
-
-pub returns-in_default-clause-whole : goal.returns-in_default-clause-whole
-returns-in_default-clause-whole g c was = whole_cut c.cut_in.ensures.cut (c.loop-number.invariant.whole was)
-
-pub returns-in_default-clause-cut : goal.returns-in_default-clause-cut
-returns-in_default-clause-cut g c story from low may =
-    let inv = c.loop-number.invariant in
-    let so_far = inv.cut story from low may in
-    let has = Contains-get_or c.args.numbers.now c.loop-number.number-index 0
-    (omega (arith, c.loop-number-test.true)) in
-    vault_begun g.met.D.Disk.reads c.args.vault.now _ so_far.0.left
-    (inv.there _ has) c.cut_in.ensures.cut c.cut_in.ensures.recorded
-    c.cut_in.ensures.save c.cut_in.ensures.ties (may.none _ has) (rw inv.ties may.ended)
 
 pub loop-number-preserved : goal.loop-number-preserved
 loop-number-preserved g c =
@@ -156,41 +164,3 @@ loop-number-init g c = record {
   emptied = λ tell. (λ n bank has. absurd (omega (arith, has.1)), tell);
   cut = λ story from low may. (cuts_none may.told may.ready may.past, may.tell);
 }
-
-pub returns-in_default-clause-there : goal.returns-in_default-clause-there
-returns-in_default-clause-there g c n was = still_there _ n c.cut_in.ensures.cut (c.loop-number.invariant.still n was)
-
-pub returns-clause-there : goal.returns-clause-there
-returns-clause-there g c n was = c.loop-number.invariant.still n was
-
-pub returns-clause-whole : goal.returns-clause-whole
-returns-clause-whole g c was = c.loop-number.invariant.whole was
-
-pub returns-clause-quiet : goal.returns-clause-quiet
-returns-clause-quiet g c = c.loop-number.invariant.stand
-
-pub returns-clause-emptied : goal.returns-clause-emptied
-returns-clause-emptied g c tell =
-    subst (λ l. (m : ℕ) (bank : g.row.D.Denot) → Contains l m → disk_in c.loop-number.vault (Bank m) ≡ Some bank
-    → g.D.Disk.tells bank ≡ Some [])
-    (take_all c.loop-number.number-index c.args.numbers.now (omega (arith, c.loop-number-test.false)))
-    (c.loop-number.invariant.emptied tell).0
-
-pub returns-in_default-clause-device : goal.returns-in_default-clause-device
-returns-in_default-clause-device g c n is was now before after =
-    let inv = c.loop-number.invariant in
-    let has = Contains-get_or c.args.numbers.now c.loop-number.number-index 0
-    (omega (arith, c.loop-number-test.true)) in
-    let same : get_or c.args.numbers.now c.loop-number.number-index 0 ≡ n = cc is in
-    cut_rose c.args.vault.now
-    (get_or c.args.numbers.now c.loop-number.number-index 0) c.in_default.field-0 c.in_default.is inv.later
-    c.cut_in.ensures.cut (inv.there _ has) was now
-    (subst (λ j. disk_in c.args.vault.now (Bank j) ≡ Some was) (sym same) before)
-    (subst (λ j. disk_in c.cut_in.new.self (Bank j) ≡ Some now) (sym same) after)
-
-pub returns-in_default-clause-among : goal.returns-in_default-clause-among
-returns-in_default-clause-among g c n is =
-    let has = Contains-get_or c.args.numbers.now c.loop-number.number-index 0
-    (omega (arith, c.loop-number-test.true)) in
-    let same : get_or c.args.numbers.now c.loop-number.number-index 0 ≡ n = cc is in
-    subst (Contains c.args.numbers.now) same has

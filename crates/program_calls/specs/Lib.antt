@@ -15,6 +15,7 @@ pub mod Snapshots
 pub mod Devices
 pub mod Telling
 pub mod OnTheWay
+pub mod RanScript
 pub mod Rounds
 pub mod EndLaws
 pub mod Laws

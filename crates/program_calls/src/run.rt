@@ -1,5 +1,5 @@
 // Runs of a script, printed round by round.
-ghost use Rattle.std.specs.Prelude.{◌≡◌, ◌≢◌, ◌<◌, ◌≤◌, ◌^◌, ℕ, [], Ok, true, false};
+ghost use Rattle.std.specs.Prelude.{◌≡◌, ◌<◌, ◌≤◌, ◌^◌, [], Ok, true, false};
 ghost use Rattle.command_line.specs.Options.{AreInRange, AreMadeInRange};
 ghost use Rattle.script_grammar.specs.Script.{IsScript};
 ghost use Rattle.tx_script.specs.Draws.{lines_in};
@@ -10,10 +10,10 @@ ghost use Rattle.outside.specs.Disk.{IfTold, Only};
 ghost use Rattle.log_writer.specs.Vault.{IsWhole};
 ghost use Rattle.joint_crashes.specs.VaultReads.{VaultOnlyReads};
 ghost use Rattle.program_calls.specs.Answers.{Answers, sources_of};
-ghost use Rattle.program_calls.specs.Causes.{AnswersDevices, AnswersFaults, IsReadStatus, IsRunStatus, ReadsDamage};
-ghost use Rattle.program_calls.specs.Causes.{ReadsOnly, RestsAgain};
+ghost use Rattle.program_calls.specs.Causes.{AnswersDevices, IsReadStatus, ReadsDamage, RestsAgain};
 ghost use Rattle.program_calls.specs.OnTheWay.{AddsRun, AddsText, BeginsRun, RunsInBrief, RunsRounds, RunsScript};
 ghost use Rattle.program_calls.specs.OnTheWay.{status_told};
+ghost use Rattle.program_calls.specs.RanScript.{RanScript};
 ghost use Rattle.program_calls.specs.Rounds.{CanCount, RunsRound, RunsToEnd};
 ghost use Rattle.program_calls.specs.Telling.{TellsRun};
 ghost use Rattle.program_calls.specs.Vaults.{vaults_of};
@@ -104,22 +104,8 @@ fn run_script<R: Threads + Wait + Sync, K: Sink, D: Disk + Send + Drop, G: Watch
     requires ranges { AreInRange options }
     requires whole { IsWhole vault.old }
     requires one { IfTold (D.tells vault.old.save) (Only D.clock D.image_at vault.old.save) }
-    ensures full { options.brief ≡ false
-        → RunsScript (vaults_of D.tells D.clock D.image_at D.faults vault.old vault.new) options.snap
-        options.slots options.tries script.now (AddsRun (Command.Run options) printer.old printer.new result) }
-    ensures brief { options.brief ≡ true
-        → RunsInBrief (vaults_of D.tells D.clock D.image_at D.faults vault.old vault.new) options.snap
-        options.slots options.tries script.now (AddsText printer.old printer.new result) }
-    ensures usage { result ≢ Ok Ending.Usage }
-    ensures statuses { IsRunStatus (status_told result) }
-    ensures faults { (source : ℕ) → AnswersFaults (record { before = source; after = source })
-        (record { before = printer.old.faults; after = printer.new.faults }) (status_told result) }
-    ensures reads { ReadsOnly (Command.Run options) (status_told result)
-        → VaultOnlyReads D.tells D.clock D.image_at D.faults vault.old vault.new }
-    ensures damage { ReadsDamage D.tells D.clock D.image_at D.faults (status_told result) vault.old vault.new }
-    ensures devices { AnswersDevices D.faults vault.old vault.new (status_told result) }
-    ensures rests { RestsAgain D.tells D.clock D.image_at (status_told result) vault.old vault.new }
-    ensures same { printer.new.sink ≡ printer.old.sink }
+    ensures { RanScript (vaults_of D.tells D.clock D.image_at D.faults vault.old vault.new) options
+        script.now printer.old printer.new result }
 {
     if options.brief {
         return run_in_brief(rt, alloc, options, script, printer, vault, gate);

@@ -223,7 +223,7 @@ module _ {D : Type 0} {tells : D → Option (List ℕ)} {clock : D → ℕ} {ima
   -- The closed side was gleaned.
   pub called : (result : Result Gleaned (OrMemory GleanFault)) → Calls result → now.save ≡ before.save
       → now.ties ≡ before.ties → now.cuts ≡ before.cuts → growing_in r.side now ≡ growing_in r.side before
-      → (0 < r.stands.slots → pages ≡ pages_after result r.stands.pages (words_of store.pages))
+      → pages ≡ pages_after result r.stands.pages (words_of store.pages)
       → Gleans tells clock image_at faults r (after result) before now result beside
   called result call save ties cuts growing are = record {
     alone = record {
@@ -292,7 +292,7 @@ module _ {D : Type 0} {tells : D → Option (List ℕ)} {clock : D → ℕ} {ima
 
   over_same : (result : Result Gleaned (OrMemory GleanFault)) → NewestKnown r → CallKnown r result → now.save ≡ before.save
       → now.ties ≡ before.ties → now.cuts ≡ before.cuts
-      → (0 < r.stands.slots → pages ≡ pages_after result r.stands.pages (words_of store.pages))
+      → pages ≡ pages_after result r.stands.pages (words_of store.pages)
       → Gleans tells clock image_at faults r (record r {
         stands = record r.stands { pages = pages };
         store = store;
@@ -306,7 +306,7 @@ module _ {D : Type 0} {tells : D → Option (List ℕ)} {clock : D → ℕ} {ima
 
   pub called_over : (q : RuntimeState) → q ≡ r → (result : Result Gleaned (OrMemory GleanFault)) → NewestKnown q
       → CallKnown q result → now.save ≡ before.save → now.ties ≡ before.ties → now.cuts ≡ before.cuts
-      → (0 < r.stands.slots → pages ≡ pages_after result r.stands.pages (words_of store.pages))
+      → pages ≡ pages_after result r.stands.pages (words_of store.pages)
       → Gleans tells clock image_at faults r (record q {
         stands = record r.stands { pages = pages };
         store = store;

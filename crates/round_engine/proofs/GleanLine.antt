@@ -225,7 +225,7 @@ module _ {D : Type 0} {tells : D → Option (List ℕ)} {clock : D → ℕ} {ima
           pages = new.stands.pages;
           drops = d;
         }) (sym same_drops);
-    dropped = nothing_dropped r.stands.slots (answer ∷ []) r.stands.drops new.stands.drops is.undropped same_drops;
+    dropped = nothing_dropped (answer ∷ []) r.stands.drops new.stands.drops is.undropped same_drops;
     logs = gleans.alone.logs;
     is_down = gleans.alone.down;
     count = refl;
@@ -260,15 +260,12 @@ module _ {D : Type 0} {tells : D → Option (List ℕ)} {clock : D → ℕ} {ima
       record { unsaved = unsaved; undropped = undropped; none_in = none; stays = stays }
 
   -- the engine has all pages
-  published_behind : (0 < r.stands.slots
-      → pages_after result r.stands.pages (words_of new.store.pages) ≡ words_of new.store.pages) → IsPublished r
-      → IsPublished new
-  published_behind is was some =
-      let same = gleans.alone.stands in
-      let first : 0 < r.stands.slots = subst (λ n. 0 < n) (ap (λ (s : Standing). s.slots) same) some in (
-        gleans.pages first ∙ is first,
-        ap (λ (s : Standing). s.resident) same ∙ ((was first).1 ∙ sym gleans.alone.room),
-      )
+  published_behind : pages_after result r.stands.pages (words_of new.store.pages) ≡ words_of new.store.pages
+      → IsPublished r → IsPublished new
+  published_behind is was = (
+    gleans.pages ∙ is,
+    ap (λ (s : Standing). s.resident) gleans.alone.stands ∙ (was.1 ∙ sym gleans.alone.room),
+  )
 
   -- the newest snapshot stays
   snapshot_same : AddsNothing r new vault now → HasSnapshot tells r vault.snaps → HasSnapshot tells new now.snaps
@@ -285,8 +282,8 @@ module _ {D : Type 0} {tells : D → Option (List ℕ)} {clock : D → ℕ} {ima
       gleans.alone.closed_at,
     );
     let_in = omega (arith, h.let_in, gleans.alone.room, ap (λ (s : StoreState). length s.pages) same.store);
-    published = published_behind (λ some. pages_either result r.stands.pages (words_of new.store.pages)
-        ((h.published some).0 ∙ ap (λ (s : StoreState). words_of s.pages) (sym same.store))) h.published;
+    published = published_behind (pages_either result r.stands.pages (words_of new.store.pages)
+        (h.published.0 ∙ ap (λ (s : StoreState). words_of s.pages) (sym same.store))) h.published;
   }
 
   -- nothing was added
@@ -503,7 +500,7 @@ module _ {D : Type 0} {tells : D → Option (List ℕ)} {clock : D → ℕ} {ima
               up_to = omega (arith, last.epoch_is, gleans.alone.closed_at);
               earlier = λ some. absurd (none_of_zeros new.counted adds.counted some);
               let_in = omega (arith, size, within, gleans.alone.room);
-              published = published_behind (λ some. pages_made result r.stands.pages (words_of new.store.pages)
+              published = published_behind (pages_made result r.stands.pages (words_of new.store.pages)
                   (ap has_made is)) h.published;
             };
         over = gleans.over;
@@ -522,10 +519,10 @@ module _ {D : Type 0} {tells : D → Option (List ℕ)} {clock : D → ℕ} {ima
 
   -- the pages of a snapshot that was made may be published
   made_pages : (answer : Result Gleaned (OrMemory GleanFault)) → result ≡ answer → has_made answer ≡ true
-      → 0 < r.stands.slots → CanPublish new.store.pages r.stands
-  made_pages (Ok Empty) is has some = absurd (true≢false (sym has))
-  made_pages (Err fault) is has some = absurd (true≢false (sym has))
-  made_pages (Ok (Snap epoch count)) is has some =
+      → CanPublish new.store.pages r.stands
+  made_pages (Ok Empty) is has = absurd (true≢false (sym has))
+  made_pages (Err fault) is has = absurd (true≢false (sym has))
+  made_pages (Ok (Snap epoch count)) is has =
       let counted : some_counted r.counted ≡ true = by_count (cases_Bool (some_counted r.counted)) in
       let adds : AddsPages tells clock image_at r new vault now count =
       (subst (AnswersGlean tells clock image_at faults r new vault now) is (gleans.answers counted)).1 in
@@ -539,10 +536,9 @@ module _ {D : Type 0} {tells : D → Option (List ℕ)} {clock : D → ℕ} {ima
       let one : h.contents ≡ added.contents = one_catalogue (length r.store.pages) h.contents added.contents
       h.stands.here.catalogue added.newest.here.catalogue (sym h.stands.here.words ∙ added.newest.here.words) in
       let last = gleaned_stands added.contents added.gleaned added.newest.here (h.decls ∙ ap decls_of one) in
-      let known = h.published some in
-      let low = known.1 in
+      let low = h.published.1 in
       record {
-        front = subst (λ (ps : List (List ℕ)). IsFront ps (words_of new.store.pages)) (sym known.0)
+        front = subst (λ (ps : List (List ℕ)). IsFront ps (words_of new.store.pages)) (sym h.published.0)
             (front_from (words_of r.store.pages) (words_of gleans.grows.0) (words_of new.store.pages)
             (sym (ap words_of gleans.grows.1 ∙ map-append (λ p. Page.words p) r.store.pages gleans.grows.0)));
         contents = last.contents;
@@ -556,8 +552,8 @@ module _ {D : Type 0} {tells : D → Option (List ℕ)} {clock : D → ℕ} {ima
       by_count (inl there) = there
       by_count (inr miss) = absurd (let bad = sym is ∙ (gleans.none miss).0 in cc)
 
-  pub can_publish : has_made result ≡ true → 0 < r.stands.slots → CanPublish new.store.pages r.stands
-  can_publish has some = made_pages result refl has some
+  pub can_publish : has_made result ≡ true → CanPublish new.store.pages r.stands
+  can_publish has = made_pages result refl has
 
   damaged_line : (device : Device) (at : ℕ) → result ≡ Err (or.Fault (glean_faults.Damaged device at))
       → FindsDamage tells r vault device at → AddsNothing r new vault now → some_counted r.counted ≡ true

@@ -480,7 +480,6 @@ module _ {D : Type 0} {tells : D → Option (List ℕ)} {clock : D → ℕ} {ima
       );
       let_in = omega (arith, ap (λ (x : RuntimeState). length x.store.pages) facts.runs.alone, ap (λ (x : RuntimeState). x.room) facts.runs.alone, facts.snapshot.let_in);
       published = published_then r.stands joined.stands r.store.pages joined.store.pages r.room joined.room (record {
-        slots = ap (λ (x : Standing). x.slots) facts.runs.stands;
         pages = ap (λ (x : Standing). x.pages) facts.runs.stands;
         resident = ap (λ (x : Standing). x.resident) facts.runs.stands;
       }) (ap (λ (x : RuntimeState). x.room) facts.runs.alone) (ap (λ (x : RuntimeState). x.store.pages) facts.runs.alone)

@@ -22,7 +22,7 @@ use Rattle.script_grammar.specs.declared.lines.KeeperLine.{KeeperLine}
 use Rattle.script_grammar.specs.declared.lines.KeeperLine.TheVariants as asks
 use Rattle.wire_form.specs.declared.clock.Mark.{Mark}
 use Rattle.log_writer.specs.declared.saved.Saved.{Saved}
-use Rattle.tx_script.specs.CausedBeside.{SavesSee}
+use Rattle.tx_script.specs.CausedBeside.{SavesSee, drops_told}
 use Rattle.tx_script.specs.Causes.{AnswersCaused, KeeperAt, keeper_after}
 use Rattle.tx_script.specs.Run.{Ran}
 use Rattle.tx_script.specs.declared.answer.Answer.{Answer}
@@ -33,7 +33,7 @@ use Rattle.worker_logs.specs.declared.savepoints.Side.TheVariants.{Even, Odd}
 use Rattle.round_engine.specs.Ends.{first_device, wants_memory, save_limited}
 use Rattle.round_engine.specs.Keeping.{answers_end, CanKeep, IsSavedBySeen, is_limited, is_refusal, keeper_on, refusal_told}
 use Rattle.round_engine.specs.Keeping.{RunsKeeper, seen_by, seen_unless, SeenAmong, StepsEpoch, StepsKeeper}
-use Rattle.round_engine.specs.Drops.{counts_of, drops_if}
+use Rattle.round_engine.specs.Drops.{counts_of}
 use Rattle.round_engine.specs.Keeping.{StepsDrop, StepsLine}
 use Rattle.round_engine.specs.Saves.{AreSavedIn, beside_after, beside_at_end, beside_at_save, GoesBy}
 use Rattle.round_engine.specs.Sides.{closed_in, growing_in}
@@ -202,9 +202,8 @@ module _ {D : Type 0} {tells : D → Option (List ℕ)} {clock : D → ℕ} {ima
     rise = runs.rise;
     later = runs.later;
     stands = runs.stands;
-    dropped = dropped_then old.stands.slots old.stands.slots said (answers.Unrun ∷ []) old.stands.drops mid.stands.drops
-        mid.stands.drops refl runs.dropped
-        (nothing_dropped old.stands.slots (answers.Unrun ∷ []) mid.stands.drops mid.stands.drops refl refl);
+    dropped = dropped_then said (answers.Unrun ∷ []) old.stands.drops mid.stands.drops mid.stands.drops runs.dropped
+        (nothing_dropped (answers.Unrun ∷ []) mid.stands.drops mid.stands.drops refl refl);
     logs = runs.logs;
     is_down = runs.is_down;
     count = length-append said (answers.Unrun ∷ []) ∙ ap (λ n. n + 1) runs.count ∙ sym (length-append lines (line ∷ []));
@@ -271,16 +270,16 @@ module _ {D : Type 0} {tells : D → Option (List ℕ)} {clock : D → ℕ} {ima
       (sym step.2)
       (plain_line r vault ready asks.Epoch (answers.Epoch epoch) epoch r.stands.drops (epoch_plain epoch)
       (omega (arith, step.1))
-      (step.1, refl) (nothing_dropped r.stands.slots (answers.Epoch epoch ∷ []) r.stands.drops r.stands.drops refl refl)
-      refl (λ ran same. (step.0, step.1)) [] (λ ran index. none_more index)
+      (step.1, refl) (nothing_dropped (answers.Epoch epoch ∷ []) r.stands.drops r.stands.drops refl refl)
+      refl (λ ran. (step.0, step.1)) [] (λ ran index. none_more index)
       (place_none r.stands.clock.epoch epoch (beside_at_save (beside_of r) (answers.Epoch epoch ∷ []))
       (sequence_of r.save.newest)))
   epoch_line answers.Limit {new} step =
       subst (λ n. RunsKeeper tells clock image_at faults [] (asks.Epoch ∷ []) (answers.Limit ∷ []) None r n vault vault)
       (sym step.1)
       (plain_line r vault ready asks.Epoch answers.Limit r.stands.clock.epoch r.stands.drops limit_plain (omega arith) refl
-      (nothing_dropped r.stands.slots (answers.Limit ∷ []) r.stands.drops r.stands.drops refl refl) refl
-      (λ ran same. step.0) [] (λ ran index. none_more index) (place_none r.stands.clock.epoch r.stands.clock.epoch
+      (nothing_dropped (answers.Limit ∷ []) r.stands.drops r.stands.drops refl refl) refl
+      (λ ran. step.0) [] (λ ran index. none_more index) (place_none r.stands.clock.epoch r.stands.clock.epoch
       (beside_at_save (beside_of r) (answers.Limit ∷ [])) (sequence_of r.save.newest)))
   epoch_line _ {new} step = absurd step
 
@@ -288,10 +287,10 @@ module _ {D : Type 0} {tells : D → Option (List ℕ)} {clock : D → ℕ} {ima
       → RunsKeeper tells clock image_at faults [] (asks.Drop ∷ []) (answer ∷ []) None r new vault vault
   drop_line (answers.Drop dropped kept) {new} step =
       subst (λ n. RunsKeeper tells clock image_at faults [] (asks.Drop ∷ []) (answers.Drop dropped kept ∷ []) None r n
-      vault vault) (sym step.1)
+      vault vault) (sym step)
       (plain_line r vault ready asks.Drop (answers.Drop dropped kept) r.stands.clock.epoch
-      (r.stands.drops ++ map counts_of (drops_if r.stands.slots (answers.Drop dropped kept ∷ [])))
-      (drop_plain dropped kept) (omega arith) refl refl refl (λ ran same none. step.0 (sym same ∙ none)) []
+      (r.stands.drops ++ map counts_of (drops_told (answers.Drop dropped kept ∷ [])))
+      (drop_plain dropped kept) (omega arith) refl refl refl (λ ran. tt) []
       (λ ran index. none_more index) (place_none r.stands.clock.epoch r.stands.clock.epoch
       (beside_at_save (beside_of r) (answers.Drop dropped kept ∷ [])) (sequence_of r.save.newest)))
   drop_line _ {new} step = absurd step
@@ -390,7 +389,7 @@ keeper_begin {tells = tells} {clock} {image_at} {faults} r vault ready = record 
   rise = λ from going low. (tt, low);
   later = omega arith;
   stands = refl;
-  dropped = nothing_dropped r.stands.slots [] r.stands.drops r.stands.drops refl refl;
+  dropped = nothing_dropped [] r.stands.drops r.stands.drops refl refl;
   logs = refl;
   is_down = refl;
   count = refl;

@@ -200,9 +200,6 @@ module _ {D : Type 0} {tells : D → Option (List ℕ)} {clock : D → ℕ} {ima
   nothing : NothingRefused first.failed first.broken first.damaged said
   nothing = refused_nothing first.failed first.broken first.damaged said first.refusal_is
 
-  slots_same : mid.stands.slots ≡ old.stands.slots
-  slots_same = ap (λ (s : Standing). s.slots) first.stands
-
   decls_same : mid.stands.decls ≡ old.stands.decls
   decls_same = ap (λ (s : Standing). s.decls) first.stands
 
@@ -308,7 +305,6 @@ module _ {D : Type 0} {tells : D → Option (List ℕ)} {clock : D → ℕ} {ima
         odd = rests.odd;
         closed_at = rests.closed_at;
         room = rests.room;
-        slots = rests.slots;
         gleans_are = λ what has. rests.gleans_are what (Contains-append_left first.gleans next.gleans what has);
         damage = λ damage is. absurd (let no = sym is ∙ nothing.damaged_is in cc);
         store = λ is. absurd (let no = sym (ap is_some nothing.failed_is) ∙ is in cc);
@@ -321,7 +317,6 @@ module _ {D : Type 0} {tells : D → Option (List ℕ)} {clock : D → ℕ} {ima
         odd = rests.odd ∙ ap is_odd (sym left.side);
         closed_at = rests.closed_at ∙ sym left.closed_at;
         room = rests.room ∙ sym left.room;
-        slots = rests.slots ∙ sym slots_same;
         gleans_are = λ what has. rests.gleans_are what (Contains-append_right first.gleans next.gleans what has);
         damage = rests.damage;
         store = rests.store;
@@ -394,8 +389,7 @@ module _ {D : Type 0} {tells : D → Option (List ℕ)} {clock : D → ℕ} {ima
           pages = new.stands.pages;
           drops = new.stands.drops;
         }) first.stands;
-    dropped = dropped_then old.stands.slots mid.stands.slots said told old.stands.drops mid.stands.drops new.stands.drops
-        slots_same first.dropped next.dropped;
+    dropped = dropped_then said told old.stands.drops mid.stands.drops new.stands.drops first.dropped next.dropped;
     logs = next.logs ∙ first.logs;
     is_down = next.is_down ∙ first.is_down;
     count = length-append said told ∙ ap (λ n. n + length told) first.count ∙ ap (λ n. length lines + n) next.count

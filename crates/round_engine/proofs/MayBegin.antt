@@ -1,5 +1,5 @@
 -- What is lent to the maintenance thread may be kept on, as the lines of a round begin.
-use Rattle.std.proofs.Common.{◌≡◌, ◌∙◌, ◌≤◌, ◌<◌, sym, ap, subst, refl, ℕ, List, [], length, Option, None, false, arith}
+use Rattle.std.proofs.Common.{◌≡◌, ◌∙◌, ◌≤◌, sym, ap, subst, refl, ℕ, List, [], length, Option, None, false, arith}
 use Rattle.std.specs.Prelude.{slice_get}
 use Rattle.log_writer.specs.Counted.{AlwaysTells}
 use Rattle.log_writer.specs.Save.{IsStored}
@@ -59,9 +59,7 @@ module _ {D : Type 0} {tells : D → Option (List ℕ)} {clock : D → ℕ} {ima
           up_to = can.snapshot.up_to;
           earlier = can.snapshot.earlier;
           let_in = can.snapshot.let_in;
-          published = λ some.
-              let was = can.snapshot.published (subst (λ n. 0 < n) begun.2 some) in
-              (begun.3 ∙ was.0, begun.4 ∙ was.1);
+          published = (begun.3 ∙ can.snapshot.published.0, begun.4 ∙ can.snapshot.published.1);
         });
         durable = durable (bare r v.layout.decls v).logs;
       }
@@ -90,7 +88,6 @@ module _ {D : Type 0} {tells : D → Option (List ℕ)} {clock : D → ℕ} {ima
               let shut : lent.closed_at ≡ r.closed_at =
               ap (λ (x : RuntimeState). x.closed_at) (lent_is v.layout.decls v) in
               omega (arith, shut, can.closed.before, begun.1, may.begins.past, may.begins.epoch);
-          slots = omega (arith, may.slots, may.begins.slots);
           few = may.begins.few;
           claimed = may.begins.claimed;
           rests = may.begins.rests;

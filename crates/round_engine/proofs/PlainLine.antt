@@ -13,7 +13,7 @@ use Rattle.log_writer.specs.Points.{sequence_of}
 use Rattle.log_writer.specs.declared.vault.Vault.{Vault}
 use Rattle.lists.specs.Fronts.{IsFront}
 use Rattle.script_grammar.specs.declared.lines.KeeperLine.{KeeperLine}
-use Rattle.tx_script.specs.CausedBeside.{SavesSee}
+use Rattle.tx_script.specs.CausedBeside.{SavesSee, drops_told}
 use Rattle.tx_script.specs.SeenLaws.{saved_no_less}
 use Rattle.tx_script.specs.Run.{AdvancesTo, Ran}
 use Rattle.tx_script.specs.Causes.{AnswerCause, keeper_after, some_counted}
@@ -25,7 +25,7 @@ use Rattle.worker_logs.specs.Saves.{saved_epoch}
 use Rattle.worker_logs.specs.declared.savepoints.Beside.{Beside}
 use Rattle.log_writer.specs.declared.saved.Saved.{Saved}
 use Rattle.engine_pages.specs.declared.view.Dropped.{Dropped as Counts}
-use Rattle.round_engine.specs.Drops.{counts_of, drops_if}
+use Rattle.round_engine.specs.Drops.{counts_of}
 use Rattle.round_engine.specs.Ends.{wants_memory}
 use Rattle.round_engine.specs.Gleans.{GleansOver, LeaveGleans, RoundGleans}
 use Rattle.round_engine.specs.Keeping.{AreByPlace, at_epoch, CanKeep, epoch_by, epochs_in, GoOn, is_refusal, keeper_on, last_seen}
@@ -171,9 +171,9 @@ module _ {D : Type 0} {tells : D → Option (List ℕ)} {clock : D → ℕ} {ima
     (r : RuntimeState) (vault : Vault D) (ready : CanKeep tells clock image_at r vault) where
   pub plain_line : (line : KeeperLine) (answer : Answer) (epoch : ℕ) (drops : List Counts) → IsPlain answer
       → r.stands.clock.epoch ≤ epoch → AdvancesTo r.stands.clock.epoch (answer ∷ []) epoch
-      → drops ≡ r.stands.drops ++ map counts_of (drops_if r.stands.slots (answer ∷ []))
+      → drops ≡ r.stands.drops ++ map counts_of (drops_told (answer ∷ []))
       → keeper_after (keeper_on r false) answer ≡ keeper_on (at_epoch r epoch) false
-      → ((ran : Ran) → ran.beside.slots ≡ r.stands.slots → AnswerCause ran (keeper_on r false) line answer)
+      → ((ran : Ran) → AnswerCause ran (keeper_on r false) line answer)
       → (seen : List (List Mark)) → ((ran : Ran) (index : ℕ)
       → SavesSee ran index (keeper_on r false) (line ∷ []) (answer ∷ []) (index + length seen))
       → AreByPlace r.stands.clock.epoch epoch (beside_at_save (beside_of r) (answer ∷ [])) seen []
@@ -183,7 +183,7 @@ module _ {D : Type 0} {tells : D → Option (List ℕ)} {clock : D → ℕ} {ima
       let same : Ungleaned r (with_drops (at_epoch r epoch) drops) vault vault = record {
         store = refl;
         decls = refl;
-        pages = record { slots = refl; pages = refl; resident = refl };
+        pages = record { pages = refl; resident = refl };
         room = refl;
         side = refl;
         counted = refl;
@@ -243,7 +243,7 @@ module _ {D : Type 0} {tells : D → Option (List ℕ)} {clock : D → ℕ} {ima
         refused = sym (no_more (is_refusal answer) is.goes_on);
         refusal_is = sym (ap (λ b. where_memory b) (no_more (wants_memory answer) is.remembers));
         told = sym is.unsaved;
-        caused = λ ran rests. (cause ran rests.slots, tt);
+        caused = λ ran rests. (cause ran, tt);
         saw = λ ran index are. saw ran index;
         above = λ low. omega (arith, low, le);
         tie_room = omega arith;

@@ -1,5 +1,5 @@
 -- The pages of the store stay published, where neither they nor the engine's pages change.
-use Rattle.std.proofs.Common.{◌≡◌, ◌∙◌, ◌<◌, sym, ap, subst, ℕ, List, true, false, true≢false, refl}
+use Rattle.std.proofs.Common.{◌≡◌, ◌∙◌, sym, ap, ℕ, List, true, false, true≢false, refl}
 use Rattle.std.specs.Prelude.{Result, Ok, Err}
 use Rattle.lists.specs.declared.memory.OrMemory.{OrMemory}
 use Rattle.wire_form.specs.declared.page.Page.{Page}
@@ -13,22 +13,18 @@ use Rattle.round_engine.specs.Standing.{Standing}
 
 -- the parts of an engine that publishing its pages speaks of are the same
 pub record SamePages (s t : Standing) : Type 0 where
-  pub slots : t.slots ≡ s.slots
   pub pages : t.pages ≡ s.pages
   pub resident : t.resident ≡ s.resident
 
 pub published_then : (s t : Standing) (pages now : List Page) (room most : ℕ) → SamePages s t → most ≡ room → now ≡ pages
-    → (0 < s.slots → (s.pages ≡ words_of pages) × (s.resident ≡ room))
-    → 0 < t.slots → (t.pages ≡ words_of now) × (t.resident ≡ most)
-published_then s t pages now room most same rooms store is some =
-    let was = is (subst (λ n. 0 < n) same.slots some) in
+    → (s.pages ≡ words_of pages) × (s.resident ≡ room) → (t.pages ≡ words_of now) × (t.resident ≡ most)
+published_then s t pages now room most same rooms store was =
     (same.pages ∙ (was.0 ∙ ap words_of (sym store)), same.resident ∙ (was.1 ∙ sym rooms))
 
 -- Lines leave them as they are, beside which no page is published.
 pub lines_same : {tries : ℕ} {s t : Standing} {shares : List Share} → RunsShares tries s t shares → t.pages ≡ s.pages
     → SamePages s t
 lines_same runs same = record {
-  slots = ap (λ (x : Standing). x.slots) runs.only;
   pages = same;
   resident = ap (λ (x : Standing). x.resident) runs.only;
 }

@@ -23,7 +23,7 @@ use Rattle.joint_crashes.specs.VaultReads.{RoseIn}
 use Rattle.tx_script.specs.Run.{AdvancesTo, Dropped, LogFailed, LogFiles, LogFull, LogRefusal, Ran}
 use Rattle.tx_script.specs.Causes.{AllCaused, AnswersCaused, AreMarksOf, KeeperAt, LogsCaused, keeper_at_end, keeper_before}
 use Rattle.tx_script.specs.Causes.{last_sequence, log_limit as file_limit, log_of, longest_line, some_counted}
-use Rattle.tx_script.specs.CausedBeside.{CausedBeside, SavesSee}
+use Rattle.tx_script.specs.CausedBeside.{CausedBeside, SavesSee, drops_told}
 use Rattle.tx_script.specs.Conflicts.{WorkersMet, met_for}
 use Rattle.tx_script.specs.Draws.{commit_count}
 use Rattle.tx_script.specs.Readied.{AllReadied}
@@ -39,7 +39,7 @@ use Rattle.shared_rounds.specs.Shares.{BeginsAt, shown_epochs}
 use Rattle.round_engine.specs.Changes.{AreLogged}
 use Rattle.round_engine.specs.Crashes.{CarriesCrashes}
 use Rattle.engine_pages.specs.declared.view.Dropped.{Dropped as Counts}
-use Rattle.round_engine.specs.Drops.{counts_of, drops_if}
+use Rattle.round_engine.specs.Drops.{counts_of}
 use Rattle.round_engine.specs.Ends.{comes_to_advance, comes_to_save, durable_of, end_of, epoch_joined, swaps, where_true}
 use Rattle.round_engine.specs.Gleans.{RoundGleans}
 use Rattle.round_engine.specs.Histories.{HasGathered}
@@ -58,7 +58,6 @@ use Rattle.round_engine.specs.declared.report.Report.{Report}
 use Rattle.round_engine.proofs.Beside.{SameSaves}
 use Rattle.round_engine.proofs.CrashesLeft.{with_crashes}
 use Rattle.round_engine.proofs.Devices.{are_down, at_first, bank_in, banks_in, down_at, IsBeside, others_in, save_in}
-use Rattle.round_engine.proofs.Dropped.{told_counted, untold_counted}
 use Rattle.round_engine.proofs.Ended.{devices_down}
 use Rattle.round_engine.proofs.JoinEnds.{before_later}
 use Rattle.round_engine.proofs.LinesLeft.{LastStep, logs_total, logs_up, shown_get, shown_in, shown_some, shown_told}
@@ -159,7 +158,7 @@ ran_of tries round old start kept logs shares failed others gleans damaged place
     tries = tries;
     refused = map (λ (p : Share). p.tries_refused) shares;
     gleans = gleans;
-    drops = drops_if old.stands.slots report.keeper;
+    drops = drops_told report.keeper;
     devices = devices_down old.side (are_down logs) (is_some failed) others;
     damaged = damaged;
   };
@@ -349,15 +348,13 @@ module _ {D : Type 0} {tells : D → Option (List ℕ)} {clock : D → ℕ} {ima
   }) all.alone
 
   -- its counts of drops got what is told
-  kept_drops : all.kept.stands.drops ≡ old.stands.drops ++ map counts_of (drops_if old.stands.slots report.keeper)
+  kept_drops : all.kept.stands.drops ≡ old.stands.drops ++ map counts_of (drops_told report.keeper)
   kept_drops = all.keeper.dropped
-      ∙ ap (λ (d : List Counts). d ++ map counts_of (drops_if all.mid.stands.slots report.keeper))
+      ∙ ap (λ (d : List Counts). d ++ map counts_of (drops_told report.keeper))
       (ap (λ (r : RuntimeState). r.stands.drops) all.alone)
-      ∙ ap (λ (n : ℕ). old.stands.drops ++ map counts_of (drops_if n report.keeper))
-      (ap (λ (r : RuntimeState). r.stands.slots) all.alone ∙ same_slots all.lines.over.runs)
 
   -- so pages were dropped beside the workers' lines only where some drop is told
-  some_dropped : (all.worked.drops ≡ old.stands.drops → ⊥) → drops_if old.stands.slots report.keeper ≡ [] → ⊥
+  some_dropped : (all.worked.drops ≡ old.stands.drops → ⊥) → drops_told report.keeper ≡ [] → ⊥
   some_dropped more none = more (all.drops ∙ kept_drops
       ∙ ap (λ (l : List Dropped). old.stands.drops ++ map counts_of l) none ∙ append-nil old.stands.drops)
 
@@ -423,7 +420,6 @@ module _ {D : Type 0} {tells : D → Option (List ℕ)} {clock : D → ℕ} {ima
         odd = ap (λ (r : RuntimeState). is_odd r.side) (sym all.alone);
         closed_at = ap (λ (r : RuntimeState). r.closed_at) (sym all.alone);
         room = ap (λ (r : RuntimeState). r.room) (sym all.alone);
-        slots = sym (same_slots all.lines.over.runs) ∙ ap (λ (r : RuntimeState). r.stands.slots) (sym all.alone);
         gleans_are = λ what has. has;
         damage = λ damage is. is;
         store = λ is. subst (λ b. Contains (devices_down old.side (are_down logs) b others) devices.Save) (sym (fails is))
@@ -533,10 +529,7 @@ module _ {D : Type 0} {tells : D → Option (List ℕ)} {clock : D → ℕ} {ima
           (shares_readied old.stands.decls old.stands.clock.epoch old.stands.clock.draw all.worked.clock.draw tries
           shares
           all.lines.over.runs.each);
-      drops = record {
-        told = λ some. told_counted old.stands.slots report.keeper some;
-        none = λ none. untold_counted old.stands.slots report.keeper none;
-      };
+      drops = refl;
       order = subst AllInOrder (sym marks_are) in_order;
       places = all.back;
       saves = subst (λ k. SavesSee ran 0 k (keeper_lines round) report.keeper (length all.places)) keeper_start

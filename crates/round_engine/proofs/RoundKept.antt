@@ -382,7 +382,6 @@ module _ {D : Type 0} {tells : D → Option (List ℕ)} {clock : D → ℕ} {ima
         let_in = has.let_in;
         published = published_then old.stands (as_begun old.stands all.worked) old.store.pages old.store.pages old.room
             old.room (record {
-              slots = ap (λ (x : Standing). x.slots) all.lines.over.runs.only;
               pages = refl;
               resident = ap (λ (x : Standing). x.resident) all.lines.over.runs.only;
             }) refl refl has.published;

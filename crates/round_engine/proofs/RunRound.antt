@@ -113,7 +113,6 @@ module _ {D : Type 0} {tells : D → Option (List ℕ)} {clock : D → ℕ} {ima
         let_in = ready.snapshot.let_in;
         published = published_then r.stands (as_begun r.stands worked) r.store.pages r.store.pages r.room r.room
             (record {
-              slots = ap (λ (x : Standing). x.slots) lines.over.runs.only;
               pages = refl;
               resident = ap (λ (x : Standing). x.resident) lines.over.runs.only;
             }) refl refl ready.snapshot.published;

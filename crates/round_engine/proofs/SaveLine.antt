@@ -79,7 +79,7 @@ module _ {D : Type 0} {tells : D → Option (List ℕ)} {clock : D → ℕ} {ima
     ungleaned result saves = record {
       store = refl;
       decls = refl;
-      pages = record { slots = refl; pages = refl; resident = refl };
+      pages = record { pages = refl; resident = refl };
       room = refl;
       side = refl;
       counted = refl;
@@ -140,7 +140,7 @@ module _ {D : Type 0} {tells : D → Option (List ℕ)} {clock : D → ℕ} {ima
           );
           later = omega arith;
           stands = refl;
-          dropped = nothing_dropped r.stands.slots (answers.Save epoch ∷ []) r.stands.drops r.stands.drops refl refl;
+          dropped = nothing_dropped (answers.Save epoch ∷ []) r.stands.drops r.stands.drops refl refl;
           logs = refl;
           is_down = refl;
           count = refl;
@@ -205,7 +205,7 @@ module _ {D : Type 0} {tells : D → Option (List ℕ)} {clock : D → ℕ} {ima
           );
           later = omega arith;
           stands = refl;
-          dropped = nothing_dropped r.stands.slots (answers.Device ∷ []) r.stands.drops r.stands.drops refl refl;
+          dropped = nothing_dropped (answers.Device ∷ []) r.stands.drops r.stands.drops refl refl;
           logs = refl;
           is_down = refl;
           count = refl;
@@ -238,8 +238,8 @@ module _ {D : Type 0} {tells : D → Option (List ℕ)} {clock : D → ℕ} {ima
       (subst (λ v. RunsKeeper tells clock image_at faults (marks ∷ []) (asks.Save ∷ []) (answers.Limit ∷ []) None r r vault v)
       (sym (saves.untied (λ is. cc)))
       (plain_line r vault ready asks.Save answers.Limit r.stands.clock.epoch r.stands.drops limit_plain (omega arith) refl
-      (nothing_dropped r.stands.slots (answers.Limit ∷ []) r.stands.drops r.stands.drops refl refl) refl
-      (λ ran same. sym met.1 ∙ met.2) (marks ∷ []) (λ ran index. refl)
+      (nothing_dropped (answers.Limit ∷ []) r.stands.drops r.stands.drops refl refl) refl
+      (λ ran. sym met.1 ∙ met.2) (marks ∷ []) (λ ran index. refl)
       (place_limit r.stands.clock.epoch r.stands.clock.epoch (beside_at_save (beside_of r) (answers.Limit ∷ [])) marks
       (sequence_of r.save.newest) (sym met.1 ∙ met.2))))
 

@@ -235,7 +235,6 @@ module _ {D : Type 0} (tells : D → Option (List ℕ)) (clock : D → ℕ) (ima
           odd = rests.odd;
           closed_at = rests.closed_at;
           room = rests.room;
-          slots = rests.slots;
           gleans_are = rests.gleans_are;
           damage = rests.damage;
           store = rests.store;

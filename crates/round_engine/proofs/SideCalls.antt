@@ -1,6 +1,6 @@
 -- What calls on the words and on the vault come to, as lines of the maintenance thread beside running workers.
-use Rattle.std.proofs.Common.{◌≡◌, ◌∙◌, ◌<◌, ◌+◌, ◌/◌, ◌^◌, ◌++◌, ◌∷◌, sym, ap, subst, refl, ℕ, zero, suc, List, []}
-use Rattle.std.proofs.Common.{length, map, None, Option, Some, arith, true}
+use Rattle.std.proofs.Common.{◌≡◌, ◌∙◌, ◌+◌, ◌/◌, ◌^◌, sym, ap, subst, refl, ℕ, List, []}
+use Rattle.std.proofs.Common.{length, None, Option, Some, arith, true}
 use Rattle.std.specs.Prelude.{is_some, slice_get, Result}
 use Rattle.lists.specs.declared.memory.OrMemory.{OrMemory}
 use Rattle.lists.specs.Elements.{at_below}
@@ -30,7 +30,6 @@ use Rattle.shared_rounds.specs.Drops.{HasDropped}
 use Rattle.shared_rounds.specs.Published.{HasPages}
 use Rattle.round_engine.specs.Gleans.{CanPublish, Gleans}
 use Rattle.round_engine.specs.Keeping.{at_epoch, glean_answer, glean_refusal, refusal_beside, save_answer, save_refusal}
-use Rattle.round_engine.specs.Drops.{counts_of, drops_if}
 use Rattle.round_engine.specs.Keeping.{StepsEpoch, with_drops}
 use Rattle.round_engine.specs.SideLines.{beside_in, CanKeepBeside, HasSeenMarks, lent_at, SavesBeside, StepsBeside, stands_in_view}
 use Rattle.round_engine.specs.Standing.{RuntimeState}
@@ -232,19 +231,16 @@ module _ {D : Type 0} (tells : D → Option (List ℕ)) (clock : D → ℕ) (ima
 
   -- a drop, on what is lent as it was: what is answered is what the pass counted
   pub drop_line : (tally : Dropped) (answer : Answer) (refusal : Option End)
-      → answer ≡ answers.Drop tally.dropped tally.kept → refusal ≡ None → 0 < v.layout.slots
+      → answer ≡ answers.Drop tally.dropped tally.kept → refusal ≡ None
       → HasDropped (words_of old.store.now.pages) tally v w
       → StepsBeside tells clock image_at faults decls None asks.Drop answer refusal old old v w before before
-  drop_line tally answer refusal answer_is refusal_is some drops =
+  drop_line tally answer refusal answer_is refusal_is drops =
       subst (λ a. StepsBeside tells clock image_at faults decls None asks.Drop a refusal old old v w before before)
       (sym answer_is) (record {
         marks = [];
         steps = (
-          (
-            λ (none : v.layout.slots ≡ 0). absurd (omega (arith, none, some)),
-            sym (ap (with_drops (lent_at decls old v)) (sym (drops.drops ∙ counted v.layout.slots some))
-                ∙ lent_dropped decls old v w drops.epoch drops.went.layout drops.pages),
-          ),
+          sym (ap (with_drops (lent_at decls old v)) (sym drops.drops)
+              ∙ lent_dropped decls old v w drops.epoch drops.went.layout drops.pages),
           refl,
           refusal_is,
         );
@@ -252,11 +248,6 @@ module _ {D : Type 0} (tells : D → Option (List ℕ)) (clock : D → ℕ) (ima
         dropped = (tally, refl, refl, drops);
         went = drops.went;
       })
-    where
-      counted : (slots : ℕ) → 0 < slots → v.drops ++ record { dropped = tally.dropped; kept = tally.kept } ∷ []
-          ≡ v.drops ++ map counts_of (drops_if slots (answers.Drop tally.dropped tally.kept ∷ []))
-      counted zero some = absurd (omega (arith, some))
-      counted (suc n) some = refl
 
   -- a line that isn't run, behind a refusal
   pub left_line : (refusal : Option End) (line : KeeperLine) → is_some refusal ≡ true

@@ -429,7 +429,6 @@ module _ {D : Type 0} {tells : D → Option (List ℕ)} {clock : D → ℕ} {ima
           let over = ready.past before in
           let same = b.went.past before in
           let shut = b.runs.leaves.closed_at in omega (arith, over, same, shut);
-      slots = omega (arith, ready.slots, ap (λ (x : Layout). x.slots) b.went.layout);
       few = omega (arith, ready.few, ap (λ (x : Layout). x.resident) b.went.layout);
       claimed = b.went.claimed ready.claimed;
       rests = subst IsResting (sym b.went.seat) ready.rests;

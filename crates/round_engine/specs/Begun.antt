@@ -1,5 +1,5 @@
 -- How a runtime begins.
-use Rattle.std.specs.Prelude.{◌≡◌, ◌-◌, ◌<◌, ℕ, List, [], replicate, false}
+use Rattle.std.specs.Prelude.{◌≡◌, ◌-◌, ℕ, List, [], replicate, false}
 use Rattle.serial_model.specs.State.{State}
 use Rattle.serial_model.specs.declared.decl.Decl.{Decl}
 use Rattle.serial_model.specs.declared.key.Key.{Key}
@@ -40,7 +40,7 @@ pub record Begins (pages : List (List ℕ)) (number : ℕ) (decls : List Decl) (
   pub stands : s ≡ begins_at decls state s first
   pub opens : OpensOn pages number s
   pub slots_are : s.slots ≡ slots
-  pub pages_are : 0 < s.slots → (s.pages ≡ pages) × (s.resident ≡ room)
+  pub pages_are : (s.pages ≡ pages) × (s.resident ≡ room)
 
 -- In a settled state with its stores, at this number, over words such as these, and so many pages let in. All log files
 -- are empty: those of even number grow, with empty logs marked at the epoch before, which is also that at which the others

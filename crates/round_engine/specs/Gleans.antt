@@ -192,8 +192,7 @@ module _ {D : Type 0} (tells : D → Option (List ℕ)) (clock : D → ℕ) (ima
     pub alone : GleansAlone old new
     pub sized : length (bytes_of_pages old.store.pages) ≤ 512 * length old.store.pages
     pub grows : (more : List Page) × (new.store.pages ≡ old.store.pages ++ more)
-    pub pages : 0 < old.stands.slots
-        → new.stands.pages ≡ pages_after result old.stands.pages (words_of new.store.pages)
+    pub pages : new.stands.pages ≡ pages_after result old.stands.pages (words_of new.store.pages)
     pub save : now.save ≡ before.save
     pub ties : now.ties ≡ before.ties
     pub cuts : now.cuts ≡ before.cuts

@@ -30,7 +30,7 @@ use Rattle.joint_crashes.specs.Images.{epoch_of}
 use Rattle.engine_pages.specs.declared.view.Dropped.{Dropped as Counts}
 use Rattle.tx_script.specs.Run.{AdvancesTo, Ran}
 use Rattle.tx_script.specs.Causes.{AnswersCaused, AreMarksOf, KeeperAt, keeper_after, last_sequence, some_counted}
-use Rattle.tx_script.specs.CausedBeside.{SavesSee}
+use Rattle.tx_script.specs.CausedBeside.{SavesSee, drops_told}
 use Rattle.tx_script.specs.Seen.{AreAt, AreNoLess}
 use Rattle.tx_script.specs.declared.answer.Answer.{Answer}
 use Rattle.tx_script.specs.declared.answer.Answer.TheVariants as answers
@@ -38,7 +38,7 @@ use Rattle.worker_logs.specs.Logs.{IsJoined, LogGoesOn, LogState}
 use Rattle.worker_logs.specs.Saves.{SavesBy, SavesMarks, growing_number, logs_marks, saved_epoch}
 use Rattle.worker_logs.specs.declared.savepoints.Beside.{Beside}
 use Rattle.worker_logs.specs.Rows.{Blames, KeepsMark, NeverFall}
-use Rattle.round_engine.specs.Drops.{counts_of, drops_if}
+use Rattle.round_engine.specs.Drops.{counts_of}
 use Rattle.round_engine.specs.Ends.{epoch_after, first_device, wants_memory, where_true}
 use Rattle.round_engine.specs.Gleans.{Gleans, LeaveGleans, RoundGleans}
 use Rattle.round_engine.specs.RanRound.{KeeperStored}
@@ -176,7 +176,6 @@ pub record RestsOn (r : RuntimeState) (seen : List (List Mark)) (gleans : List (
   pub room : ran.beside.room ≡ r.room
   pub gleans_are : (what : Option ℕ) → Contains gleans what → Contains ran.beside.gleans what
   pub damage : (damage : TheDevice × ℕ) → damaged ≡ Some damage → ran.beside.damaged ≡ Some damage
-  pub slots : ran.beside.slots ≡ r.stands.slots
   pub store : is_some failed ≡ true → Contains ran.beside.devices devices.Save
   pub device : (device : TheDevice) → Contains broken device → Contains ran.beside.devices device
 
@@ -255,7 +254,7 @@ pub record RunsKeeper {D : Type 0} (tells : D → Option (List ℕ)) (clock : D 
     pages = new.stands.pages;
     drops = new.stands.drops;
   }
-  pub dropped : new.stands.drops ≡ old.stands.drops ++ map counts_of (drops_if old.stands.slots said)
+  pub dropped : new.stands.drops ≡ old.stands.drops ++ map counts_of (drops_told said)
   pub logs : new.logs ≡ old.logs
   pub is_down : new.down ≡ old.down
   pub count : length said ≡ length lines
@@ -338,13 +337,10 @@ StepsEpoch _ old new = ⊥
 abbrev pub with_drops : RuntimeState → List Counts → RuntimeState
 with_drops r drops = record r { stands = record r.stands { drops = drops } }
 
--- A drop by a line of the maintenance thread. What is answered is what it added to the counts of drops; without a slot
--- there was nothing to drop.
+-- A drop by a line of the maintenance thread. What is answered is what it added to the counts of drops.
 abbrev pub StepsDrop : Answer → RuntimeState → RuntimeState → Type 0
 StepsDrop (answers.Drop dropped kept) old new =
-    (old.stands.slots ≡ 0 → (dropped ≡ 0) × (kept ≡ 0))
-    × (new ≡ with_drops old (old.stands.drops
-    ++ map counts_of (drops_if old.stands.slots (answers.Drop dropped kept ∷ []))))
+    new ≡ with_drops old (old.stands.drops ++ map counts_of (drops_told (answers.Drop dropped kept ∷ [])))
 StepsDrop _ old new = ⊥
 
 module _ {D : Type 0} (tells : D → Option (List ℕ)) (clock : D → ℕ) (image_at : D → ℕ → List ℕ → Type 0)

@@ -1,6 +1,6 @@
 -- What the maintenance thread's lines do beside running workers: on what is lent to it of a runtime and of a vault, and
 -- on its pass of the words.
-use Rattle.std.specs.Prelude.{◌≡◌, ◌≢◌, ◌<◌, ◌≤◌, ◌+◌, ◌++◌, ℕ, List, [], ◌∷◌, length, replicate, false, not, Option}
+use Rattle.std.specs.Prelude.{◌≡◌, ◌≢◌, ◌≤◌, ◌+◌, ◌++◌, ℕ, List, [], ◌∷◌, length, replicate, false, not, Option}
 use Rattle.std.specs.Prelude.{Contains, None, Result, Some, get_or, slice_get, true, ⊤}
 use Rattle.std.specs.FinMap.{empty}
 use Rattle.std.specs.List.{AllByRecursion}
@@ -183,7 +183,6 @@ module _ {D : Type 0} (tells : D → Option (List ℕ)) (clock : D → ℕ) (ima
     pub can : CanKeep tells clock image_at (lent_at storages lent v) vault
     pub decls : v.layout.decls ≡ storages
     pub past : (v.made ≡ [] → ⊥) → lent.closed_at ≤ v.past
-    pub slots : 0 < v.layout.slots
     pub few : v.layout.resident ≤ 65536
     pub claimed : AreClaimed v
     pub rests : IsResting v.seat

@@ -90,10 +90,9 @@ pub record AreClosed (r : RuntimeState) : Type 0 where
   pub counted : AllByRecursion (λ n. n < 2 ^ 40) r.counted
   pub before : r.closed_at < r.stands.clock.epoch
 
--- All pages of the store are published to an engine with slots, as each one is, and it has room for as many as are let
--- in.
+-- All pages of the store are published to the engine, and it has room for as many as are let in.
 abbrev pub IsPublished : RuntimeState → Type 0
-IsPublished r = 0 < r.stands.slots → (r.stands.pages ≡ words_of r.store.pages) × (r.stands.resident ≡ r.room)
+IsPublished r = (r.stands.pages ≡ words_of r.store.pages) × (r.stands.resident ≡ r.room)
 
 -- The last page is the catalogue of a snapshot that stands, which has the storages. It is no later than the epoch at
 -- which the closed log files were closed, and where bytes of these count it is earlier. The device begins with the

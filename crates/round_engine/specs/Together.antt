@@ -1,5 +1,5 @@
 -- The workers' lines on words that threads share, with what is done beside them.
-use Rattle.std.specs.Prelude.{◌≡◌, ◌<◌, ℕ, List, Option}
+use Rattle.std.specs.Prelude.{◌≡◌, ℕ, List, Option}
 use Rattle.engine_pages.specs.declared.view.View.{View}
 use Rattle.script_grammar.specs.Script.{Round}
 use Rattle.tx_script.specs.Readied.{Readied}
@@ -16,7 +16,6 @@ use Rattle.round_engine.specs.Standing.{Standing}
 pub record MayBegin (s : Standing) (v : View) : Type 0 where
   pub shared : SharedState
   pub stands : s ≡ standing s.ended shared
-  pub slots : 0 < shared.slots
   pub begins : BeginsBeside shared v
 
 -- All lines were run, and beside them this was done.

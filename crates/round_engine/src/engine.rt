@@ -99,9 +99,9 @@ impl Engine {
 
     /// Publishes the pages of the store to words that threads share.
     pub(crate) fn publish(&mut self, store: &SnapStore)
-        requires can { 0 < self.old.slots → CanPublish store.now.pages self.old }
+        requires can { CanPublish store.now.pages self.old }
         ensures alone { self.new ≡ record self.old { pages = self.new.pages } }
-        ensures published { 0 < self.old.slots → self.new.pages ≡ words_of store.now.pages }
+        ensures published { self.new.pages ≡ words_of store.now.pages }
     {
         publish_words(&mut self.words, store);
     }
@@ -160,8 +160,6 @@ impl Engine {
         ensures history { KeepsHistory round.now result.outcomes self.old self.new }
         ensures calls { AreAllTold 0 result.outcomes result.ends.items }
     {
-        // Called for what it promises of the slots.
-        let _ = self.words.clock();
         shared_rounds::run_workers(
             rt,
             &mut self.words,
@@ -178,12 +176,9 @@ impl Engine {
 
 // The words get the pages of the store.
 fn publish_words(engine: &mut SharedEngine, store: &SnapStore)
-    requires can { (ended : Bool) × (0 < engine.old.slots → CanPublish store.now.pages (standing ended engine.old)) }
-    ensures some_slots { 0 < engine.old.slots }
+    requires can { (ended : Bool) × CanPublish store.now.pages (standing ended engine.old) }
     ensures publishes { engine.new ≡ record engine.old { pages = words_of store.now.pages } }
 {
-    // Called for what it promises of the slots.
-    let _ = engine.clock();
     engine.publish(store);
 }
 

@@ -82,12 +82,12 @@ pub(crate) fn glean_closed<R: Threads + Wait + Sync, D: Disk + Send>(
 
 // Publishes the pages of a snapshot that was made.
 fn publish_made(runtime: &mut Runtime, gleaned: &Result<Gleaned, OrMemory<GleanFault>>)
-    requires can { has_made gleaned.now ≡ true → 0 < runtime.old.stands.slots
+    requires can { has_made gleaned.now ≡ true
         → CanPublish runtime.old.store.pages runtime.old.stands }
     ensures alone { runtime.new ≡ record runtime.old {
       stands = record runtime.old.stands { pages = runtime.new.stands.pages };
     } }
-    ensures published { 0 < runtime.old.stands.slots → runtime.new.stands.pages
+    ensures published { runtime.new.stands.pages
         ≡ pages_after gleaned.now runtime.old.stands.pages (words_of runtime.old.store.pages) }
 {
     if !has_made(gleaned) {
@@ -125,8 +125,8 @@ fn glean_side<R: Threads + Wait + Sync, D: Disk + Send>(
 ) -> Gleaning
     requires ready { CanKeep D.tells D.clock D.image_at runtime.old vault.old }
     // Whichever pages are published then.
-    ensures gleans { (pages : List (List ℕ)) → (0 < runtime.old.stands.slots
-        → pages ≡ pages_after result.answer runtime.old.stands.pages (words_of runtime.new.store.pages))
+    ensures gleans { (pages : List (List ℕ))
+        → pages ≡ pages_after result.answer runtime.old.stands.pages (words_of runtime.new.store.pages)
         → Gleans D.tells D.clock D.image_at D.faults runtime.old (record runtime.new {
           stands = record runtime.old.stands { pages = pages };
           counted = counted_after result.answer runtime.old.counted;

@@ -39,23 +39,6 @@ pub trait Beside {
         ensures did { did self.old self.new (view keeper.old) (view keeper.new) };
 }
 
-/// Nothing is done beside the lines.
-pub struct Alone;
-
-impl Beside for Alone {
-    ghost use Rattle.std.specs.Prelude.{◌≡◌, ⊤};
-
-    ghost can = { λ side v. ⊤ };
-
-    ghost did = { λ before after v w. w ≡ v };
-
-    fn has_work(&self) -> bool {
-        false
-    }
-
-    fn run(&mut self, _engine: &Engine, _keeper: &mut Pass, _decls: &[Decl]) {}
-}
-
 /// Runs the lines of each cell's worker, and beside them, on this thread, what the maintenance thread has to do.
 pub(crate) fn run_beside<R: Threads + Sync, D: Disk + Send + Drop, G: LineGate + Sync, B: Beside>(
     rt: &R,

@@ -16,16 +16,16 @@
 //! the mark of a worker without a line is idle, and that of one with lines, whose log is up, is its log's
 //! (`AreMarksBehind`). After it the engine is kept as between two rounds.
 //!
-//! Beside the lines runs what the maintenance thread has to do ([`Beside`]; [`Alone`] does nothing). Before it and the
-//! lines begin each worker's mark is set on the words (`ShowsMarks`): of the epoch before the clock's where the worker
-//! has lines, else idle. The marks that the words show of a worker then are told one after another, each with the
-//! moment of the log file since when every image has what it counts, and their epochs never fall (`Share.marks`); as a
-//! line begins the last one is at least the clock's epoch that its worker had loaded for it, less 1 (`Share.readied`).
-//! Each mark that the maintenance thread met stands at its place among these (`BesideRan`); it seats nobody meanwhile,
-//! draws no number, and takes no lock but for drops, behind which it holds nothing (`Went`). Epochs may go on beside
-//! the lines: the clock behind them has the maintenance thread's. [`publish_new`] makes the pages of a new snapshot
-//! known to the words, and [`drop_pages`] takes pages out of memory that are what the newest one has: what
-//! each such call came to is counted (`HasDropped`, `SharedState.drops`).
+//! Beside the lines runs what the maintenance thread has to do ([`Beside`]). Before it and the lines begin each
+//! worker's mark is set on the words (`ShowsMarks`): of the epoch before the clock's where the worker has lines, else
+//! idle. The marks that the words show of a worker then are told one after another, each with the moment of the log
+//! file since when every image has what it counts, and their epochs never fall (`Share.marks`); as a line begins the
+//! last one is at least the clock's epoch that its worker had loaded for it, less 1 (`Share.readied`). Each mark that
+//! the maintenance thread met stands at its place among these (`BesideRan`); it seats nobody meanwhile, draws no
+//! number, and takes no lock but for drops, behind which it holds nothing (`Went`). Epochs may go on beside the lines:
+//! the clock behind them has the maintenance thread's. [`publish_new`] makes the pages of a new snapshot known to the
+//! words, and [`drop_pages`] takes pages out of memory that are what the newest one has: what each such call came to is
+//! counted (`HasDropped`, `SharedState.drops`).
 //!
 //! Terms: *standing*, the storages, their contents and the clock; *share*, a worker's lines with what came of them;
 //! *keeper*, the pass of the maintenance thread; *part*, a share with what the worker's pass knew at its begin and
@@ -48,7 +48,7 @@ mod publishing;
 mod rooms;
 mod workers;
 
-pub use beside::{Alone, Beside};
+pub use beside::Beside;
 pub use dropping::drop_pages;
 pub use ends::WorkersRan;
 pub use engine::SharedEngine;

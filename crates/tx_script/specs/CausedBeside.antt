@@ -1,6 +1,6 @@
 -- What must have happened beside a round's outcomes and answers: the marks of its workers as each of its lines began,
 -- and those that each save saw, which may stand beside running workers.
-use Rattle.std.specs.Prelude.{◌≡◌, ◌+◌, ◌<◌, ℕ, List, [], ◌∷◌, ◌++◌, length, Option, Some, slice_get}
+use Rattle.std.specs.Prelude.{◌≡◌, ◌+◌, ℕ, List, [], ◌∷◌, ◌++◌, length, Option, Some, slice_get}
 use Rattle.std.proofs.Common.{ap, refl}
 use Rattle.script_grammar.specs.declared.lines.KeeperLine.{KeeperLine}
 use Rattle.script_grammar.specs.declared.lines.KeeperLine.TheVariants as asks
@@ -39,20 +39,15 @@ drops_told [] = []
 drops_told (answers.Drop dropped kept ∷ more) = record { dropped = dropped; kept = kept } ∷ drops_told more
 drops_told (_ ∷ more) = drops_told more
 
--- Where words run the lines, the drops answered exactly what they added to the counts; elsewhere nothing counts.
-pub record DropsCounted (ran : Ran) : Type 0 where
-  pub told : 0 < ran.beside.slots → drops_told ran.printed.answers ≡ ran.beside.drops
-  pub none : ran.beside.slots ≡ 0 → ran.beside.drops ≡ []
-
 -- Before each line that was run its worker's mark was at least the clock's epoch that was loaded for it, less 1. The
 -- marks of a worker never fall, and no save sees one that stood before a mark which an earlier save saw. What drops
--- answered was counted.
+-- answered is exactly what they added to the counts, in their order.
 pub record CausedBeside (ran : Ran) : Type 0 where
   pub readied : AllReadied ran.printed.begin.epoch ran.beside.marks ran.beside.readied ran.printed.outcomes
   pub order : AllInOrder ran.beside.marks
   pub places : NeverBack first_places ran.beside.seen
   pub saves : SavesSee ran 0 (keeper_before ran) ran.printed.asked ran.printed.answers (length ran.beside.seen)
-  pub drops : DropsCounted ran
+  pub drops : drops_told ran.printed.answers ≡ ran.beside.drops
 
 -- what the answers behind these tell comes behind what these tell
 pub drops_on : (said more : List Answer) → drops_told (said ++ more) ≡ drops_told said ++ drops_told more

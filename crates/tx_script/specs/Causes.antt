@@ -150,7 +150,7 @@ IsGleanDevice ran (devices.Bank number) =
 -- The cause of an answer to a line that is run, as the maintenance thread stands before it. A save names the saved
 -- epoch by the marks that it saw. A snapshot is one of the epoch at which the closed log files were closed, and is made
 -- where bytes of them count, no page of it stands too deep, and its new pages are let in beside those that there are.
--- A drop finds no pages where there are no slots for any.
+-- What a drop answers is what it counted: `CausedBeside.antt`.
 abbrev pub IsAnswerTo : Ran → KeeperAt → KeeperLine → Answer → Type 0
 IsAnswerTo ran k asks.Epoch (answers.Epoch epoch) = (k.epoch < last_epoch) × (epoch ≡ k.epoch + 1)
 IsAnswerTo ran k asks.Epoch answers.Limit = k.epoch ≡ last_epoch
@@ -169,7 +169,7 @@ IsAnswerTo ran k asks.Glean answers.Device = (k.counted ≡ true) × (device : D
 IsAnswerTo ran k asks.Glean answers.Damaged = (k.counted ≡ true) × (worker : ℕ) × (worker < 8) × (at : ℕ)
     × (ran.beside.damaged ≡ Some (closed_of ran.beside.files worker, at))
 IsAnswerTo ran k asks.Glean answers.Memory = k.counted ≡ true
-IsAnswerTo ran k asks.Drop (answers.Drop dropped kept) = ran.beside.slots ≡ 0 → (dropped ≡ 0) × (kept ≡ 0)
+IsAnswerTo ran k asks.Drop (answers.Drop dropped kept) = ⊤
 IsAnswerTo ran k line answer = ⊥
 
 -- The cause of an answer: after a refusal that no line is run.

@@ -80,7 +80,7 @@ returns c =
           ∙ ap (λ (ss : List Stored). stands_in (words_of pages) ss key)
           (sym (made.are contents is.stands.here) ∙ made.are others stands.here));
       slots_are = ap (λ (e : SharedState). e.slots) engine;
-      pages_are = λ some. (
+      pages_are = (
         ap (λ (e : SharedState). e.pages) engine,
         ap (λ (e : SharedState). e.resident) engine,
       );

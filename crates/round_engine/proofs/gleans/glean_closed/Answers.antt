@@ -1,5 +1,5 @@
 -- The pages of a snapshot are published that was made.
-use Rattle.std.proofs.Common.{◌≡◌, ◌∙◌, ◌<◌, ap, refl, subst, sym, ℕ, List}
+use Rattle.std.proofs.Common.{◌≡◌, ◌∙◌, ap, refl, subst, sym, ℕ, List}
 use Rattle.snapshot_store.specs.Content.{words_of}
 use Rattle.round_engine.specs.Gleans.{CanPublish, Gleans, counted_after, pages_after}
 use Rattle.round_engine.specs.Standing.{RuntimeState, Standing}
@@ -14,10 +14,9 @@ publish_made-requires g c =
     let pages = pages_after answer old.stands.pages (words_of mid.store.pages) in
     let same : mid.stands ≡ old.stands = c.glean_side-gleaned.ensures.stands in
     record {
-      can = λ has some. subst (λ (s : Standing). CanPublish mid.store.pages s) (sym same)
+      can = λ has. subst (λ (s : Standing). CanPublish mid.store.pages s) (sym same)
           (can_publish g.D.Disk.faults old c.args.vault.now c.requires.ready answer c.glean_side-gleaned.result.beside
-          (c.glean_side-gleaned.ensures.gleans pages (λ more. refl)) has
-          (subst (λ (s : Standing). 0 < s.slots) same some));
+          (c.glean_side-gleaned.ensures.gleans pages refl) has);
     }
 
 pub returns : goal.returns
@@ -27,8 +26,7 @@ returns g c =
     let answer = c.glean_side-gleaned.result.answer in
     let pages = c.publish_made.new.runtime.stands.pages in
     let same : mid.stands ≡ old.stands = c.glean_side-gleaned.ensures.stands in
-    let gleaned = c.glean_side-gleaned.ensures.gleans pages (λ some.
-    c.publish_made.ensures.published (subst (λ (s : Standing). 0 < s.slots) (sym same) some)
+    let gleaned = c.glean_side-gleaned.ensures.gleans pages (c.publish_made.ensures.published
     ∙ ap (λ (s : Standing). pages_after answer s.pages (words_of mid.store.pages)) same) in
     let is = c.runtime.view_is ∙ c.publish_made.ensures.alone in
     let count = c.counted_behind-runtime-inside.result in

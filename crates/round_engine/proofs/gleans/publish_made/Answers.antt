@@ -1,5 +1,5 @@
 -- The engine gets the pages of a snapshot that was made.
-use Rattle.std.proofs.Common.{◌≡◌, ◌∙◌, ◌<◌, ap, subst, sym}
+use Rattle.std.proofs.Common.{◌≡◌, ◌∙◌, ap, subst, sym}
 use Rattle.snapshot_store.specs.Content.{words_of}
 use Rattle.round_engine.specs.Gleans.{CanPublish, pages_after}
 use Rattle.round_engine.specs.Standing.{RuntimeState, Standing}
@@ -8,12 +8,12 @@ use Rattle.round_engine.proofs.gleans.publish_made.Goals as goal
 
 pub publish-requires : goal.publish-requires
 publish-requires c = record {
-  can = subst (λ (r : RuntimeState). 0 < r.stands.slots → CanPublish r.store.pages r.stands) (sym c.runtime.view_is)
+  can = subst (λ (r : RuntimeState). CanPublish r.store.pages r.stands) (sym c.runtime.view_is)
       (c.requires.can (sym c.has_made.ensures ∙ c.if-not-has_made.false));
 }
 
 pub returns-then-not-has_made-clause-published : goal.returns-then-not-has_made-clause-published
-returns-then-not-has_made-clause-published c some =
+returns-then-not-has_made-clause-published c =
     sym (pages_kept c.args.gleaned.now c.args.runtime.now.stands.pages (words_of c.args.runtime.now.store.pages)
     (sym c.has_made.ensures ∙ c.if-not-has_made.true))
 
@@ -34,8 +34,8 @@ returns-clause-alone c =
     c.runtime.view_is
 
 pub returns-clause-published : goal.returns-clause-published
-returns-clause-published c some =
+returns-clause-published c =
     let made = sym c.has_made.ensures ∙ c.if-not-has_made.false in
-    c.publish.ensures.published (subst (λ (r : RuntimeState). 0 < r.stands.slots) (sym c.runtime.view_is) some)
+    c.publish.ensures.published
     ∙ (ap (λ (r : RuntimeState). words_of r.store.pages) c.runtime.view_is
     ∙ sym (pages_made c.args.gleaned.now c.args.runtime.now.stands.pages (words_of c.args.runtime.now.store.pages) made))

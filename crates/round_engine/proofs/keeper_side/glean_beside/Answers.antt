@@ -56,8 +56,7 @@ publish_beside-requires-clause-can g c has =
     c.closed-closed.result c.requires.ready.can c.closed-closed.ensures gleaned.result.beside
     (pages_after answer r.stands.pages (words_of gleaned.new.arg6.pages)) r refl answer
     (record { page = c.newest_in-newest.ensures.page; epoch = c.newest_in-newest.ensures.epoch })
-    (record { call = made.gleans; growing = made.growing }) made.save made.ties made.cuts (λ some. refl)) has
-    c.requires.ready.slots)
+    (record { call = made.gleans; growing = made.growing }) made.save made.ties made.cuts refl) has)
 
 pub returns-clause-gleans : goal.returns-clause-gleans
 returns-clause-gleans g c =
@@ -73,7 +72,7 @@ returns-clause-gleans g c =
     c.closed-closed.result c.requires.ready.can c.closed-closed.ensures gleaned.result.beside after.pages r refl answer
     (record { page = c.newest_in-newest.ensures.page; epoch = c.newest_in-newest.ensures.epoch })
     (record { call = done.gleans; growing = done.growing }) done.save done.ties done.cuts
-    (λ some. ap (λ (x : View). x.pages) c.publish_beside.ensures.publishes
+    (ap (λ (x : View). x.pages) c.publish_beside.ensures.publishes
     ∙ ap (λ pages. pages_after answer pages made) seen.pages) in
     let left : Lent = record c.args.lent.now {
       store = record c.args.lent.now.store { now = gleaned.new.arg6 };

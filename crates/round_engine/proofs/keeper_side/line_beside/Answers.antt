@@ -26,7 +26,7 @@ returns-in-Glean-clause-steps g c =
     c.glean_beside.ensures.saw c.glean_beside.ensures.went)
 
 pub drop_pages-requires-clause-pages : goal.drop_pages-requires-clause-pages
-drop_pages-requires-clause-pages g c = (c.requires.ready.can.snapshot.published c.requires.ready.slots).0
+drop_pages-requires-clause-pages g c = c.requires.ready.can.snapshot.published.0
 
 pub drop_pages-requires-clause-snapshot : goal.drop_pages-requires-clause-snapshot
 drop_pages-requires-clause-snapshot g c =
@@ -38,11 +38,11 @@ drop_pages-requires-clause-snapshot g c =
 pub drop_pages-requires-clause-room : goal.drop_pages-requires-clause-room
 drop_pages-requires-clause-room g c =
     let has = c.requires.ready.can.snapshot in
-    omega (arith, has.let_in, (has.published c.requires.ready.slots).1)
+    omega (arith, has.let_in, has.published.1)
 
 pub returns-in-Drop-clause-steps : goal.returns-in-Drop-clause-steps
 returns-in-Drop-clause-steps g c =
     rw c.in-Drop.is (drop_line g.D.Disk.tells g.D.Disk.clock g.D.Disk.image_at g.D.Disk.faults c.args.decls.now c.args.lent.now
     c.args.lent.now (view c.args.keeper.now) (view c.drop_pages.new.keeper) c.args.vault.now c.args.vault.now
     c.drop_pages.result c.told_of_drop.result.0 c.told_of_drop.result.1 c.told_of_drop.ensures.answer
-    c.told_of_drop.ensures.refusal c.requires.ready.slots c.drop_pages.ensures.drops)
+    c.told_of_drop.ensures.refusal c.drop_pages.ensures.drops)

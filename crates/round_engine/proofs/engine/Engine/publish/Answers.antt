@@ -1,5 +1,5 @@
 -- The words get the pages.
-use Rattle.std.proofs.Common.{◌<◌, subst, sym}
+use Rattle.std.proofs.Common.{subst, sym}
 use Rattle.shared_rounds.specs.Standing.{Standing}
 use Rattle.round_engine.specs.Gleans.{CanPublish}
 use Rattle.round_engine.proofs.engine.Engine.publish.Goals as goal
@@ -8,6 +8,6 @@ pub publish_words-requires : goal.publish_words-requires
 publish_words-requires c = record {
   can = (
     c.self.inside.ended,
-    subst (λ (s : Standing). 0 < s.slots → CanPublish c.args.store.now.pages s) (sym c.self.view_is) c.requires.can,
+    subst (λ (s : Standing). CanPublish c.args.store.now.pages s) (sym c.self.view_is) c.requires.can,
   );
 }

@@ -16,7 +16,6 @@ run_workers-requires-clause-beside g c κs within v begins =
     c.requires.beside v (record {
       shared = c.self.inside.words;
       stands = sym old ∙ ap (λ ended. standing ended c.self.inside.words) (ap (λ (s : Standing). s.ended) old);
-      slots = c.clock.ensures.some_slots;
       begins = begins;
     })
 

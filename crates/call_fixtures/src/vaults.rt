@@ -15,6 +15,27 @@ pub fn disk_of(alloc: Global, bytes: &[u8], fails: &[u64]) -> Result<MemDisk, Al
     MemDisk::new(alloc, bytes.to_vec(alloc)?, fails.to_vec(alloc)?)
 }
 
+/// So many of this byte.
+pub fn filled(alloc: Global, byte: u8, count: usize) -> Result<Vec<u8>, AllocError> {
+    vec![in alloc; byte; count]
+}
+
+// The disks of the save, of which the calls of these numbers fail, and of the snapshots. Vaults are made by halves:
+// what is owned at a `?` costs a proof.
+fn ends(
+    alloc: Global,
+    save: &[u8],
+    snaps: &[u8],
+    fails: &[u64],
+) -> Result<(MemDisk, MemDisk), AllocError>
+    ensures { IfOk result (λ ends. IfTold (⟦<MemDisk as Disk>⟧.tells ends.0)
+        (Only ⟦<MemDisk as Disk>⟧.clock ⟦<MemDisk as Disk>⟧.image_at ends.0)) }
+{
+    let save = disk_of(alloc, save, fails)?;
+    let snaps = disk_of(alloc, snaps, &[])?;
+    Ok((save, snaps))
+}
+
 // Eight disks, of which the first has these bytes and the others none.
 fn banks(alloc: Global, first: &[u8]) -> Result<Vec<MemDisk>, AllocError> {
     let mut disks = Vec::new(alloc);
@@ -23,6 +44,13 @@ fn banks(alloc: Global, first: &[u8]) -> Result<Vec<MemDisk>, AllocError> {
         disks.push(disk_of(alloc, &[], &[])?)?;
     }
     Ok(disks)
+}
+
+// The log files of even number, of which the first has these bytes, and those of odd number.
+fn sides(alloc: Global, first: &[u8]) -> Result<(Vec<MemDisk>, Vec<MemDisk>), AllocError> {
+    let even = banks(alloc, first)?;
+    let odd = banks(alloc, &[])?;
+    Ok((even, odd))
 }
 
 /// A vault whose first devices have these bytes, and the others none. Of the calls of the save these fail.
@@ -36,10 +64,8 @@ pub fn vault_of(
     ensures { IfOk result (λ vault. IfTold (⟦<MemDisk as Disk>⟧.tells vault.save)
         (Only ⟦<MemDisk as Disk>⟧.clock ⟦<MemDisk as Disk>⟧.image_at vault.save)) }
 {
-    let save = disk_of(alloc, save, fails)?;
-    let snaps = disk_of(alloc, snaps, &[])?;
-    let even = banks(alloc, bank)?;
-    let odd = banks(alloc, &[])?;
+    let (even, odd) = sides(alloc, bank)?;
+    let (save, snaps) = ends(alloc, save, snaps, fails)?;
     Ok(Vault {
         save,
         snaps,
@@ -55,7 +81,7 @@ pub fn fresh_vault(alloc: Global) -> Result<Vault<MemDisk>, AllocError>
     ensures { IfOk result (λ vault. IfTold (⟦<MemDisk as Disk>⟧.tells vault.save)
         (Only ⟦<MemDisk as Disk>⟧.clock ⟦<MemDisk as Disk>⟧.image_at vault.save)) }
 {
-    vault_of(alloc, &[0; 1024], &[], &[], &[])
+    vault_of(alloc, &filled(alloc, 0, 1024)?, &[], &[], &[])
 }
 
 // Disks of what others hold.
@@ -67,6 +93,16 @@ fn disks_anew(alloc: Global, disks: &[MemDisk]) -> Result<Vec<MemDisk>, AllocErr
     Ok(anew)
 }
 
+// Log files of what those of a vault hold.
+fn sides_anew(
+    alloc: Global,
+    vault: &Vault<MemDisk>,
+) -> Result<(Vec<MemDisk>, Vec<MemDisk>), AllocError> {
+    let even = disks_anew(alloc, &vault.even)?;
+    let odd = disks_anew(alloc, &vault.odd)?;
+    Ok((even, odd))
+}
+
 /// A vault of what another holds, with nothing pending. Of the calls of its save these fail.
 pub fn anew(
     alloc: Global,
@@ -76,10 +112,8 @@ pub fn anew(
     ensures { IfOk result (λ vault. IfTold (⟦<MemDisk as Disk>⟧.tells vault.save)
         (Only ⟦<MemDisk as Disk>⟧.clock ⟦<MemDisk as Disk>⟧.image_at vault.save)) }
 {
-    let save = disk_of(alloc, vault.save.bytes(), fails)?;
-    let snaps = disk_of(alloc, vault.snaps.bytes(), &[])?;
-    let even = disks_anew(alloc, &vault.even)?;
-    let odd = disks_anew(alloc, &vault.odd)?;
+    let (even, odd) = sides_anew(alloc, vault)?;
+    let (save, snaps) = ends(alloc, vault.save.bytes(), vault.snaps.bytes(), fails)?;
     Ok(Vault {
         save,
         snaps,

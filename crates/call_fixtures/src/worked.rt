@@ -1,5 +1,5 @@
 // What a vault has before a call, in bytes that were worked by hand.
-use crate::vaults::{fresh_vault, vault_of};
+use crate::vaults::{filled, fresh_vault, vault_of};
 use log_writer::Vault;
 use outside::MemDisk;
 use std::alloc::{AllocError, Global};
@@ -86,13 +86,14 @@ fn save_of(
     counted: u64,
 ) -> Result<Vec<u8>, AllocError> {
     if sequence == 0 {
-        return [0u8; 1024].to_vec(alloc);
+        return filled(alloc, 0, 1024);
     }
     let open = savepoint(alloc, sequence, epoch, pages, counted)?;
+    let closed = filled(alloc, 0, 512)?;
     if sequence % 2 == 0 {
-        return joined(alloc, &[0; 512], &open);
+        return joined(alloc, &closed, &open);
     }
-    joined(alloc, &open, &[0; 512])
+    joined(alloc, &open, &closed)
 }
 
 // The one bytes, and the others behind them.

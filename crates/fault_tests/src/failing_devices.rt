@@ -1,7 +1,7 @@
 // Runs of which one call of one device fails.
 ghost use Rattle.outside.specs.Disk.{IfTold, Only};
 
-use super::{brief, gleans, *};
+use super::{brief_runs, failing_gleans, *};
 
 const SCRIPT: &[u8] = b"array 1 4\n0 w 1 2 7\njoin\n1 w 1 0 9\nk save\n";
 
@@ -51,33 +51,15 @@ bank0 # 0 # 2 # 5 # device bank0| # epoch 1|1 2 7|
 bank0 # 3 # 3 # 0 # 0.0 ok 2:1 7|durable 2| # epoch 2|1 2 7|
 ";
 
-// Makes a run over a vault of which a call of this device fails.
-pub(super) fn check_run<R: Threads + Wait + Sync + AllocGlobal>(
-    rt: &R,
-    vault: &mut Vault<MemDisk>,
-    script: &[u8],
-    device: &str,
-    ended: (u8, &[u8]),
-) -> Result<(), Fail>
-    requires { IfTold (⟦<MemDisk as Disk>⟧.tells vault.old.save)
-        (Only ⟦<MemDisk as Disk>⟧.clock ⟦<MemDisk as Disk>⟧.image_at vault.old.save) }
-{
-    let (status, text) = answer(rt, vault, "run", script)?;
-    is_answer(device, (status, &text), ended)
-}
-
-// Compares what a vault tells with a part of a row, if the row has it.
+// Compares what is told of what devices hold with a part of a row, if the row has it.
 fn check_part<R: Threads + Wait + Sync + AllocGlobal>(
     rt: &R,
-    vault: &mut Vault<MemDisk>,
+    files: &[Vec<u8>],
     asked: &str,
     text: Option<&str>,
 ) -> Result<(), Fail> {
     match text {
-        Some(text) => {
-            let kept = lines(rt.alloc(), text.trim())?;
-            check_answer(rt, vault, asked, b"", (0, &kept))
-        }
+        Some(text) => check_over(rt, files, (asked, ""), (0, text.trim())),
         None => Ok(()),
     }
 }
@@ -85,42 +67,56 @@ fn check_part<R: Threads + Wait + Sync + AllocGlobal>(
 // Makes the call of a row over a vault, and compares what it tells.
 fn check_ended<R: Threads + Wait + Sync + AllocGlobal>(
     rt: &R,
-    vault: &mut Vault<MemDisk>,
+    vault: &mut Vault<FuseDisk<MemDisk>>,
     asked: (&str, &[u8]),
     row: &str,
 ) -> Result<(), Fail>
-    requires { IfTold (⟦<MemDisk as Disk>⟧.tells vault.old.save)
-        (Only ⟦<MemDisk as Disk>⟧.clock ⟦<MemDisk as Disk>⟧.image_at vault.old.save) }
+    requires { IfTold (⟦<FuseDisk<MemDisk> as Disk>⟧.tells vault.old.save)
+        (Only ⟦<FuseDisk<MemDisk> as Disk>⟧.clock ⟦<FuseDisk<MemDisk> as Disk>⟧.image_at vault.old.save) }
 {
     let (status, text) = answer(rt, vault, asked.0, asked.1)?;
     check_told(rt, row, (status, &text), (part(row, 3), part(row, 4)))
 }
 
-// Makes the call of a row over what a vault holds, of which this call of this device fails, and compares what it tells,
-// and what a dump and a list of the snapshots tell then.
+// Makes the call of a row over what devices hold, one of which is in trouble, and compares what it tells. Answers what
+// they hold then.
+fn left_by<R: Threads + Wait + Sync + AllocGlobal>(
+    rt: &R,
+    files: &[Vec<u8>],
+    asked: (&str, &[u8]),
+    trouble: Trouble,
+    row: &str,
+) -> Result<Files, Fail> {
+    let mut vault = troubled_vault(rt.alloc(), files, trouble)?;
+    check_ended(rt, &mut vault, asked, row)?;
+    Ok(files_of(rt.alloc(), &vault)?)
+}
+
+// Makes the call of a row over what devices hold, one call of which fails, and compares what it tells, and what a dump
+// and a list of the snapshots tell then.
 fn check_failure<R: Threads + Wait + Sync + AllocGlobal>(
     rt: &R,
-    vault: &Vault<MemDisk>,
+    files: &[Vec<u8>],
     asked: (&str, &[u8]),
-    (device, call): (&str, u64),
+    trouble: Trouble,
     row: &str,
 ) -> Result<(), Fail> {
-    let mut vault = failing_vault(rt.alloc(), vault, device, call)?;
-    check_ended(rt, &mut vault, asked, row)?;
-    check_part(rt, &mut vault, "dump", row.split('#').nth(5))?;
-    check_part(rt, &mut vault, "snaps", row.split('#').nth(6))
+    let left = left_by(rt, files, asked, trouble, row)?;
+    check_part(rt, &left, "dump", row.split('#').nth(5))?;
+    check_part(rt, &left, "snaps", row.split('#').nth(6))
 }
 
 // Checks each failure of a row.
 pub(super) fn check_failures<R: Threads + Wait + Sync + AllocGlobal>(
     rt: &R,
-    vault: &Vault<MemDisk>,
+    files: &[Vec<u8>],
     asked: (&str, &[u8]),
     row: &str,
 ) -> Result<(), Fail> {
     let (first, last) = (part(row, 1).parse::<u64>()?, part(row, 2).parse::<u64>()?);
+    let device = device_of(part(row, 0));
     for call in first..=last {
-        check_failure(rt, vault, asked, (part(row, 0), call), row)?;
+        check_failure(rt, files, asked, fails_at(device, call), row)?;
     }
     Ok(())
 }
@@ -152,23 +148,28 @@ snaps # 0 # 0 # 5 # device snaps|
 bank0 # 0 # 0 # 5 # device bank0|
 ";
 
-// What a vault has at first, the words after the name, the script, and the failures.
+// What devices hold at first, the words after the name, the script, and the failures.
 const FAILURES: [(First, &str, &[u8], &str); 9] = [
     (First::Fresh, "run", SCRIPT, FAILING),
     (First::Fresh, "run", SCRIPT, CUTS),
     (First::Kept(2, 1, 1, 40), "run", READING, SETTLING),
-    (First::Fresh, "run", gleans::SCRIPT, gleans::FAILING),
     (
         First::Fresh,
-        "run --brief",
-        brief::ON_AN_ARRAY,
-        brief::FAILING,
+        "run",
+        failing_gleans::SCRIPT,
+        failing_gleans::FAILING,
     ),
     (
         First::Fresh,
         "run --brief",
-        brief::ON_A_TREE,
-        brief::FAILING,
+        brief_runs::ON_AN_ARRAY,
+        brief_runs::FAILING,
+    ),
+    (
+        First::Fresh,
+        "run --brief",
+        brief_runs::ON_A_TREE,
+        brief_runs::FAILING,
     ),
     (First::Kept(2, 1, 1, 40), "snaps", b"", LISTING),
     (First::Kept(2, 1, 1, 40), "snap 0", b"", LISTING),
@@ -177,12 +178,12 @@ const FAILURES: [(First, &str, &[u8], &str); 9] = [
 
 fn check_each<R: Threads + Wait + Sync + AllocGlobal>(
     rt: &R,
-    vault: &Vault<MemDisk>,
+    files: &[Vec<u8>],
     asked: (&str, &[u8]),
     rows: &str,
 ) -> Result<(), Fail> {
     for row in rows.lines() {
-        check_failures(rt, vault, asked, row)?;
+        check_failures(rt, files, asked, row)?;
     }
     Ok(())
 }
@@ -193,8 +194,8 @@ fn check_all_failures<R: Threads + Wait + Sync + AllocGlobal>(
     asked: (&str, &[u8]),
     rows: &str,
 ) -> Result<(), Fail> {
-    let vault = first_vault(rt.alloc(), first)?;
-    check_each(rt, &vault, asked, rows)
+    let files = first_files(rt.alloc(), first)?;
+    check_each(rt, &files, asked, rows)
 }
 
 #[test]
@@ -234,6 +235,6 @@ fn add_run(alloc: Global, row: &mut String, index: u32) -> Result<(), AllocError
 fn a_log_file_that_fails_ends_its_worker(rt: HostRuntime) -> Result<(), Fail> {
     let (mut script, mut row) = (Vec::new(rt.alloc()), String::new(rt.alloc()));
     hundred_lines(rt.alloc(), &mut script, &mut row)?;
-    let fresh = fresh_vault(rt.alloc())?;
+    let fresh = fresh_files(rt.alloc())?;
     check_failures(&rt, &fresh, ("run", &script), row.as_str())
 }

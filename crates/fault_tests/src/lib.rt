@@ -1,29 +1,50 @@
-//! Calls over devices of which one fails, at each of its calls, or stops at it: what is told, and what a dump tells then.
+//! Calls over devices of which one fails at a call, or stops at it and all behind it, or whose bytes were changed, and
+//! over streams that fail: what is told, and what is kept. Texts, statuses, formats and what a stop may leave are those
+//! of the program's description.
 //!
-//! `failing_devices` has tables of what is told as one call after another fails, `gleans` those of runs with snapshots,
-//! `brief` those of runs in brief; `stops` leaves of each device what was synced, or all that it was told, and recovers
-//! it, and `beside` does so of runs whose saves, epochs and snapshots stand beside running lines.
+//! `troubles` has what devices hold, and calls over them with a trouble of one; `images` what a stop may leave of a
+//! device, by the calls that it recorded. `failing_devices` has tables of what is told as one call after another fails,
+//! with rows of `failing_gleans`, for snapshots, and `brief_runs`, in brief; `failing_calls` the same for each object
+//! in turn, streams too; `failing_workers` that others go on. `stops` stops a device at each of its calls, and runs on;
+//! `stopped_rounds` looks at what was told durable then, and at the snapshots, `stops_beside_lines` at saves, epochs
+//! and snapshots beside running lines; `joint_stops` stops all devices at moments that a number makes, as far as the
+//! stores and cuts that were recorded allow them together. `damage` has changed bytes.
 //!
-//! All of it is for tests alone: without them the crate is empty.
+//! They stand in a crate above those that they test, because a crate with tests is proved a second time. All of it is
+//! for tests alone: without them the crate is empty.
 #![tactic(auto)]
 
 #[cfg(test)]
-mod beside;
+mod brief_runs;
 #[cfg(test)]
-mod brief;
+mod damage;
+#[cfg(test)]
+mod failing_calls;
 #[cfg(test)]
 mod failing_devices;
 #[cfg(test)]
-mod gleans;
+mod failing_gleans;
+#[cfg(test)]
+mod failing_workers;
+#[cfg(test)]
+mod images;
+#[cfg(test)]
+mod joint_stops;
+#[cfg(test)]
+mod stopped_rounds;
 #[cfg(test)]
 mod stops;
+#[cfg(test)]
+mod stops_beside_lines;
+#[cfg(test)]
+mod troubles;
 
 #[cfg(test)]
 use call_fixtures::*;
 #[cfg(test)]
 use log_writer::{Records, Vault};
 #[cfg(test)]
-use outside::{Disk, MemDisk};
+use outside::{Disk, FuseDisk, Made, MemDisk, MemSink, OpenGate};
 #[cfg(test)]
 use std::alloc::{AllocError, Global};
 #[cfg(test)]
@@ -32,3 +53,5 @@ use std::sync::Wait;
 use std::test::Fail;
 #[cfg(test)]
 use std::thread::Threads;
+#[cfg(test)]
+use troubles::*;

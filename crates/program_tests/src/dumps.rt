@@ -70,9 +70,13 @@ fn a_dump_tells_what_is_kept(rt: HostRuntime) -> Result<(), Fail> {
     Ok(())
 }
 
+// Storages, keys and values.
+const VALUES: [(u8, u64, u64); 4] = [(2, 5, 50), (2, 0, 0), (1, 0, 0), (1, 2, 7)];
+
 fn insert_values(state: &mut State) -> Result<(), Fail> {
-    for (storage, key, value) in [(2, 5, 50), (2, 0, 0), (1, 0, 0), (1, 2, 7)] {
-        let _before = state.insert(Key { storage, key }, value)?;
+    for (storage, key, value) in &VALUES {
+        let (storage, key) = (*storage, *key);
+        let _before = state.insert(Key { storage, key }, *value)?;
     }
     Ok(())
 }

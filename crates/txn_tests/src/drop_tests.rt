@@ -1,37 +1,12 @@
 // Schedules in which the keeper takes pages out of memory between the workers' calls. What is expected was worked
 // by hand.
 use super::*;
-use crate::tests::{Row, is_same};
+use crate::page_tests::two;
+use crate::tests::{Row, comes_out};
 use engine_pages::{KeptWhy, RefusalCause};
-use lists::Memory;
 use page_drops::Kept;
 use page_records::LOCK;
-use std::alloc::Global;
 use std::test::Fail;
-
-// Plays a schedule of two workers on an array without a page in a snapshot. Answers the row that came out
-// otherwise, where one did, and how many draws and commits there were.
-fn play(
-    alloc: Global,
-    size: u32,
-    slots: u32,
-    rows: &[Row],
-) -> Result<(Option<usize>, u64, u64), Memory> {
-    let plan = Plan {
-        size,
-        slots,
-        draw: 1,
-    };
-    let mut workers = Workers::new(alloc, plan, 2)?;
-    let mut other = None;
-    for i in 0..rows.len() {
-        if other.is_none() && !is_same(&mut workers, &rows[i]) {
-            other = Some(i);
-        }
-    }
-    let (clock, commits) = workers.close();
-    Ok((other, (clock % (1 << 40)).saturating_sub(1), commits))
-}
 
 // The page of the first slot, behind 32 words and those of 64 slots.
 const PAGE: u32 = 32 + 64;
@@ -60,8 +35,7 @@ const READ_THEN_DROPPED: [Row; 9] = [
 
 #[test]
 fn what_was_read_in_a_dropped_page_is_a_conflict(rt: HostRuntime) -> Result<(), Fail> {
-    assert!(rt; play(rt.alloc(), 4, 64, &READ_THEN_DROPPED)? == (None, 1, 0));
-    Ok(())
+    comes_out(two(rt.alloc(), 4, 64)?, 1, &READ_THEN_DROPPED, (1, 0))
 }
 
 // The first record was written and isn't what the snapshot has: its page stays, whose other keys can be written.
@@ -92,8 +66,7 @@ const UNLIKE: [Row; 10] = [
 
 #[test]
 fn a_page_that_is_unlike_the_snapshots_stays(rt: HostRuntime) -> Result<(), Fail> {
-    assert!(rt; play(rt.alloc(), 4, 64, &UNLIKE)? == (None, 2, 2));
-    Ok(())
+    comes_out(two(rt.alloc(), 4, 64)?, 1, &UNLIKE, (2, 2))
 }
 
 // A worker has locked the first record, so its page stays; the worker goes on, and behind it the page is unlike.
@@ -134,8 +107,7 @@ const LOCKED: [Row; 8] = [
 
 #[test]
 fn a_page_in_which_a_worker_has_a_lock_stays(rt: HostRuntime) -> Result<(), Fail> {
-    assert!(rt; play(rt.alloc(), 4, 64, &LOCKED)? == (None, 2, 2));
-    Ok(())
+    comes_out(two(rt.alloc(), 4, 64)?, 1, &LOCKED, (2, 2))
 }
 
 // Of two leaves the first was written and stays, and so does the page above them, which leads to it: two are kept. The
@@ -192,8 +164,7 @@ const UNDER: [Row; 15] = [
 
 #[test]
 fn a_page_above_one_that_stays_stays(rt: HostRuntime) -> Result<(), Fail> {
-    assert!(rt; play(rt.alloc(), 300, 64, &UNDER)? == (None, 3, 2));
-    Ok(())
+    comes_out(two(rt.alloc(), 300, 64)?, 1, &UNDER, (3, 2))
 }
 
 // Where all leaves are what the snapshot has, so are the pages above them, and no page is left: a second call finds
@@ -213,8 +184,7 @@ const ALL: [Row; 10] = [
 
 #[test]
 fn all_pages_of_three_levels_are_dropped(rt: HostRuntime) -> Result<(), Fail> {
-    assert!(rt; play(rt.alloc(), 131_072, 64, &ALL)? == (None, 1, 1));
-    Ok(())
+    comes_out(two(rt.alloc(), 131_072, 64)?, 1, &ALL, (1, 1))
 }
 
 // The word of the only slot, which was given once and given up, with one pass that holds it.
@@ -263,8 +233,7 @@ const GIVEN: [Row; 13] = [
 
 #[test]
 fn a_slot_is_given_again_when_nobody_holds_it(rt: HostRuntime) -> Result<(), Fail> {
-    assert!(rt; play(rt.alloc(), 4, 1, &GIVEN)? == (None, 2, 1));
-    Ok(())
+    comes_out(two(rt.alloc(), 4, 1)?, 1, &GIVEN, (2, 1))
 }
 
 // What was read below a pointer is kept with its word. Where a page came and went since, the word is the same, and the
@@ -295,6 +264,5 @@ const CAME_AND_WENT: [Row; 13] = [
 
 #[test]
 fn a_page_that_came_and_went_is_no_conflict(rt: HostRuntime) -> Result<(), Fail> {
-    assert!(rt; play(rt.alloc(), 4, 64, &CAME_AND_WENT)? == (None, 2, 1));
-    Ok(())
+    comes_out(two(rt.alloc(), 4, 64)?, 1, &CAME_AND_WENT, (2, 1))
 }

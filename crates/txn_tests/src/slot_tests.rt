@@ -1,5 +1,6 @@
 // Schedules of hands, and threads that take the slots which others hold. What is expected was worked by hand.
 use super::*;
+use crate::tests::is_so;
 use lists::Memory;
 use std::alloc::Global;
 use std::test::Fail;
@@ -30,59 +31,62 @@ fn play(alloc: Global, rows: &[Row]) -> Result<Option<usize>, Memory> {
 
 // All four slots are given and published once. The first one is held as it is given up, and so it is given again only
 // once it is left.
+const IN_USE: [Row; 16] = [
+    (0, Deed::Give, Gave::Slot(0)),
+    (0, Deed::Publish, Gave::Fine),
+    (1, Deed::Give, Gave::Slot(1)),
+    (1, Deed::Publish, Gave::Fine),
+    (2, Deed::Give, Gave::Slot(2)),
+    (2, Deed::Publish, Gave::Fine),
+    (3, Deed::Give, Gave::Slot(3)),
+    (3, Deed::Publish, Gave::Fine),
+    (4, Deed::Give, Gave::Full(None)),
+    (5, Deed::Enter(0), Gave::Fine),
+    (5, Deed::Look(0), Gave::Word(PUBLISHED + 1)),
+    (0, Deed::Retire, Gave::Fine),
+    (4, Deed::Give, Gave::Full(Some((0, RETIRED + 1)))),
+    (5, Deed::Leave, Gave::Fine),
+    (4, Deed::Give, Gave::Slot(0)),
+    (4, Deed::Look(0), Gave::Word(0x90000)),
+];
+
 #[test]
 fn a_slot_in_use_is_not_given(rt: HostRuntime) -> Result<(), Fail> {
-    let rows = [
-        (0, Deed::Give, Gave::Slot(0)),
-        (0, Deed::Publish, Gave::Fine),
-        (1, Deed::Give, Gave::Slot(1)),
-        (1, Deed::Publish, Gave::Fine),
-        (2, Deed::Give, Gave::Slot(2)),
-        (2, Deed::Publish, Gave::Fine),
-        (3, Deed::Give, Gave::Slot(3)),
-        (3, Deed::Publish, Gave::Fine),
-        (4, Deed::Give, Gave::Full(None)),
-        (5, Deed::Enter(0), Gave::Fine),
-        (5, Deed::Look(0), Gave::Word(PUBLISHED + 1)),
-        (0, Deed::Retire, Gave::Fine),
-        (4, Deed::Give, Gave::Full(Some((0, RETIRED + 1)))),
-        (5, Deed::Leave, Gave::Fine),
-        (4, Deed::Give, Gave::Slot(0)),
-        (4, Deed::Look(0), Gave::Word(0x90000)),
-    ];
-    assert!(rt; play(rt.alloc(), &rows)?.is_none());
-    Ok(())
+    is_so("a slot in use", play(rt.alloc(), &IN_USE)?.is_none())
 }
 
 // Of two slots that are given up while others hold them the lower one is told, whichever was given up first; and a slot
 // that is held twice is given once it is left twice.
+const LOWEST: [Row; 21] = [
+    (0, Deed::Give, Gave::Slot(0)),
+    (1, Deed::Give, Gave::Slot(1)),
+    (2, Deed::Give, Gave::Slot(2)),
+    (3, Deed::Give, Gave::Slot(3)),
+    (1, Deed::Publish, Gave::Fine),
+    (3, Deed::Publish, Gave::Fine),
+    (4, Deed::Enter(3), Gave::Fine),
+    (3, Deed::Retire, Gave::Fine),
+    (7, Deed::Give, Gave::Full(Some((3, RETIRED + 1)))),
+    (5, Deed::Enter(1), Gave::Fine),
+    (6, Deed::Enter(1), Gave::Fine),
+    (1, Deed::Retire, Gave::Fine),
+    (7, Deed::Give, Gave::Full(Some((1, RETIRED + 2)))),
+    (5, Deed::Leave, Gave::Fine),
+    (7, Deed::Give, Gave::Full(Some((1, RETIRED + 1)))),
+    (4, Deed::Leave, Gave::Fine),
+    (7, Deed::Give, Gave::Slot(3)),
+    (6, Deed::Leave, Gave::Fine),
+    (1, Deed::Give, Gave::Slot(1)),
+    (1, Deed::Look(1), Gave::Word(0x90000)),
+    (1, Deed::Look(0), Gave::Word(0x50000)),
+];
+
 #[test]
 fn the_lowest_retired_slot_is_told(rt: HostRuntime) -> Result<(), Fail> {
-    let rows = [
-        (0, Deed::Give, Gave::Slot(0)),
-        (1, Deed::Give, Gave::Slot(1)),
-        (2, Deed::Give, Gave::Slot(2)),
-        (3, Deed::Give, Gave::Slot(3)),
-        (1, Deed::Publish, Gave::Fine),
-        (3, Deed::Publish, Gave::Fine),
-        (4, Deed::Enter(3), Gave::Fine),
-        (3, Deed::Retire, Gave::Fine),
-        (7, Deed::Give, Gave::Full(Some((3, RETIRED + 1)))),
-        (5, Deed::Enter(1), Gave::Fine),
-        (6, Deed::Enter(1), Gave::Fine),
-        (1, Deed::Retire, Gave::Fine),
-        (7, Deed::Give, Gave::Full(Some((1, RETIRED + 2)))),
-        (5, Deed::Leave, Gave::Fine),
-        (7, Deed::Give, Gave::Full(Some((1, RETIRED + 1)))),
-        (4, Deed::Leave, Gave::Fine),
-        (7, Deed::Give, Gave::Slot(3)),
-        (6, Deed::Leave, Gave::Fine),
-        (1, Deed::Give, Gave::Slot(1)),
-        (1, Deed::Look(1), Gave::Word(0x90000)),
-        (1, Deed::Look(0), Gave::Word(0x50000)),
-    ];
-    assert!(rt; play(rt.alloc(), &rows)?.is_none());
-    Ok(())
+    is_so(
+        "the lowest retired slot",
+        play(rt.alloc(), &LOWEST)?.is_none(),
+    )
 }
 
 fn word_of(hands: &mut Hands, slot: u32) -> u64 {
@@ -125,8 +129,8 @@ fn worked<R: std::thread::Threads + Sync>(
 fn slots_that_threads_hold_are_not_given_to_others(rt: HostRuntime) -> Result<(), Fail> {
     for count in [2, 8] {
         let (times, given, lost, busy) = worked(&rt, rt.alloc(), count)?;
-        assert!(rt; times == given && given > 0);
-        assert!(rt; lost == 0 && busy == 0);
+        is_so("slots were given", times == given && given > 0)?;
+        is_so("none that was held", lost == 0 && busy == 0)?;
     }
     Ok(())
 }

@@ -16,23 +16,34 @@ pub(crate) const fn word(draw: u64) -> u64 {
     (1 << 40) | draw
 }
 
-pub(crate) const fn clash(at: u32, expected: u64, seen: u64) -> Answer {
-    Answer::No(RefusalCause::Conflict {
-        word: at,
-        expected,
-        seen,
-    })
-}
-
 // The place of the first record's word: behind 32 words, those of 64 slots, and the page of the array's root.
 const FIRST: u32 = 32 + 64 + 64;
 
-const fn held() -> Answer {
-    clash(FIRST, LOCK, LOCK)
+// The first record is locked by hand.
+const HELD: Answer = Answer::No(RefusalCause::Conflict {
+    word: FIRST,
+    expected: LOCK,
+    seen: LOCK,
+});
+
+// The first record was never written, and has the first draw's number now.
+const CHANGED: Answer = Answer::No(RefusalCause::Conflict {
+    word: FIRST,
+    expected: 0,
+    seen: (1 << 40) + 1,
+});
+
+fn is_same(workers: &mut Workers, row: &Row) -> bool {
+    workers.play(row.0, row.1) == row.2
 }
 
-pub(crate) fn is_same(workers: &mut Workers, row: &Row) -> bool {
-    workers.play(row.0, row.1) == row.2
+// What isn't so ends a test. A comparison that is handed on costs a proof much less than an assert does.
+pub(crate) fn is_so(what: &str, so: bool) -> Result<(), Fail> {
+    if so { Ok(()) } else { Err(Fail::from(what)) }
+}
+
+pub(crate) fn is_answer(answer: Answer, wanted: Answer) -> Result<(), Fail> {
+    is_so("an answer", answer == wanted)
 }
 
 // 300 values in ten pages, and one more above them.
@@ -53,186 +64,225 @@ pub(crate) fn bring_up(workers: &mut Workers, keys: u64) {
     workers.play(0, Call::Abort);
 }
 
-// Plays a schedule of three workers from this first draw on, over pages in memory. Answers the row that came out
-// otherwise, where one did, and how many draws and commits there were.
-fn play_from(alloc: Global, first: u64, rows: &[Row]) -> Result<(Option<usize>, u64, u64), Memory> {
-    let mut workers = Workers::new(alloc, plan(first), 3)?;
-    bring_up(&mut workers, 0);
-    let mut other = None;
+// Plays a schedule up to the first row that comes out otherwise. Answers how many rows came out as they say.
+fn rows_met(workers: &mut Workers, rows: &[Row]) -> usize {
     for i in 0..rows.len() {
-        if other.is_none() && !is_same(&mut workers, &rows[i]) {
-            other = Some(i);
+        if !is_same(workers, &rows[i]) {
+            return i;
         }
     }
-    let (clock, commits) = workers.close();
-    Ok((other, (clock % (1 << 40)).saturating_sub(first), commits))
+    rows.len()
 }
 
-fn play(alloc: Global, rows: &[Row]) -> Result<(Option<usize>, u64, u64), Memory> {
-    play_from(alloc, 1, rows)
+// Plays a schedule: all comes out as its rows say, with so many draws from this one on, and commits.
+pub(crate) fn comes_out(
+    mut workers: Workers,
+    first: u64,
+    rows: &[Row],
+    (draws, commits): (u64, u64),
+) -> Result<(), Fail> {
+    let met = rows_met(&mut workers, rows);
+    let (clock, committed) = workers.close();
+    is_so("the rows", met == rows.len())?;
+    is_so(
+        "the draws",
+        (clock % (1 << 40)).saturating_sub(first) == draws,
+    )?;
+    is_so("the commits", committed == commits)
 }
+
+// Three workers from this first draw on, over pages in memory.
+fn three(alloc: Global, first: u64) -> Result<Workers, Memory> {
+    let mut workers = Workers::new(alloc, plan(first), 3)?;
+    bring_up(&mut workers, 0);
+    Ok(workers)
+}
+
+const LOST_UPDATE: [Row; 10] = [
+    (0, Call::Begin, Answer::Fine),
+    (0, Call::Read(0), Answer::Value(0)),
+    (1, Call::Begin, Answer::Fine),
+    (1, Call::Write(0, 0), Answer::Fine),
+    (1, Call::Commit(true), Answer::Draw(1)),
+    (0, Call::Write(0, 1), Answer::Fine),
+    // The word isn't the one that was read, so it isn't locked, and no draw is used.
+    (0, Call::Commit(true), CHANGED),
+    (1, Call::Begin, Answer::Fine),
+    (1, Call::Add(0, 2), Answer::Fine),
+    (1, Call::Commit(true), Answer::Draw(2)),
+];
 
 #[test]
 fn a_lost_update_is_refused(rt: HostRuntime) -> Result<(), Fail> {
-    let rows = [
-        (0, Call::Begin, Answer::Fine),
-        (0, Call::Read(0), Answer::Value(0)),
-        (1, Call::Begin, Answer::Fine),
-        (1, Call::Write(0, 0), Answer::Fine),
-        (1, Call::Commit(true), Answer::Draw(1)),
-        (0, Call::Write(0, 1), Answer::Fine),
-        // The word isn't the one that was read, so it isn't locked, and no draw is used.
-        (0, Call::Commit(true), clash(FIRST, 0, word(1))),
-        (1, Call::Begin, Answer::Fine),
-        (1, Call::Add(0, 2), Answer::Fine),
-        (1, Call::Commit(true), Answer::Draw(2)),
-    ];
-    assert_eq!(rt; play(rt.alloc(), &rows)?, (None, 2, 2));
-    Ok(())
+    comes_out(three(rt.alloc(), 1)?, 1, &LOST_UPDATE, (2, 2))
 }
+
+const CHANGED_READ: [Row; 10] = [
+    (0, Call::Begin, Answer::Fine),
+    (0, Call::Read(0), Answer::Value(0)),
+    (1, Call::Begin, Answer::Fine),
+    (1, Call::Write(0, 0), Answer::Fine),
+    (1, Call::Commit(true), Answer::Draw(1)),
+    (0, Call::Write(1, 1), Answer::Fine),
+    (0, Call::Commit(true), CHANGED),
+    (0, Call::Begin, Answer::Fine),
+    (0, Call::Write(1, 1), Answer::Fine),
+    (0, Call::Commit(true), Answer::Draw(3)),
+];
 
 #[test]
 fn a_read_that_changed_is_refused(rt: HostRuntime) -> Result<(), Fail> {
-    let rows = [
-        (0, Call::Begin, Answer::Fine),
-        (0, Call::Read(0), Answer::Value(0)),
-        (1, Call::Begin, Answer::Fine),
-        (1, Call::Write(0, 0), Answer::Fine),
-        (1, Call::Commit(true), Answer::Draw(1)),
-        (0, Call::Write(1, 1), Answer::Fine),
-        (0, Call::Commit(true), clash(FIRST, 0, word(1))),
-        (0, Call::Begin, Answer::Fine),
-        (0, Call::Write(1, 1), Answer::Fine),
-        (0, Call::Commit(true), Answer::Draw(3)),
-    ];
-    assert_eq!(rt; play(rt.alloc(), &rows)?, (None, 3, 2));
-    Ok(())
+    comes_out(three(rt.alloc(), 1)?, 1, &CHANGED_READ, (3, 2))
 }
+
+const WRITE_SKEW: [Row; 12] = [
+    (0, Call::Begin, Answer::Fine),
+    (1, Call::Begin, Answer::Fine),
+    (0, Call::Read(0), Answer::Value(0)),
+    (1, Call::Read(1), Answer::Value(0)),
+    (0, Call::Write(1, 5), Answer::Fine),
+    (1, Call::Write(0, 6), Answer::Fine),
+    (0, Call::Commit(true), Answer::Draw(1)),
+    (
+        1,
+        Call::Commit(true),
+        Answer::No(RefusalCause::Conflict {
+            word: FIRST + 2,
+            expected: 0,
+            seen: (1 << 40) + 1,
+        }),
+    ),
+    (2, Call::Begin, Answer::Fine),
+    (2, Call::Read(0), Answer::Value(0)),
+    (2, Call::Read(1), Answer::Value(5)),
+    (2, Call::Commit(true), Answer::Draw(3)),
+];
 
 #[test]
 fn write_skew_is_refused(rt: HostRuntime) -> Result<(), Fail> {
-    let rows = [
-        (0, Call::Begin, Answer::Fine),
-        (1, Call::Begin, Answer::Fine),
-        (0, Call::Read(0), Answer::Value(0)),
-        (1, Call::Read(1), Answer::Value(0)),
-        (0, Call::Write(1, 5), Answer::Fine),
-        (1, Call::Write(0, 6), Answer::Fine),
-        (0, Call::Commit(true), Answer::Draw(1)),
-        (1, Call::Commit(true), clash(FIRST + 2, 0, word(1))),
-        (2, Call::Begin, Answer::Fine),
-        (2, Call::Read(0), Answer::Value(0)),
-        (2, Call::Read(1), Answer::Value(5)),
-        (2, Call::Commit(true), Answer::Draw(3)),
-    ];
-    assert_eq!(rt; play(rt.alloc(), &rows)?, (None, 3, 2));
-    Ok(())
+    comes_out(three(rt.alloc(), 1)?, 1, &WRITE_SKEW, (3, 2))
 }
+
+const TURNS: [Row; 21] = [
+    (0, Call::Begin, Answer::Fine),
+    (1, Call::Begin, Answer::Fine),
+    (2, Call::Begin, Answer::Fine),
+    (0, Call::Add(0, 1), Answer::Fine),
+    (1, Call::Add(1, 2), Answer::Fine),
+    (2, Call::Read(0), Answer::Value(0)),
+    // A blind write of what another one reads is no conflict with it; the reader's own check is.
+    (2, Call::Write(1, 9), Answer::Fine),
+    (1, Call::Commit(true), Answer::Draw(1)),
+    (0, Call::Commit(true), Answer::Draw(2)),
+    (
+        2,
+        Call::Commit(true),
+        Answer::No(RefusalCause::Conflict {
+            word: FIRST,
+            expected: 0,
+            seen: (1 << 40) + 2,
+        }),
+    ),
+    (2, Call::Begin, Answer::Fine),
+    (2, Call::Write(1, 9), Answer::Fine),
+    (1, Call::Begin, Answer::Fine),
+    (1, Call::Read(2), Answer::Value(0)),
+    (1, Call::Write(1, 7), Answer::Fine),
+    (1, Call::Commit(true), Answer::Draw(4)),
+    (2, Call::Commit(true), Answer::Draw(5)),
+    (0, Call::Begin, Answer::Fine),
+    (0, Call::Read(1), Answer::Value(9)),
+    (0, Call::Take(1, 10), Answer::Short),
+    (0, Call::Commit(false), Answer::Draw(6)),
+];
 
 #[test]
 fn three_workers_take_turns(rt: HostRuntime) -> Result<(), Fail> {
-    let rows = [
-        (0, Call::Begin, Answer::Fine),
-        (1, Call::Begin, Answer::Fine),
-        (2, Call::Begin, Answer::Fine),
-        (0, Call::Add(0, 1), Answer::Fine),
-        (1, Call::Add(1, 2), Answer::Fine),
-        (2, Call::Read(0), Answer::Value(0)),
-        // A blind write of what another one reads is no conflict with it; the reader's own check is.
-        (2, Call::Write(1, 9), Answer::Fine),
-        (1, Call::Commit(true), Answer::Draw(1)),
-        (0, Call::Commit(true), Answer::Draw(2)),
-        (2, Call::Commit(true), clash(FIRST, 0, word(2))),
-        (2, Call::Begin, Answer::Fine),
-        (2, Call::Write(1, 9), Answer::Fine),
-        (1, Call::Begin, Answer::Fine),
-        (1, Call::Read(2), Answer::Value(0)),
-        (1, Call::Write(1, 7), Answer::Fine),
-        (1, Call::Commit(true), Answer::Draw(4)),
-        (2, Call::Commit(true), Answer::Draw(5)),
-        (0, Call::Begin, Answer::Fine),
-        (0, Call::Read(1), Answer::Value(9)),
-        (0, Call::Take(1, 10), Answer::Short),
-        (0, Call::Commit(false), Answer::Draw(6)),
-    ];
-    assert_eq!(rt; play(rt.alloc(), &rows)?, (None, 6, 5));
-    Ok(())
+    comes_out(three(rt.alloc(), 1)?, 1, &TURNS, (6, 5))
 }
+
+const OWN_WRITES: [Row; 21] = [
+    (0, Call::Begin, Answer::Fine),
+    (0, Call::Write(2, 5), Answer::Fine),
+    (0, Call::Read(2), Answer::Value(5)),
+    (0, Call::Add(2, 4), Answer::Fine),
+    (0, Call::Take(2, 2), Answer::Fine),
+    (0, Call::Read(2), Answer::Value(7)),
+    (0, Call::Commit(true), Answer::Draw(1)),
+    (0, Call::Begin, Answer::Fine),
+    (0, Call::Write(2, 1), Answer::Fine),
+    (0, Call::Take(3, 1), Answer::Short),
+    (0, Call::Commit(false), Answer::Draw(2)),
+    (0, Call::Begin, Answer::Fine),
+    (0, Call::Read(2), Answer::Value(7)),
+    (0, Call::Add(2, u64::MAX), Answer::Over),
+    (0, Call::Commit(false), Answer::Draw(3)),
+    (0, Call::Begin, Answer::Fine),
+    (0, Call::Write(2, 9), Answer::Fine),
+    (0, Call::Abort, Answer::Fine),
+    (0, Call::Begin, Answer::Fine),
+    (0, Call::Read(2), Answer::Value(7)),
+    (0, Call::Commit(true), Answer::Draw(4)),
+];
 
 #[test]
 fn own_writes_are_read_back(rt: HostRuntime) -> Result<(), Fail> {
-    let rows = [
-        (0, Call::Begin, Answer::Fine),
-        (0, Call::Write(2, 5), Answer::Fine),
-        (0, Call::Read(2), Answer::Value(5)),
-        (0, Call::Add(2, 4), Answer::Fine),
-        (0, Call::Take(2, 2), Answer::Fine),
-        (0, Call::Read(2), Answer::Value(7)),
-        (0, Call::Commit(true), Answer::Draw(1)),
-        (0, Call::Begin, Answer::Fine),
-        (0, Call::Write(2, 1), Answer::Fine),
-        (0, Call::Take(3, 1), Answer::Short),
-        (0, Call::Commit(false), Answer::Draw(2)),
-        (0, Call::Begin, Answer::Fine),
-        (0, Call::Read(2), Answer::Value(7)),
-        (0, Call::Add(2, u64::MAX), Answer::Over),
-        (0, Call::Commit(false), Answer::Draw(3)),
-        (0, Call::Begin, Answer::Fine),
-        (0, Call::Write(2, 9), Answer::Fine),
-        (0, Call::Abort, Answer::Fine),
-        (0, Call::Begin, Answer::Fine),
-        (0, Call::Read(2), Answer::Value(7)),
-        (0, Call::Commit(true), Answer::Draw(4)),
-    ];
-    assert_eq!(rt; play(rt.alloc(), &rows)?, (None, 4, 4));
-    Ok(())
+    comes_out(three(rt.alloc(), 1)?, 1, &OWN_WRITES, (4, 4))
 }
 
 // Worker 1's transaction is made by hand: a lock is met, and a value that is put and not opened yet.
+const BETWEEN_PUT_AND_OPEN: [Row; 13] = [
+    (0, Call::Begin, Answer::Fine),
+    (0, Call::Write(0, 3), Answer::Fine),
+    (1, Call::Hold, Answer::Fine),
+    (0, Call::Commit(true), HELD),
+    (0, Call::Begin, Answer::Fine),
+    (0, Call::Read(0), HELD),
+    (1, Call::Put(9), Answer::Fine),
+    (0, Call::Begin, Answer::Fine),
+    (0, Call::Read(0), HELD),
+    (1, Call::Open, Answer::Fine),
+    (0, Call::Begin, Answer::Fine),
+    (0, Call::Read(0), Answer::Value(9)),
+    (0, Call::Commit(true), Answer::Draw(2)),
+];
+
 #[test]
 fn a_reader_between_put_and_open(rt: HostRuntime) -> Result<(), Fail> {
-    let rows = [
-        (0, Call::Begin, Answer::Fine),
-        (0, Call::Write(0, 3), Answer::Fine),
-        (1, Call::Hold, Answer::Fine),
-        (0, Call::Commit(true), held()),
-        (0, Call::Begin, Answer::Fine),
-        (0, Call::Read(0), held()),
-        (1, Call::Put(9), Answer::Fine),
-        (0, Call::Begin, Answer::Fine),
-        (0, Call::Read(0), held()),
-        (1, Call::Open, Answer::Fine),
-        (0, Call::Begin, Answer::Fine),
-        (0, Call::Read(0), Answer::Value(9)),
-        (0, Call::Commit(true), Answer::Draw(2)),
-    ];
-    assert_eq!(rt; play(rt.alloc(), &rows)?, (None, 2, 2));
-    Ok(())
+    comes_out(three(rt.alloc(), 1)?, 1, &BETWEEN_PUT_AND_OPEN, (2, 2))
 }
 
 // The first draw that no transaction begins at: 64 below 2^40.
 const LAST: u64 = 1_099_511_627_712;
 
-const fn limit(draw: u64) -> Answer {
-    Answer::No(RefusalCause::NumberLimit { clock: word(draw) })
-}
+// Nobody begins at it.
+const AT_THE_LAST: [Row; 2] = [(0, Call::Begin, NO_NUMBER), (1, Call::Begin, NO_NUMBER)];
+
+const NO_NUMBER: Answer = Answer::No(RefusalCause::NumberLimit {
+    clock: (1 << 40) + LAST,
+});
+
+// Two begin at one draw less, so the second one draws at the limit.
+const LAST_DRAWS: [Row; 7] = [
+    (0, Call::Begin, Answer::Fine),
+    (1, Call::Begin, Answer::Fine),
+    (0, Call::Add(0, 1), Answer::Fine),
+    (1, Call::Add(1, 1), Answer::Fine),
+    (0, Call::Commit(true), Answer::Draw(LAST - 1)),
+    (1, Call::Commit(true), Answer::Draw(LAST)),
+    (
+        2,
+        Call::Begin,
+        Answer::No(RefusalCause::NumberLimit {
+            clock: (1 << 40) + LAST + 1,
+        }),
+    ),
+];
 
 #[test]
 fn the_last_draws_begin_nothing(rt: HostRuntime) -> Result<(), Fail> {
-    let rows = [(0, Call::Begin, limit(LAST)), (1, Call::Begin, limit(LAST))];
-    assert_eq!(rt; play_from(rt.alloc(), LAST, &rows)?, (None, 0, 0));
-    // Two begin at one draw less, so the second one draws at the limit.
-    let rows = [
-        (0, Call::Begin, Answer::Fine),
-        (1, Call::Begin, Answer::Fine),
-        (0, Call::Add(0, 1), Answer::Fine),
-        (1, Call::Add(1, 1), Answer::Fine),
-        (0, Call::Commit(true), Answer::Draw(LAST - 1)),
-        (1, Call::Commit(true), Answer::Draw(LAST)),
-        (2, Call::Begin, limit(LAST + 1)),
-    ];
-    assert_eq!(rt; play_from(rt.alloc(), LAST - 1, &rows)?, (None, 2, 2));
-    Ok(())
+    comes_out(three(rt.alloc(), LAST)?, LAST, &AT_THE_LAST, (0, 0))?;
+    comes_out(three(rt.alloc(), LAST - 1)?, LAST - 1, &LAST_DRAWS, (2, 2))
 }
 
 fn change(key: u64, value: u64) -> Option<Change> {
@@ -242,20 +292,32 @@ fn change(key: u64, value: u64) -> Option<Change> {
     })
 }
 
+fn is_change(workers: &Workers, at: usize, wanted: Option<Change>) -> Result<(), Fail> {
+    is_so("a change", workers.change(0, at) == wanted)
+}
+
+// Keys are written in no order, and one twice.
+const UNORDERED: [Row; 6] = [
+    (0, Call::Begin, Answer::Fine),
+    (0, Call::Write(7, 1), Answer::Fine),
+    (0, Call::Write(2, 5), Answer::Fine),
+    (0, Call::Add(7, 3), Answer::Fine),
+    (0, Call::Write(4, 6), Answer::Fine),
+    (0, Call::Commit(true), Answer::Draw(1)),
+];
+
+fn stand_in_order(workers: &mut Workers) -> Result<(), Fail> {
+    is_so("the writes", rows_met(workers, &UNORDERED) == 6)?;
+    is_change(workers, 0, change(2, 5))?;
+    is_change(workers, 1, change(4, 6))?;
+    is_change(workers, 2, change(7, 4))?;
+    is_change(workers, 3, None)
+}
+
 #[test]
 fn changes_stand_in_order_of_key(rt: HostRuntime) -> Result<(), Fail> {
     let mut workers = Workers::new(rt.alloc(), plan(1), 1)?;
-    workers.play(0, Call::Begin);
-    workers.play(0, Call::Write(7, 1));
-    workers.play(0, Call::Write(2, 5));
-    workers.play(0, Call::Add(7, 3));
-    workers.play(0, Call::Write(4, 6));
-    assert_eq!(rt; workers.play(0, Call::Commit(true)), Answer::Draw(1));
-    assert_eq!(rt; workers.change(0, 0), change(2, 5));
-    assert_eq!(rt; workers.change(0, 1), change(4, 6));
-    assert_eq!(rt; workers.change(0, 2), change(7, 4));
-    assert_eq!(rt; workers.change(0, 3), None);
-    Ok(())
+    stand_in_order(&mut workers)
 }
 
 // The same call at another key.
@@ -280,28 +342,30 @@ const fn wide(set: SetName) -> Answer {
     Answer::No(RefusalCause::Wide { set })
 }
 
+fn fill_writes(workers: &mut Workers) -> Result<(), Fail> {
+    is_answer(many(workers, 16, Call::Add(0, 7)), Answer::Fine)?;
+    is_answer(workers.play(0, Call::Commit(true)), Answer::Draw(1))?;
+    is_answer(many(workers, 17, Call::Add(0, 7)), wide(SetName::Writes))?;
+    is_answer(many(workers, 17, Call::Grow(0, 7)), wide(SetName::Writes))
+}
+
+fn fill_reads(workers: &mut Workers) -> Result<(), Fail> {
+    is_answer(many(workers, 256, Call::Read(0)), Answer::Value(0))?;
+    is_answer(workers.play(0, Call::Read(3)), Answer::Value(7))?;
+    is_answer(workers.play(0, Call::Commit(true)), Answer::Draw(2))?;
+    is_answer(many(workers, 257, Call::Read(0)), wide(SetName::Reads))
+}
+
+fn fill_sets(workers: &mut Workers) -> Result<(), Fail> {
+    bring_up(workers, 256);
+    fill_writes(workers)?;
+    fill_reads(workers)
+}
+
 #[test]
 fn sets_are_full_at_16_and_256(rt: HostRuntime) -> Result<(), Fail> {
     let mut workers = Workers::new(rt.alloc(), plan(1), 1)?;
-    bring_up(&mut workers, 256);
-    assert_eq!(rt; many(&mut workers, 16, Call::Add(0, 7)), Answer::Fine);
-    assert_eq!(rt; workers.play(0, Call::Commit(true)), Answer::Draw(1));
-    assert_eq!(rt;
-        many(&mut workers, 17, Call::Add(0, 7)),
-        wide(SetName::Writes)
-    );
-    assert_eq!(rt;
-        many(&mut workers, 17, Call::Grow(0, 7)),
-        wide(SetName::Writes)
-    );
-    assert_eq!(rt; many(&mut workers, 256, Call::Read(0)), Answer::Value(0));
-    assert_eq!(rt; workers.play(0, Call::Read(3)), Answer::Value(7));
-    assert_eq!(rt; workers.play(0, Call::Commit(true)), Answer::Draw(2));
-    assert_eq!(rt;
-        many(&mut workers, 257, Call::Read(0)),
-        wide(SetName::Reads)
-    );
-    Ok(())
+    fill_sets(&mut workers)
 }
 
 // The next number of a row that looks like chance (xorshift).
@@ -399,27 +463,51 @@ fn is_as_plain(
     }
 }
 
-#[test]
-fn one_seat_is_as_the_plain_engine(rt: HostRuntime) -> Result<(), Fail> {
-    let alloc = rt.alloc();
-    let mut workers = Workers::new(alloc, plan(1), 1)?;
-    bring_up(&mut workers, 0);
-    let mut plain = Plain::new(alloc, &[Decl::Array { id: 1, size: 300 }])?;
-    let mut seed = 88_172_645_463_325_252;
-    for _ in 0..3000 {
-        seed = next(seed);
-        let ops = ops_of(alloc, seed)?;
-        let same = is_as_plain(alloc, &mut workers, &mut plain, ops.as_slice())?;
-        assert!(rt; same, "{ops:?}");
-    }
-    // And what stands at the keys is the same.
+// A transaction made of a number comes to the same on both engines.
+fn check_seed(
+    alloc: Global,
+    workers: &mut Workers,
+    plain: &mut Plain,
+    seed: u64,
+) -> Result<(), Fail> {
+    let ops = ops_of(alloc, seed)?;
+    let same = is_as_plain(alloc, workers, plain, ops.as_slice())?;
+    is_so("as on the plain engine", same)
+}
+
+// And so does one that reads all keys.
+fn check_keys(alloc: Global, workers: &mut Workers, plain: &mut Plain) -> Result<(), Fail> {
     let mut reads = Vec::new(alloc);
     for k in 0..6 {
         reads.push(Op::Read(Key { storage: 1, key: k }))?;
     }
-    assert!(rt; is_as_plain(alloc, &mut workers, &mut plain, reads.as_slice())?);
-    assert_eq!(rt; workers.close(), (word(3002), 3001));
-    Ok(())
+    let same = is_as_plain(alloc, workers, plain, reads.as_slice())?;
+    is_so("the same stands at the keys", same)
+}
+
+fn check_seeds(alloc: Global, workers: &mut Workers, plain: &mut Plain) -> Result<(), Fail> {
+    let mut seed = 88_172_645_463_325_252;
+    for _ in 0..3000 {
+        seed = next(seed);
+        check_seed(alloc, workers, plain, seed)?;
+    }
+    check_keys(alloc, workers, plain)
+}
+
+const DECLS: [Decl; 1] = [Decl::Array { id: 1, size: 300 }];
+
+fn check_plain(alloc: Global, workers: &mut Workers) -> Result<(), Fail> {
+    let mut plain = Plain::new(alloc, &DECLS)?;
+    check_seeds(alloc, workers, &mut plain)
+}
+
+#[test]
+fn one_seat_is_as_the_plain_engine(rt: HostRuntime) -> Result<(), Fail> {
+    let mut workers = Workers::new(rt.alloc(), plan(1), 1)?;
+    bring_up(&mut workers, 0);
+    check_plain(rt.alloc(), &mut workers)?;
+    let (clock, commits) = workers.close();
+    is_so("3,001 commits", clock == word(3002) && commits == 3001)
 }
 
 fn read(workers: &mut Workers, key: u64) -> u64 {
@@ -431,7 +519,7 @@ fn read(workers: &mut Workers, key: u64) -> u64 {
 
 // What came of workers that added in threads to two keys each time: the sum of the keys, how often they have added, how
 // many draws and commits there were up to then.
-#[derive(Clone, Copy, Debug, PartialEq, Eq)]
+#[derive(Clone, Copy)]
 struct Sums {
     keys: u64,
     added: u64,
@@ -466,29 +554,39 @@ fn add_in_threads<R: Threads + Sync>(
     })
 }
 
+// How many workers, and how often all of them add: none meets another.
+const APART: [(u8, u64); 2] = [(2, 1000), (8, 4000)];
+
+fn is_apart(sums: Sums, all: u64) -> Result<(), Fail> {
+    is_so("both keys", sums.keys == all.saturating_mul(2))?;
+    is_so("added", sums.added == all)?;
+    is_so(
+        "draws and commits",
+        sums.draws == all && sums.commits == all,
+    )
+}
+
 #[test]
 fn workers_add_apart_in_threads(rt: HostRuntime) -> Result<(), Fail> {
-    for (count, all) in [(2, 1000), (8, 4000)] {
-        let want = Sums {
-            keys: 2 * all,
-            added: all,
-            draws: all,
-            commits: all,
-        };
-        assert_eq!(rt; add_in_threads(&rt, rt.alloc(), count, true)?, want);
+    for (count, all) in &APART {
+        is_apart(add_in_threads(&rt, rt.alloc(), *count, true)?, *all)?;
     }
     Ok(())
 }
 
+fn is_together(sums: Sums) -> Result<(), Fail> {
+    is_so("both keys", sums.keys == sums.added.saturating_mul(2))?;
+    is_so("commits", sums.commits == sums.added)?;
+    is_so("draws", sums.draws >= sums.added && sums.added > 0)
+}
+
+const COUNTS: [u8; 2] = [2, 8];
+
 // They meet, so some draws are for nothing, and one that meets too often gives up.
 #[test]
 fn workers_add_to_the_same_keys_in_threads(rt: HostRuntime) -> Result<(), Fail> {
-    for count in [2, 8] {
-        let sums = add_in_threads(&rt, rt.alloc(), count, false)?;
-        assert_eq!(rt; sums.keys, sums.added.saturating_mul(2), "{sums:?}");
-        assert_eq!(rt; sums.commits, sums.added, "{sums:?}");
-        assert!(rt; sums.draws >= sums.added, "{sums:?}");
-        assert!(rt; sums.added > 0, "{sums:?}");
+    for count in &COUNTS {
+        is_together(add_in_threads(&rt, rt.alloc(), *count, false)?)?;
     }
     Ok(())
 }

@@ -11,24 +11,24 @@ make_volatile-requires-clause-can c =
     c.requires.none
 
 pub returns-in-Ok-clause-layout : goal.returns-in-Ok-clause-layout
-returns-in-Ok-clause-layout c = ap (λ (v : View). v.layout) c.make_volatile.ensures.walked.is
+returns-in-Ok-clause-layout c = ap (λ (v : View). v.layout) c.make_volatile.ensures.makes.walked.is
 
 pub returns-in-Err-clause-layout : goal.returns-in-Err-clause-layout
-returns-in-Err-clause-layout c = ap (λ (v : View). v.layout) c.make_volatile.ensures.walked.is
+returns-in-Err-clause-layout c = ap (λ (v : View). v.layout) c.make_volatile.ensures.makes.walked.is
 
 pub returns-in-Ok-clause-found : goal.returns-in-Ok-clause-found
 returns-in-Ok-clause-found c =
-    let made = c.in-Ok.ensures.made.record_at in
+    let made = c.in-Ok.ensures.makes.made.record_at in
     key_here (view c.make_volatile.new.pass) first_key made.spot c.in-Ok.at made.place
 
 pub returns-in-Ok-clause-free : goal.returns-in-Ok-clause-free
 returns-in-Ok-clause-free c =
     free_then c.requires.begun.0 c.requires.begun.1 (view c.args.pass.now) (view c.make_volatile.new.pass)
-    c.make_volatile.new.holds c.requires.begun.2 c.make_volatile.ensures.walked c.make_volatile.ensures.can
-    c.make_volatile.ensures.kept
+    c.make_volatile.new.holds c.requires.begun.2 c.make_volatile.ensures.makes.walked c.make_volatile.ensures.makes.can
+    c.make_volatile.ensures.makes.kept
 
 pub returns-in-Err-clause-free : goal.returns-in-Err-clause-free
 returns-in-Err-clause-free c =
     free_then c.requires.begun.0 c.requires.begun.1 (view c.args.pass.now) (view c.make_volatile.new.pass)
-    c.make_volatile.new.holds c.requires.begun.2 c.make_volatile.ensures.walked c.make_volatile.ensures.can
-    c.make_volatile.ensures.kept
+    c.make_volatile.new.holds c.requires.begun.2 c.make_volatile.ensures.makes.walked c.make_volatile.ensures.makes.can
+    c.make_volatile.ensures.makes.kept

@@ -23,7 +23,7 @@ import tempfile
 import time
 
 SIZES = (4096, 16384)  # lines, and keys of a tree: more want more slots than there are
-OPTIONS = ["--snap", "65536", "--slots", "4096", "--tries", "1000000"]
+OPTIONS = ["--snap", "8192", "--slots", "4096", "--tries", "1000000"]
 TIMES = 11
 
 

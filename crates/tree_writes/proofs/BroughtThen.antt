@@ -176,10 +176,15 @@ module _ (sets mid new : Sets) (k : Key) (u v w : View) (m : HasMade k sets mid 
   locks_since : LocksLeaf k v w → LocksLeaf k u w
   locks_since (inl none) = inl (none ∙ m.touched)
   locks_since (inr h) = inr record {
+    then = h.then;
+    walked = walks_then u v h.then m.only h.walked;
+    slot = h.slot;
     span = h.span;
+    way = h.way;
     over = h.over;
     keys = h.keys;
-    most = h.most;
+    knows = h.knows;
+    full = h.full;
     once = h.once;
     inside = h.inside;
     count = h.count;
@@ -212,6 +217,11 @@ module _ (sets mid new : Sets) (k : Key) (u v w : View) (m : HasMade k sets mid 
           key = l.key;
           place = l.place;
           over = l.over;
+          leaf = l.leaf;
+          knows = l.knows;
+          same = l.same;
+          full = l.full;
+          lacks = l.lacks;
           cause = l.cause;
           locks = l.locks;
           count = l.count;

@@ -220,7 +220,7 @@ added_falls (refusals.NumberLimit clock) sets k x v w live on r = absurd r
 -- ---- the leaf wasn't split
 
 module _ (why : RefusalCause) (sets : Sets) (k : Key) (x : Leaf) (v w : View) (live : IsLive sets v)
-    (on : IsLeafOn k sets.headers x v) (full : length on.leaf.keys ≡ 16)
+    (on : IsLeafOn k sets.headers x v) (full : length on.leaf.keys ≡ 16) (lacks : has_key on.leaf.keys k ≡ false)
     (h : HasNotSplit sets.holds x.slot x.header why v w) where
   tried_walked : OnlyWalked v w
   tried_walked = record {
@@ -254,7 +254,7 @@ module _ (why : RefusalCause) (sets : Sets) (k : Key) (x : Leaf) (v w : View) (l
       → HasTakenFirst x.slot i v w → Stopped sets sets.holds k (refusals.Conflict at expected seen) v w
   record_falls at expected seen i few c taken =
       record_stops sets sets.holds k x v v w live on tried_walked tried_more tried_trees (omega arith) h.worked.words i at
-      expected seen few full c i (omega (arith, few))
+      expected seen few full lacks c i (omega (arith, few))
       (taken_first k sets.headers x i v w on full live.trees (omega (arith, few)) taken)
       (inl (key_apart on.leaf.keys i on.leaf.once (omega (arith, few, full))))
 
@@ -298,30 +298,30 @@ full_leaf : (sets : Sets) (k : Key) (x : Leaf) (v : View) → (on : IsLeafOn k s
 full_leaf sets k x v on full = record { leaf = x; is = on.leaf; full = full; saw = on.met }
 
 pub split_falls : (why : RefusalCause) (sets : Sets) (k : Key) (x : Leaf) (v w : View) → IsLive sets v
-    → (on : IsLeafOn k sets.headers x v) → length on.leaf.keys ≡ 16 → HasNotSplit sets.holds x.slot x.header why v w
-    → Falls sets sets.holds k why v w
-split_falls (refusals.Conflict at expected seen) sets k x v w live on full h =
+    → (on : IsLeafOn k sets.headers x v) → length on.leaf.keys ≡ 16 → has_key on.leaf.keys k ≡ false
+    → HasNotSplit sets.holds x.slot x.header why v w → Falls sets sets.holds k why v w
+split_falls (refusals.Conflict at expected seen) sets k x v w live on full lacks h =
     let why : RefusalCause = refusals.Conflict at expected seen in
     elim h.cause [
-      | inl c ↦ split_falls_by why sets k x v w live on full h
-          (header_falls why sets k x v w live on full h at expected seen c.0 c.1) (inl c.2)
+      | inl c ↦ split_falls_by why sets k x v w live on full lacks h
+          (header_falls why sets k x v w live on full lacks h at expected seen c.0 c.1) (inl c.2)
       | inr more ↦ elim more [
         | inl r ↦
             let few : r.0 < 16 = r.1 in
-            split_falls_by why sets k x v w live on full h
-            (record_falls why sets k x v w live on full h at expected seen r.0 few r.2 r.3)
-            (split_locks why sets k x v w live on full h r.0 (omega (arith, few)) r.3)
-        | inr g ↦ split_falls_by why sets k x v w live on full h
-            (gave_falls why sets k x v w live on full h at expected seen g.0)
-            (split_locks why sets k x v w live on full h 16 (omega arith) g.1)
+            split_falls_by why sets k x v w live on full lacks h
+            (record_falls why sets k x v w live on full lacks h at expected seen r.0 few r.2 r.3)
+            (split_locks why sets k x v w live on full lacks h r.0 (omega (arith, few)) r.3)
+        | inr g ↦ split_falls_by why sets k x v w live on full lacks h
+            (gave_falls why sets k x v w live on full lacks h at expected seen g.0)
+            (split_locks why sets k x v w live on full lacks h 16 (omega arith) g.1)
       ]
     ]
-split_falls (refusals.Full held) sets k x v w live on full h =
-    split_falls_by (refusals.Full held) sets k x v w live on full h
-    (full_falls (refusals.Full held) sets k x v w live on full h held h.cause.0)
-    (split_locks (refusals.Full held) sets k x v w live on full h 16 (omega arith) h.cause.1)
-split_falls (refusals.Wide set) sets k x v w live on full h =
-    split_falls_by (refusals.Wide set) sets k x v w live on full h
+split_falls (refusals.Full held) sets k x v w live on full lacks h =
+    split_falls_by (refusals.Full held) sets k x v w live on full lacks h
+    (full_falls (refusals.Full held) sets k x v w live on full lacks h held h.cause.0)
+    (split_locks (refusals.Full held) sets k x v w live on full lacks h 16 (omega arith) h.cause.1)
+split_falls (refusals.Wide set) sets k x v w live on full lacks h =
+    split_falls_by (refusals.Wide set) sets k x v w live on full lacks h
     record {
       due = tt;
       on = subst (λ (s : SetName). NeedsOne s k sets w) (sym h.cause.0) (inl (
@@ -345,7 +345,7 @@ split_falls (refusals.Wide set) sets k x v w live on full h =
         ap (λ (z : View). z.touched) h.cause.2,
       );
     } (inl (ap (λ (z : View). z.touched) h.cause.2))
-split_falls (refusals.NumberLimit clock) sets k x v w live on full h = absurd h.cause
+split_falls (refusals.NumberLimit clock) sets k x v w live on full lacks h = absurd h.cause
 
 -- ---- the leaf was split, and the sets name a word of it
 
@@ -417,7 +417,7 @@ module _ (why : RefusalCause) (sets new : Sets) (k : Key) (x : Leaf) (at : ℕ) 
       → Stopped sets new.holds k (refusals.Conflict a expected seen) v y
   look_stops a expected seen c =
       record_stops sets new.holds k x v w y s.live s.on both_walked look_more look_trees s.split.worked.since
-      (λ n. h.worked.words n ∙ s.split.worked.words n) 0 a expected seen (omega arith) s.full c 16 (omega arith)
+      (λ n. h.worked.words n ∙ s.split.worked.words n) 0 a expected seen (omega arith) s.full s.lacks c 16 (omega arith)
       (taken_first k sets.headers x 16 v y s.on s.full s.live.trees (omega arith) look_taken) (inr named)
 
   look_falls_by : Stopped sets new.holds k why v y → Falls sets new.holds k why v y

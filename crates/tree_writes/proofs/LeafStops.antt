@@ -99,13 +99,13 @@ module _ (sets : Sets) (slots : List ℕ) (k : Key) (x : Leaf) (v u w : View) (l
   -- ---- a record
 
   -- locks of so many of the leaf's records were taken, and its own only where the sets name a word of the leaf's page
-  pub record_stops : (i at expected seen : ℕ) → i < 16 → length on.leaf.keys ≡ 16
+  pub record_stops : (i at expected seen : ℕ) → i < 16 → length on.leaf.keys ≡ 16 → has_key on.leaf.keys k ≡ false
       → IsLeafWordChanged x.slot (word_in tree_leaf i) at expected seen u w → (count : ℕ) → count ≤ 16
       → w.touched ≡ with_touches v.touched (seat_number v.role) on.leaf.keys count
       → (has_key (take count on.leaf.keys) (get_or on.leaf.keys i no_key) ≡ false)
       ⊎ (names_page (page_at v.layout.slots x.slot 0) sets ≡ true)
       → Stopped sets slots k (refusals.Conflict at expected seen) v w
-  record_stops i at expected seen few full c count most touched own =
+  record_stops i at expected seen few full lacks c count most touched own =
       let below : i < length on.leaf.keys = omega (arith, few, full) in
       let q : Key = get_or on.leaf.keys i no_key in
       let before : IsTreeKeyIn (ground v) q (page_at v.layout.slots x.slot (1 + (16 + 3 * i))) =
@@ -171,6 +171,11 @@ module _ (sets : Sets) (slots : List ℕ) (k : Key) (x : Leaf) (v u w : View) (l
             key = q;
             place = place;
             over = subst (λ (s : Span). in_span s k ≡ true) spans on.leaf.on.over;
+            leaf = record { slot = x.slot; keys = on.leaf.keys };
+            knows = only.known (record { slot = x.slot; keys = on.leaf.keys }) on.leaf.knows;
+            same = sym slot;
+            full = full;
+            lacks = lacks;
             cause = c.cause;
             locks = on.leaf.keys;
             count = count;

@@ -80,10 +80,15 @@ module _ (why : RefusalCause) (sets : Sets) (slots : List ℕ) (k : Key) (v w x 
   pub locks_end : LocksLeaf k v w → LocksLeaf k v x
   locks_end (inl none) = inl (touched_same [] why w x g ∙ none)
   locks_end (inr h) = inr record {
+    then = h.then;
+    walked = h.walked;
+    slot = h.slot;
     span = h.span;
+    way = h.way;
     over = h.over;
     keys = h.keys;
-    most = h.most;
+    knows = h.knows;
+    full = h.full;
     once = h.once;
     inside = h.inside;
     count = h.count;
@@ -130,6 +135,11 @@ module _ (why : RefusalCause) (sets : Sets) (slots : List ℕ) (k : Key) (v w x 
     key = c.key;
     place = c.place;
     over = c.over;
+    leaf = c.leaf;
+    knows = c.knows;
+    same = c.same;
+    full = c.full;
+    lacks = c.lacks;
     cause = c.cause;
     locks = c.locks;
     count = c.count;

@@ -16,6 +16,7 @@ use Rattle.foster_tree.specs.Locking.{no_key, with_touches, HasTakenFirst}
 use Rattle.foster_tree.proofs.LockLists.{once_apart, there}
 use Rattle.tree_walks.specs.declared.ways.Leaf.{Leaf}
 use Rattle.tree_walks.specs.Ways.{IsLeafOn}
+use Rattle.page_commit.proofs.FoundLaws.{nothing_walked}
 use Rattle.tree_writes.specs.Causes.{LocksLeaf}
 
 -- ---- keys
@@ -61,10 +62,15 @@ module _ (k : Key) (headers : List Seen) (x : Leaf) (n : ℕ) (v w : View) (on :
 
   pub locks_leaf : LocksLeaf k v w
   locks_leaf = inr record {
+    then = v;
+    walked = nothing_walked v;
+    slot = x.slot;
     span = x.span;
+    way = on.leaf.on.way;
     over = on.leaf.on.over;
     keys = on.leaf.keys;
-    most = on.leaf.few;
+    knows = on.leaf.knows;
+    full = full;
     once = on.leaf.once;
     inside = on.leaf.inside;
     count = n;

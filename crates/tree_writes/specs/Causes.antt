@@ -10,6 +10,7 @@ use Rattle.tx_sets.specs.declared.reads.ReadEntry.{ReadEntry}
 use Rattle.tx_sets.specs.declared.seen.Seen.{Seen}
 use Rattle.tx_sets.specs.declared.sets.Sets.{Sets}
 use Rattle.tx_sets.specs.Entries.{has_word, has_write, read_in, write_in}
+use Rattle.engine_pages.specs.declared.view.Known.{Known}
 use Rattle.engine_pages.specs.declared.view.Read.{Read}
 use Rattle.engine_pages.specs.declared.view.RefusalCause.{RefusalCause}
 use Rattle.engine_pages.specs.declared.view.RefusalCause.TheVariants as refusals
@@ -55,13 +56,18 @@ abbrev pub names_page : ℕ → Sets → Bool
 names_page first sets = has_word first sets.headers
     || (is_some (read_in first sets.reads) || is_some (write_in first sets.writes))
 
--- Locks were taken of records of one leaf over the key, by the pass's seat: of some of its first ones, each once, in
--- their order.
+-- Locks were taken of records of one full leaf over the key, by the pass's seat: of some of its first ones, each once, in
+-- their order. The pass knew the leaf by then.
 pub record HasLockedLeaf (k : Key) (v w : View) : Type 0 where
+  pub then : View
+  pub walked : OnlyWalked v then
+  pub slot : ℕ
   pub span : Span
+  pub way : Contains then.ways (record { slot = slot; span = span })
   pub over : in_span span k ≡ true
   pub keys : List Key
-  pub most : length keys ≤ tree_leaf.room
+  pub knows : Contains then.known (record { slot = slot; keys = keys })
+  pub full : length keys ≡ tree_leaf.room
   pub once : each_once keys ≡ true
   pub inside : (q : Key) → has_key keys q ≡ true → in_span span q ≡ true
   pub count : ℕ
@@ -79,8 +85,8 @@ abbrev pub TouchesTrees : View → View → Type 0
 TouchesTrees v w = (t : Touch) → Contains w.touched t → Contains v.touched t
     ⊎ ((t.seat ≡ seat_number v.role) × (is_tree v.layout.decls t.key.storage ≡ true))
 
--- The last load or compare_exchange is one of this call, of the word of a record, of whatever key, in a leaf over the
--- key: the leaf was to be split, or was, which moves all of its records. The word was locked, or was not the expected
+-- The last load or compare_exchange is one of this call, of the word of a record, of whatever key, in a full leaf over
+-- the key that lacks the key: the leaf was to be split, or was, which moves all of its records. The word was locked, or was not the expected
 -- one, which is what the transaction had seen or left there before this step. Where the call itself has locked the
 -- record, so that the leaf was split, the sets name a word of its page.
 pub record IsLeafConflict (sets : Sets) (k : Key) (at expected seen : ℕ) (u v w : View) : Type 0 where
@@ -91,6 +97,11 @@ pub record IsLeafConflict (sets : Sets) (k : Key) (at expected seen : ℕ) (u v 
   pub key : Key
   pub place : IsTreeKeyIn (ground u) key at
   pub over : in_span (place.way).span k ≡ true
+  pub leaf : Known
+  pub knows : Contains u.known leaf
+  pub same : leaf.slot ≡ slot_of u.layout.slots at
+  pub full : length leaf.keys ≡ tree_leaf.room
+  pub lacks : has_key leaf.keys k ≡ false
   pub cause : ((seen / 2 ^ 60) % 2 ≡ 1) ⊎ (seen ≢ expected)
   pub locks : List Key
   pub count : ℕ

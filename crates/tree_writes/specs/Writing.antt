@@ -128,6 +128,7 @@ pub record HasSplitFor (k : Key) (x : Leaf) (at : ℕ) (sets new : Sets) (v w : 
   pub live : IsLive sets v
   pub on : IsLeafOn k sets.headers x v
   pub full : length on.leaf.keys ≡ tree_leaf.room
+  pub lacks : has_key on.leaf.keys k ≡ false
   pub split : HasSplitLeaf x.slot x.span k at v w
   pub now : HoldsAre new.holds w
   pub others : OtherHolds sets new

@@ -19,6 +19,7 @@ end_split-requires-clause-split c = (
     live = c.requires.live;
     on = c.requires.lacking.0;
     full = full_keys c.args.sets.now c.args.key c.args.leaf (view c.args.pass.now) c.requires.lacking.0 c.requires.full;
+    lacks = c.requires.lacking.1;
     split = c.in-Ok.ensures.split;
     now = c.split.ensures.holds;
     others = record { reads = refl; pointers = refl; headers = refl; writes = refl };
@@ -34,6 +35,7 @@ returns-in-Ok-clause-grows c =
       live = c.requires.live;
       on = c.requires.lacking.0;
       full = full_keys c.args.sets.now c.args.key c.args.leaf (view c.args.pass.now) c.requires.lacking.0 c.requires.full;
+      lacks = c.requires.lacking.1;
       split = c.in-Ok.ensures.split;
       now = c.split.ensures.holds;
       others = record { reads = refl; pointers = refl; headers = refl; writes = refl };
@@ -46,7 +48,7 @@ refuse_on-requires-clause-can c =
     subst (λ (l : List ℕ). CanRefuse l w) (sym c.in-Err.ensures.kept)
     (falls_can c.args.sets.now c.args.sets.now.holds c.args.key c.in-Err.why v w
     (split_falls c.in-Err.why c.args.sets.now c.args.key c.args.leaf v w c.requires.live c.requires.lacking.0
-    (full_keys c.args.sets.now c.args.key c.args.leaf v c.requires.lacking.0 c.requires.full) c.in-Err.ensures.missed))
+    (full_keys c.args.sets.now c.args.key c.args.leaf v c.requires.lacking.0 c.requires.full) c.requires.lacking.1 c.in-Err.ensures.missed))
 
 pub refuse_on-requires-clause-due : goal.refuse_on-requires-clause-due
 refuse_on-requires-clause-due c =
@@ -54,7 +56,7 @@ refuse_on-requires-clause-due c =
     let w = view c.split.new.pass in
     let f : Falls c.args.sets.now c.args.sets.now.holds c.args.key c.in-Err.why v w =
     split_falls c.in-Err.why c.args.sets.now c.args.key c.args.leaf v w c.requires.live c.requires.lacking.0
-    (full_keys c.args.sets.now c.args.key c.args.leaf v c.requires.lacking.0 c.requires.full) c.in-Err.ensures.missed in
+    (full_keys c.args.sets.now c.args.key c.args.leaf v c.requires.lacking.0 c.requires.full) c.requires.lacking.1 c.in-Err.ensures.missed in
     f.stopped.due
 
 pub refuse_on-requires-clause-on : goal.refuse_on-requires-clause-on
@@ -63,7 +65,7 @@ refuse_on-requires-clause-on c =
     let w = view c.split.new.pass in
     let f : Falls c.args.sets.now c.args.sets.now.holds c.args.key c.in-Err.why v w =
     split_falls c.in-Err.why c.args.sets.now c.args.key c.args.leaf v w c.requires.live c.requires.lacking.0
-    (full_keys c.args.sets.now c.args.key c.args.leaf v c.requires.lacking.0 c.requires.full) c.in-Err.ensures.missed in
+    (full_keys c.args.sets.now c.args.key c.args.leaf v c.requires.lacking.0 c.requires.full) c.requires.lacking.1 c.in-Err.ensures.missed in
     subst (λ (l : List ℕ). IsRefusedOn c.in-Err.why c.args.key (record c.args.sets.now { holds = l }) w)
     (sym c.in-Err.ensures.kept) f.stopped.on
 
@@ -76,5 +78,5 @@ returns-in-Err-clause-grows c =
     falls_so c.args.sets.now (record c.args.sets.now { holds = c.split.new.holds }) c.args.sets.now.holds c.args.key
     c.in-Err.why c.refuse_on.result v w (view c.refuse_on.new.pass) c.refuse_on.ensures.why
     (split_falls c.in-Err.why c.args.sets.now c.args.key c.args.leaf v w c.requires.live c.requires.lacking.0
-    (full_keys c.args.sets.now c.args.key c.args.leaf v c.requires.lacking.0 c.requires.full) c.in-Err.ensures.missed)
+    (full_keys c.args.sets.now c.args.key c.args.leaf v c.requires.lacking.0 c.requires.full) c.requires.lacking.1 c.in-Err.ensures.missed)
     c.refuse_on.ensures.gives_up c.in-Err.ensures.kept c.requires.unwritten c.requires.room (omega (arith, one, two))

@@ -1,12 +1,12 @@
 -- Storages that a loop adds to the text, one after another, and those that it looks for.
-use Rattle.std.proofs.Common.{◌≡◌, inl, inr, ◌∙◌, sym, ap, subst, refl, ℕ, ◌+◌, ◌<◌, ◌≤◌, List, [], ◌∷◌, ◌++◌, length, get_or, drop, Option, Some, None, Result, Ok, Err, arith, append_assoc, add-one, drop-cons}
+use Rattle.std.proofs.Common.{◌≡◌, inl, inr, ◌∙◌, sym, ap, subst, ℕ, ◌+◌, ◌<◌, ◌≤◌, List, [], ◌∷◌, ◌++◌, length, get_or, drop, Option, Some, None, Result, Ok, Err, arith, append_assoc, add-one, drop-cons}
 use Rattle.std.specs.Prelude.{IfSome, OnOk, codes}
 use Rattle.std.specs.List.{Contains}
 use Rattle.std.proofs.lemmas.Bool.{cases_lt}
-use Rattle.std.proofs.lemmas.List.{append-nil, get_or_default}
+use Rattle.std.proofs.lemmas.List.{get_or_default}
 use Rattle.serial_model.specs.declared.decl.Decl.{Decl}
 use Rattle.text_output.specs.Output.{Bytes, Output, Adds, Breaks, Prints}
-use Rattle.text_output.specs.Printed.{adds_as, adds_nothing, adds_then, breaks_as, breaks_then, breaks_within}
+use Rattle.text_output.specs.Printed.{adds_then, breaks_as, breaks_then, breaks_within}
 use Rattle.program_calls.specs.Ending.{decl_text, decls_text, more_decls_text}
 
 -- the first storage, and the others
@@ -23,9 +23,6 @@ pub record DeclsSoFar (old now : Output) (decls : List Decl) (index : ℕ) : Typ
   pub text : Bytes
   pub adds : Adds old now text
   pub whole : text ++ more_decls_text (drop index decls) ≡ more_decls_text (drop 1 decls)
-
-pub no_decls : (at : Output) (decls : List Decl) → DeclsSoFar at at decls 1
-no_decls at decls = record { text = []; adds = adds_nothing at; whole = refl }
 
 -- what is left begins with the storage at the index
 left_at : (decls : List Decl) (index : ℕ) (decl : Decl) → index < length decls → decl ≡ get_or decls index decl
@@ -62,10 +59,6 @@ comma_broke old now then decls index so within broke = of decls index so within 
         let x = at ds i within in
         decl_broke old now then ds i x.0 so within x.1 (breaks_within (decl_text x.0) broke)
 
-pub all_decls : (old now : Output) (decls : List Decl) (index : ℕ) → DeclsSoFar old now decls index → drop index decls ≡ [] → Adds old now (more_decls_text (drop 1 decls))
-all_decls old now decls index so none =
-    adds_as (sym (append-nil so.text) ∙ ap (λ l. so.text ++ more_decls_text l) (sym none) ∙ so.whole) so.adds
-
 -- ---- storages that are looked for
 
 -- one more of the wanted ones is among the others
@@ -82,11 +75,6 @@ among_more decls wanted index x so within is here k d below = elim (cases_lt k i
 pub among_all : (decls wanted : List Decl) (index : ℕ) → ((k : ℕ) (d : Decl) → k < index → Contains decls (get_or wanted k d)) → length wanted ≤ index
     → (decl : Decl) → Contains wanted decl → Contains decls decl
 among_all decls wanted index so all decl has = subst (λ y. Contains decls y) has.2 (so has.0 decl (omega (arith, all, has.1)))
-
--- one of them isn't
-pub among_not : (decls wanted : List Decl) (index : ℕ) (x : Decl) → index < length wanted → x ≡ get_or wanted index x → (Contains decls x → ⊥)
-    → ((decl : Decl) → Contains wanted decl → Contains decls decl) → ⊥
-among_not decls wanted index x within is not all = not (all x (index, within, sym is))
 
 -- what holds where a call is done holds there where something is there
 pub ok_if_some : {T E A : Type 0} (C : Type 0) (r : Result T E) (o : Option A) → OnOk r C → OnOk r (IfSome o (λ _. C))

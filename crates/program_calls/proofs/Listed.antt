@@ -43,7 +43,7 @@ use Rattle.program_calls.specs.declared.ending.Ending.{Ending}
 use Rattle.program_calls.specs.declared.ending.Ending.TheVariants.{Finished, NoScript, Shape, Usage, ReadFault, NoDevice, Damaged, AtLimit, NoMemory, NoSnapshot}
 use Rattle.program_calls.specs.Causes.{AnswersDevices, AnswersFaults, Counts, IsDumpStatus, IsSnapStatus, IsStatus}
 use Rattle.program_calls.specs.Ending.{damaged_text, last_line, no_snapshot_text, status_of}
-use Rattle.program_calls.specs.Listings.{BreaksAtEpoch, HasBroken, HasNone, IsDamagedFor, IsListing, IsOfEpoch, IsSnapshotOf, IsUndisturbed, Listed}
+use Rattle.program_calls.specs.Listings.{BreaksAtEpoch, HasBroken, HasNone, IsDamagedFor, IsOfEpoch, IsSnapshotOf, IsUndisturbed, Listed}
 use Rattle.program_calls.specs.Listings.{ListingComes, Lists, TellsAll, TellsBefore, TellsDamage, TellsListing, TellsNone, snapshots_text}
 use Rattle.program_calls.specs.Ending.{ShownText}
 use Rattle.program_calls.specs.Ending.{SinkHolds}
@@ -700,9 +700,3 @@ module _ {D : Type 0} (tells : D → Option Bytes) (faults : D → ℕ) (was is 
   pub snap_status : (epoch : ℕ) (old new : Output) (r : Result Ending Failed) → Listed (Snap epoch) tells faults was is (AddsText old new r)
       → IsStatus (Snap epoch) (status_told r)
   snap_status epoch old new r d = elim (told_so (Snap epoch) tells faults was is old new r d) [ inl so ↦ inl so | inr other ↦ inr other.0 ]
-
--- the same of the command that was asked for
-pub listed_asked : {D : Type 0} {tells : D → Option Bytes} {faults : D → ℕ} {was is : Vault D} {Shows : Bytes → Ending → Type 0} (command asked : Command)
-    → command ≡ asked → (IsListing command → Listed command tells faults was is Shows) → IsListing asked → Listed asked tells faults was is Shows
-listed_asked {tells = tells} {faults = faults} {was = was} {is = is} {Shows = Shows} command asked same listed =
-    subst (λ (m : Command). IsListing m → Listed m tells faults was is Shows) same listed

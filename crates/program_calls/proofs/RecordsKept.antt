@@ -111,27 +111,3 @@ records_more {settled = settled} {rans = rans} {before = before} {now = now}
       ties = subst (λ n. AddsTies was.first n [] now) sum (ties_then was.ties next);
     } in
     (is, λ none. ap (λ (o : Option Saved). length (option_to_list o)) none)
-
--- behind a round that stored nothing, and isn't told
-pub records_still : {settled : ℕ} {rans : List Ran} {before now : List Tie} (newest : Option Savepoint)
-    (stored : List Saved) (broke : Option Saved) (was : RecordsOf settled rans before)
-    → stored ++ option_to_list broke ≡ [] → was.failed ≡ 0
-    → sequence_of newest ≡ settled + length (flat_map saved_in rans) → AreTied newest stored broke before now
-    → RecordsOf settled rans now
-records_still {settled = settled} {rans = rans} {before = before} {now = now}
-    newest stored broke was none unfailed at tied =
-    let begun : ℕ = was.settling + length (flat_map saved_in rans) + was.failed in
-    let position : sequence_of newest ≡ was.first + begun = omega (arith, at, was.meets, unfailed) in
-    let next : AddsTies (was.first + begun) (length (stored ++ option_to_list broke)) before now =
-    subst (λ k. AddsTies k (length (stored ++ option_to_list broke)) before now) position tied in
-    let sum : begun + length (stored ++ option_to_list broke) ≡ begun = omega (arith, ap length none) in
-    record {
-      first = was.first;
-      settling = was.settling;
-      failed = was.failed;
-      at_most = was.at_most;
-      meets = was.meets;
-      one = was.one;
-      fails = was.fails;
-      ties = subst (λ n. AddsTies was.first n [] now) sum (ties_then was.ties next);
-    }

@@ -123,22 +123,6 @@ newest_content reading c state is same state_is = λ key.
 
 -- ---- from one reading to a later one
 
--- whatever else a reading has
-pub keeps_over : (was a b : Reading) (epoch : ℕ) (state : State) → b.pages ≡ a.pages → b.catalogues ≡ a.catalogues
-    → KeepsSnapshots was a epoch state → KeepsSnapshots was b epoch state
-keeps_over was a b epoch state pages catalogues keeps = record {
-  each = λ c has. elim (keeps.each c (subst (λ cs. Contains cs c) catalogues has)) [
-    | inl there ↦ inl there
-    | inr made ↦ inr (made.0, subst (λ ws. IsContent (record_in ws) c.storages state) (sym pages) made.1)
-  ];
-  stays = λ c has. subst (λ cs. Contains cs c) (sym catalogues) (keeps.stays c has);
-  content = λ c s has stands is.
-      let still = keeps.content c s has stands is in (
-        subst (λ ws. AllByRecursion (RootStands ws) c.storages) (sym pages) still.0,
-        subst (λ ws. IsContent (record_in ws) c.storages s) (sym pages) still.1,
-      );
-}
-
 -- nothing was made
 pub keeps_all : (was : Reading) (epoch : ℕ) (state : State) → KeepsSnapshots was was epoch state
 keeps_all was epoch state = record {

@@ -1,9 +1,8 @@
 -- Lines of snapshots that a loop adds to the text, one after another.
 use Rattle.std.proofs.Common.{◌≡◌, ◌∙◌, sym, ap, refl, ℕ, ◌+◌, ◌<◌, List, [], ◌∷◌, ◌++◌, length, get_or, drop}
 use Rattle.std.proofs.Common.{add-one, append_assoc, drop-cons}
-use Rattle.std.proofs.lemmas.List.{append-nil}
 use Rattle.text_output.specs.Output.{Adds, Breaks, Bytes, Output}
-use Rattle.text_output.specs.Printed.{adds_as, adds_nothing, adds_then, breaks_as, breaks_then, breaks_within}
+use Rattle.text_output.specs.Printed.{adds_nothing, adds_then, breaks_as, breaks_then, breaks_within}
 use Rattle.recovery_core.specs.declared.chain.SnapshotMark.{SnapshotMark}
 use Rattle.program_calls.specs.Listings.{snapshot_line, snapshots_text}
 
@@ -40,8 +39,3 @@ pub line_broke : (old now then : Output) (marks : List SnapshotMark) (index : �
 line_broke old now then marks index mark so within is one =
     breaks_as so.whole (breaks_as (ap (λ w. so.text ++ w) (sym (left_at marks index mark within is)))
     (breaks_then so.adds (breaks_within (snapshots_text (drop (index + 1) marks)) one)))
-
-pub all_lines : (old now : Output) (marks : List SnapshotMark) (index : ℕ) → LinesSoFar old now marks index
-    → drop index marks ≡ [] → Adds old now (snapshots_text marks)
-all_lines old now marks index so none =
-    adds_as (sym (append-nil so.text) ∙ ap (λ l. so.text ++ snapshots_text l) (sym none) ∙ so.whole) so.adds

@@ -1,5 +1,5 @@
 -- Which refusal a round is told to end by: the first one of all.
-use Rattle.std.proofs.Common.{◌≡◌, ◌↔◌, ◌∙◌, ◌≤◌, ◌<◌, ◌+◌, ◌⊎◌, ◌++◌, ◌∷◌, inl, inr, sym, ap, refl, ℕ}
+use Rattle.std.proofs.Common.{◌≡◌, ◌↔◌, ◌∙◌, ◌≤◌, ◌+◌, ◌⊎◌, ◌++◌, ◌∷◌, inl, inr, sym, ap, refl, ℕ}
 use Rattle.std.proofs.Common.{List, [], map, Bool, true, false, cond, Option, Some, None, arith}
 use Rattle.std.specs.Prelude.{◌||◌, MatchBool, fold, is_some, nat_le}
 use Rattle.std.proofs.lemmas.Bool.Decides.{nat_tests}
@@ -58,9 +58,6 @@ down_just (device ∷ more) down is = (λ up. absurd (let no = sym is ∙ up in 
 
 pub at_most_test : (m n : ℕ) → m ≤ n → nat_le m n ≡ true
 at_most_test m n le = grind (arith, nat_tests, le)
-
-pub above_test : (m n : ℕ) → n < m → nat_le m n ≡ false
-above_test m n less = grind (arith, nat_tests, less)
 
 -- of log files the one of the lower number is told
 pub first_banks : (side : Side) (worker : ℕ) (logs : List Bool)

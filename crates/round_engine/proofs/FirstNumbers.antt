@@ -186,9 +186,6 @@ module _ (first : Number) (pages : List (List ℕ)) (places : List Named) where
       → AreBelow first (page_at pages places (Array id size, p))
   page_below s id size decl older p r = by_below (array_below (words_at pages p) p.low p.high) refl
     where
-      root_high : s.decl ≡ Array id size → (root_place (Array id size) s.root).high ≡ (root_place s.decl s.root).high
-      root_high decl = ap (λ (d : Decl). (root_place d s.root).high) (sym decl)
-
       record_is : (key : ℕ) → p.low ≤ key → key ≤ p.high
           → record_in pages s key ≡ find (format_of (Array id size)) pages (suc r.depth) key p
       record_is key from to =

@@ -361,9 +361,6 @@ module _ {D : Type 0} {tells : D → Option (List ℕ)} {clock : D → ℕ} {ima
   glean_device ran (devices.Bank n) odd fails =
       (fails.0, fails.3, fails.4 ∙ closed_file r.side fails.0 ∙ same_file ran fails.0 odd)
 
-  plain_none : (answer : Answer) → TellsNone answer → TellsNone answer
-  plain_none answer is = is
-
   -- ---- what failed beside
 
   -- what is told before the one that failed beside it

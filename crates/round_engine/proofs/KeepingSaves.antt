@@ -41,10 +41,6 @@ failed_of saved _ = None
 pub first : (n : ℕ) → n + 1 + 0 ≡ n + 1
 first n = omega arith
 
--- at this epoch of the clock, by these marks
-abbrev pub SeenAt : ℕ → List Mark → ℕ → List Mark → Type 0
-SeenAt epoch seen at marks = (at ≡ epoch) × (marks ≡ seen)
-
 pub some_there : {X : Type 0} (x : Option X) → is_some x ≡ true → (y : X) × (x ≡ Some y)
 some_there None is = absurd cc
 some_there (Some y) is = (y, refl)

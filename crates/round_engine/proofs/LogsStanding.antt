@@ -59,17 +59,6 @@ module _ {D : Type 0} {tells : D → Option (List ℕ)} {clock : D → ℕ} {ima
     closed = stand.closed;
   }
 
-  -- the log files are the same in another vault
-  pub stand_same : (side : Side) {logs : List LogState} {counted : List ℕ} (before now : Vault D)
-      → growing_in side now ≡ growing_in side before → closed_in side now ≡ closed_in side before
-      → LogsStand tells clock image_at side logs counted before → LogsStand tells clock image_at side logs counted now
-  stand_same side before now growing closed stand = record {
-    growing = λ w log bank at there. stand.growing w log bank at
-        (growing_at side before w ∙ ap (λ l. slice_get l w) (sym growing) ∙ sym (growing_at side now w) ∙ there);
-    closed = λ w n bank at there. stand.closed w n bank at
-        (closed_at side before w ∙ ap (λ l. slice_get l w) (sym closed) ∙ sym (closed_at side now w) ∙ there);
-  }
-
   -- ---- a round begins
 
   -- the log of a worker as it begins

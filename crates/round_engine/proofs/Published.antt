@@ -8,7 +8,6 @@ use Rattle.gleaner.specs.declared.gleaning.GleanFault.{GleanFault}
 use Rattle.gleaner.specs.declared.gleaning.Gleaned.{Gleaned}
 use Rattle.gleaner.specs.declared.gleaning.Gleaned.TheVariants.{Empty, Snap}
 use Rattle.round_engine.specs.Gleans.{has_made, pages_after}
-use Rattle.round_engine.specs.Shares.{RunsShares, Share}
 use Rattle.round_engine.specs.Standing.{Standing}
 
 -- the parts of an engine that publishing its pages speaks of are the same
@@ -20,14 +19,6 @@ pub published_then : (s t : Standing) (pages now : List Page) (room most : ℕ) 
     → (s.pages ≡ words_of pages) × (s.resident ≡ room) → (t.pages ≡ words_of now) × (t.resident ≡ most)
 published_then s t pages now room most same rooms store was =
     (same.pages ∙ (was.0 ∙ ap words_of (sym store)), same.resident ∙ (was.1 ∙ sym rooms))
-
--- Lines leave them as they are, beside which no page is published.
-pub lines_same : {tries : ℕ} {s t : Standing} {shares : List Share} → RunsShares tries s t shares → t.pages ≡ s.pages
-    → SamePages s t
-lines_same runs same = record {
-  pages = same;
-  resident = ap (λ (x : Standing). x.resident) runs.only;
-}
 
 -- ---- a glean's pages
 

@@ -101,18 +101,6 @@ module _ {D : Type 0} (tells : D → Option (List ℕ)) (clock : D → ℕ) (ima
       f.7,
     )
 
-    snapshot_back : HasSnapshot tells old before.snaps → HasSnapshot tells was before.snaps
-    snapshot_back h = record {
-      holds = h.holds;
-      contents = h.contents;
-      stands = h.stands;
-      decls = h.decls;
-      up_to = h.up_to;
-      earlier = h.earlier;
-      let_in = h.let_in;
-      published = h.published;
-    }
-
     snapshot_over : HasSnapshot tells was before.snaps → HasSnapshot tells old before.snaps
     snapshot_over h = record {
       holds = h.holds;

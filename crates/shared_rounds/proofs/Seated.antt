@@ -16,7 +16,7 @@ use Rattle.worker_cells.specs.declared.cell.Cell.{Cell}
 use Rattle.worker_logs.specs.Logs.{LogState}
 use Rattle.worker_logs.specs.Rows.{AreLogsUp}
 use Rattle.shared_rounds.specs.Rooms.{AreRooms}
-use Rattle.shared_rounds.specs.Seated.{AreSeated, SeatedSoFar, backward}
+use Rattle.shared_rounds.specs.Seated.{AreSeated, SeatedSoFar}
 use Rattle.shared_rounds.specs.Seating.{CanSeat, seats_from, with_made}
 use Rattle.shared_rounds.proofs.Backward.{backward_push}
 
@@ -144,10 +144,3 @@ module _ {D : Type 0} (tells : D → Option (List ℕ)) where
               so.seated,
             );
       }
-
-  pub all_seated : (words : Engine) (was : View) (counts spaces : List ℕ) (cells : List (Cell D)) (logs_was : List LogState)
-      (banks_was : List D) → SeatedSoFar tells words was counts spaces 0 cells logs_was [] banks_was []
-      → AreSeated tells words was counts spaces 0 (backward cells) logs_was banks_was
-  all_seated words was counts spaces cells logs_was banks_was so =
-      subst (λ l. AreSeated tells words was counts spaces 0 (backward cells) l banks_was) (sym so.logs_are)
-      (subst (λ b. AreSeated tells words was counts spaces 0 (backward cells) so.their_logs b) (sym so.banks_are) so.seated)

@@ -1,18 +1,13 @@
 -- A text that a loop adds piece by piece.
-use Rattle.std.proofs.Common.{◌≡◌, ◌∙◌, sym, ap, subst, refl, ℕ, ◌+◌, ◌<◌, List, [], ◌∷◌, ◌++◌, length, get_or, drop, Result, append_assoc, add-one, drop-cons}
-use Rattle.std.proofs.lemmas.List.{append-nil}
+use Rattle.std.proofs.Common.{◌≡◌, ◌∙◌, sym, ap, subst, ℕ, ◌+◌, ◌<◌, List, ◌∷◌, ◌++◌, length, get_or, drop, Result, append_assoc, add-one, drop-cons}
 use Rattle.text_output.specs.Output.{Bytes, Output, Adds, Breaks, Prints}
-use Rattle.text_output.specs.Printed.{adds_as, adds_nothing, adds_then, breaks_as, breaks_then, breaks_within}
+use Rattle.text_output.specs.Printed.{adds_then, breaks_as, breaks_then, breaks_within}
 
 -- a part of the text was added, and this rest of it wasn't yet
 pub record TextSoFar (old now : Output) (rest all : Bytes) : Type 0 where
   pub text : Bytes
   pub adds : Adds old now text
   pub whole : text ++ rest ≡ all
-
--- nothing was added
-pub so_far-none : (at : Output) (all : Bytes) → TextSoFar at at all all
-so_far-none at all = record { text = []; adds = adds_nothing at; whole = refl }
 
 -- the next piece was added
 pub so_far-more : {old now then : Output} {left all : Bytes} (piece rest : Bytes) → TextSoFar old now left all → left ≡ piece ++ rest → Adds now then piece → TextSoFar old then rest all
@@ -26,10 +21,6 @@ so_far-more piece rest so split one = record {
 pub so_far-breaks : {old now then : Output} {left all : Bytes} (piece rest : Bytes) → TextSoFar old now left all → left ≡ piece ++ rest → Breaks now then piece → Breaks old then all
 so_far-breaks piece rest so split one =
     breaks_as so.whole (breaks_as (ap (λ w. so.text ++ w) (sym split)) (breaks_then so.adds (breaks_within rest one)))
-
--- all of it was added
-pub so_far-all : {old now : Output} {left all : Bytes} → TextSoFar old now left all → left ≡ [] → Adds old now all
-so_far-all so none = adds_as (sym (append-nil so.text) ∙ ap (λ w. so.text ++ w) (sym none) ∙ so.whole) so.adds
 
 -- the same text, spelled otherwise
 pub prints_as : {T E : Type 0} (old new : Output) (text other : Bytes) (r : Result T E) → text ≡ other → Prints old new text r → Prints old new other r

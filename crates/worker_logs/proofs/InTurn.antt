@@ -106,16 +106,6 @@ module _ {D : Type 0} {tells : D → Option (List ℕ)} {clock : D → ℕ} {ima
 
 module _ {D : Type 0} {tells : D → Option (List ℕ)} {clock : D → ℕ} {image_at : D → ℕ → List ℕ → Type 0}
     {faults : D → ℕ} {epoch : ℕ} where
-  pub flushed_none : {logs : List LogState} {banks : List D}
-      → FlushedTo tells clock image_at faults epoch 0 logs logs banks banks
-  flushed_none {logs = logs} {banks = banks} = record {
-    as_many_logs = refl;
-    as_many_banks = refl;
-    done = λ worker less. absurd (omega (arith, less));
-    left = λ worker least was log bank_was bank at_was at_log at_bank_was at_bank.
-        (same_item logs worker log was at_log at_was, same_item banks worker bank bank_was at_bank at_bank_was);
-  }
-
   -- one more was flushed and marked
   pub flushed_next : {old mid new : List LogState} {before between now : List D} {count : ℕ}
       → FlushedTo tells clock image_at faults epoch count old mid before between

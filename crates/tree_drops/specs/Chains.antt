@@ -251,10 +251,11 @@ pub record CanEnter (split : Split) (v : View) : Type 0 where
   pub parts : (x : Way) → Contains v.ways x
       → (x ≡ record { slot = split.slot; span = split.span }) ⊎ IsBeside x.span split.span
 
--- the upper half and the lower one
+-- the upper half: from the separator on
 abbrev pub upper_of : Moved → Split → Half
 upper_of x split = record { slot = x.major; low = split.separator; high = (split.span).high }
 
+-- the lower half: what lies below the separator
 abbrev pub lower_of : Moved → Split → Half
 lower_of x split = record { slot = x.minor; low = (split.span).low; high = split.separator - 1 }
 

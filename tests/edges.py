@@ -56,6 +56,11 @@ def files(folder="vault"):
     return found
 
 
+def text_in(name):
+    with open(name, encoding="utf-8") as file:
+        return file.read()
+
+
 def keep_one():
     check(run(["run"], SCRIPT), 0, PRINTED)
 
@@ -256,6 +261,53 @@ def a_full_disk_is_told():
     check(run(["dump"]), 0, b"epoch 0\n")
 
 
+def a_device_without_room_is_told():
+    """The system's file that is always full stands for standard output, and for the log files of a worker."""
+    if not os.path.exists("/dev/full"):
+        raise LeftOut("there is no /dev/full")
+    keep_one()
+    with open("/dev/full", "wb") as full:
+        done = subprocess.run([PROGRAM, "dump"], stdout=full, stderr=subprocess.PIPE, timeout=60)
+    assert done.returncode == 4 and b"Standard output failed" in done.stderr, done
+    # what the log files have becomes a snapshot, so nothing is lost with them
+    check(run(["run"], b"array 1 4\n"), 0, b"durable 2\n")
+    banks = [os.path.join("vault", f"bank{number}") for number in range(2)]
+    for bank in banks:
+        os.remove(bank)
+        os.symlink("/dev/full", bank)
+    came = run(["run"], SCRIPT)
+    assert came[0] == 5 and came[1].endswith((b"device bank0\n", b"device bank1\n")), came
+    assert re.search("vault/bank[01]: No space left on device", came[2]), came
+    for bank in banks:
+        os.remove(bank)
+    check(run(["dump"]), 0, b"epoch 2\n1 2 8\n")
+
+
+def a_disk_that_fills_up_is_told():
+    """A file system of 2 MiB in memory, which the test alone sees, takes a first round and not the log of a second."""
+    with open("script", "wb") as file:
+        file.write(b"array 1 4\n0 w 1 2 8\njoin\n" + b"0 w 1 3 1\n" * 60000)
+    os.mkdir("disk")
+    steps = (
+        "mount -t tmpfs -o size=2m none disk",
+        "touch mounted",
+        "cd disk",
+        '{ "$0" run --brief <../script >../printed 2>../told; echo $? >../status; }',
+        'exec "$0" dump',
+    )
+    apart = ["unshare", "--mount"] if os.geteuid() == 0 else ["unshare", "--mount", "--map-root-user"]
+    try:
+        done = subprocess.run([*apart, "sh", "-c", " && ".join(steps), PROGRAM], stdout=subprocess.PIPE,
+                              stderr=subprocess.PIPE, timeout=60)
+    except FileNotFoundError:
+        raise LeftOut("there is no unshare") from None
+    if not os.path.exists("mounted"):
+        raise LeftOut("no disk may be mounted here")
+    came = int(text_in("status")), text_in("printed")[-13:], text_in("told")
+    check(came, 5, "device bank0\n", "vault/bank0: No space left on device")
+    check((done.returncode, done.stdout, done.stderr.decode()), 0, KEPT)
+
+
 def what_is_no_file_is_told():
     keep_one()
     os.remove("vault/bank3")
@@ -428,6 +480,8 @@ TESTS = [
     a_new_database_is_told_where_one_was_asked_for,
     a_copy_that_cannot_be_written_is_read,
     a_full_disk_is_told,
+    a_device_without_room_is_told,
+    a_disk_that_fills_up_is_told,
     what_is_no_file_is_told,
     damage_is_told,
     the_refused_word_is_told,

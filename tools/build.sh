@@ -171,7 +171,7 @@ prove_libraries() {
         for place in $free; do copy_tree "$room/$place" || give_up "the tree could not be copied into $room"; done
     fi
     say "proving $left of the $count libraries that the program stands on, up to $copies at once"
-    [ "$left" -lt "$count" ] || say "from nothing this may take an hour on four processors"
+    [ "$left" -lt "$count" ] || say "from nothing this may take one to two hours on four processors"
     begin_some
     [ -n "$busy" ] || give_up "no library can be begun: crates.txt has a circle"
     while [ -n "$busy" ]; do

@@ -304,7 +304,8 @@ def a_disk_that_fills_up_is_told():
     if not os.path.exists("mounted"):
         raise LeftOut("no disk may be mounted here")
     came = int(text_in("status")), text_in("printed")[-13:], text_in("told")
-    check(came, 5, "device bank0\n", "vault/bank0: No space left on device")
+    # behind the first round the log files have changed sides
+    check(came, 5, "device bank1\n", "vault/bank1: No space left on device")
     check((done.returncode, done.stdout, done.stderr.decode()), 0, KEPT)
 
 

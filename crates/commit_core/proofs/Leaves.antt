@@ -1,5 +1,5 @@
--- What an act of one seat leaves alone, for each act: numbers at places never fall, and what others hold and have checked,
--- and what is dead, stays.
+-- What an act of one seat leaves alone, for each act: numbers at places never fall, and what others hold and have
+-- checked, and what is dead, stays.
 use Rattle.std.proofs.Common.{◌≡◌, ℕ, zero, suc, Bool, true, false, true≢false, not, cond, eqb, eqb-true, inl, inr, List, [], ◌∷◌, ◌++◌, refl, sym, ap, ◌∙◌, subst, Option, Some, None}
 use Rattle.std.specs.Prelude.{◌&&◌, nat_lt, slice_get}
 use Rattle.std.specs.Option.{option_map_or}

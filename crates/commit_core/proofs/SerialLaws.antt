@@ -19,7 +19,7 @@ use Rattle.commit_core.specs.declared.attempt.Attempt.{Attempt}
 use Rattle.commit_core.specs.declared.seat.Seat.{Seat}
 use Rattle.commit_core.specs.declared.story.Story.{Story}
 use Rattle.commit_core.specs.Keys.{same_key, opening_number, content_at}
-use Rattle.commit_core.specs.Places.{place, vacant, place_of, home_of, stands_at, stands, spot_of, spot_at, holder_is}
+use Rattle.commit_core.specs.Places.{place, place_of, home_of, stands_at, stands, spot_of, spot_at, holder_is}
 use Rattle.commit_core.specs.Parts.{covers, found, IsSameOrAbsent}
 use Rattle.commit_core.specs.CoreState.{clock_of, is_decided}
 use Rattle.commit_core.specs.Serial.{after_writes, after_all, state_below, RisesFrom}
@@ -117,17 +117,6 @@ opening_numbered [] k = refl
 opening_numbered (e ∷ pairs) k =
     cond_both (same_key e.0 k) (opening_content e.1) (content_at (opening_contents pairs) k) (λ (c : Content). c.number ≡ opening_number)
     (λ _. refl) (λ _. opening_numbered pairs k)
-
--- the places from one on have nothing at an earlier one
-earlier_vacant : (pairs : List (Key × ℕ)) (i j : ℕ) → i < j → place_of (opening_places j pairs) (opening_spot i) ≡ vacant
-earlier_vacant [] i j l = refl
-earlier_vacant (e ∷ pairs) i j l =
-    cond-false (same_spot (opening_spot j) (opening_spot i)) (opening_place e.1) (place_of (opening_places (j + 1) pairs) (opening_spot i))
-    (false_from_ne_true (same_spot (opening_spot j) (opening_spot i)) (λ h. other j i l (same_spot-true (opening_spot j) (opening_spot i) h)))
-    ∙ earlier_vacant pairs i (j + 1) (omega arith)
-  where
-    other : (j i : ℕ) → i < j → opening_spot j ≡ opening_spot i → ⊥
-    other j i l e = let same : j ≡ i = ap (λ (x : Spot). x.index) e in omega arith
 
 -- the homes from a place on are at it or later ones
 homes_from : (pairs : List (Key × ℕ)) (i : ℕ) (k : Key) (x : Spot) → spot_at (opening_homes i pairs) k ≡ Some x → (j : ℕ) × (i ≤ j) × (x ≡ opening_spot j)

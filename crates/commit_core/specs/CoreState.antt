@@ -1,5 +1,6 @@
 -- The state of the machine: words on the story and on one seat.
-use Rattle.std.specs.Prelude.{ℕ, ◌+◌, ◌==◌, ◌&&◌, ◌||◌, Bool, true, false, not, List, [], length, fold, Option, Some, None, if◌then◌else◌, slice_get, unwrap_or, nat_lt, nat_le}
+use Rattle.std.specs.Prelude.{ℕ, ◌+◌, ◌==◌, ◌&&◌, ◌||◌, Bool, true, false, not, List, [], length, fold, Option, Some}
+use Rattle.std.specs.Prelude.{None, if◌then◌else◌, slice_get, unwrap_or, nat_lt, nat_le}
 use Rattle.std.specs.List.{list_any, list_all}
 use Rattle.serial_model.specs.declared.key.Key.{Key}
 use Rattle.serial_model.specs.declared.number.Number.{Number}

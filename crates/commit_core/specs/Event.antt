@@ -1,5 +1,7 @@
 -- What may happen: the condition and the effect of each act of a seat, and lists of events.
-use Rattle.std.specs.Prelude.{◌≡◌, ℕ, ◌+◌, ◌==◌, ◌&&◌, ◌||◌, Bool, true, false, not, List, [], ◌∷◌, ◌++◌, filter, length, Option, Some, None, if◌then◌else◌, nat_lt, slice_get, slice_set, unwrap_or, Result, Ok, Err}
+use Rattle.std.specs.Prelude.{◌≡◌, ℕ, ◌+◌, ◌==◌, ◌&&◌, ◌||◌, Bool, true, false, not, List, [], ◌∷◌, ◌++◌, filter}
+use Rattle.std.specs.Prelude.{length, Option, Some, None, if◌then◌else◌, nat_lt, slice_get, slice_set, unwrap_or}
+use Rattle.std.specs.Prelude.{Result, Ok, Err}
 use Rattle.std.specs.List.{list_any, list_all}
 use Rattle.std.specs.Option.{option_map_or}
 use Rattle.serial_model.specs.declared.key.Key.{Key}
@@ -17,7 +19,8 @@ use Rattle.commit_core.specs.declared.part.Part.{Part}
 use Rattle.commit_core.specs.declared.attempt.Attempt.{Attempt}
 use Rattle.commit_core.specs.declared.attempt.Check.{Check}
 use Rattle.commit_core.specs.declared.event.Act.{Act}
-use Rattle.commit_core.specs.declared.event.Act.TheVariants.{See, Keep, Lock, Draw, Check as Look, Confirm, Decide, Put, Open, Forget, Rehome, Advance, Mark}
+use Rattle.commit_core.specs.declared.event.Act.TheVariants.{See, Keep, Lock, Draw, Check as Look, Confirm, Decide, Put}
+use Rattle.commit_core.specs.declared.event.Act.TheVariants.{Open, Forget, Rehome, Advance, Mark}
 use Rattle.commit_core.specs.declared.event.Event.{Event}
 use Rattle.commit_core.specs.declared.seat.Stage.{Stage}
 use Rattle.commit_core.specs.declared.seat.Stage.TheVariants.{Idle, Trying, Ended, Decided}
@@ -26,7 +29,8 @@ use Rattle.commit_core.specs.declared.story.Story.{Story}
 use Rattle.commit_core.specs.Keys.{same_key, has_key, content_of, written, writes_key}
 use Rattle.commit_core.specs.Places.{place, place_of, spot_at, placed, is_free_at, is_held_at, is_open_to}
 use Rattle.commit_core.specs.Parts.{same_word, is_record, is_version, record_part, with_part}
-use Rattle.commit_core.specs.CoreState.{CoreState, clock_of, is_checked, check_of, is_trying, can_begin, attempt_tried, attempt_decided, same_keys, can_mark, settled}
+use Rattle.commit_core.specs.CoreState.{CoreState, clock_of, is_checked, check_of, is_trying, can_begin, attempt_tried}
+use Rattle.commit_core.specs.CoreState.{attempt_decided, same_keys, can_mark, settled}
 use Rattle.commit_core.specs.Moves.{moves_key, can_rehome, with_moves}
 
 -- ---- conditions

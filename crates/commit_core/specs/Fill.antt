@@ -39,6 +39,7 @@ pub record FillKeeps : Type 0 where
 
 -- what filling answers and leaves: it is refused exactly where the place is a key's home
 abbrev pub AnswersFill : {X : Type 0} → CoreState → Spot → Content → Result X (OrMemory NotAllowed) → CoreState → Type 0
-AnswersFill c x content (Ok y) d = (is_nobodys c.story.homes (Some x) ≡ true) × (d ≡ record c { story = filled x content c.story })
+AnswersFill c x content (Ok y) d =
+    (is_nobodys c.story.homes (Some x) ≡ true) × (d ≡ record c { story = filled x content c.story })
 AnswersFill c x content (Err (Fault r)) d = (is_nobodys c.story.homes (Some x) ≡ false) × (d ≡ c)
 AnswersFill c x content (Err Memory) d = (is_nobodys c.story.homes (Some x) ≡ true) × (d ≡ c)

@@ -17,6 +17,7 @@ use Rattle.commit_core.specs.Event.{Moved, is_allowed, effect, stays_as_seen, ma
 use Rattle.homes.specs.declared.places.Home.{Home}
 use Rattle.commit_core.specs.declared.place.Place.{Place}
 use Rattle.commit_core.specs.Opening.{opening_core, CanOpen, fresh_core, CoreGrows}
+use Rattle.commit_core.specs.Fill.{FillKeeps}
 use Rattle.commit_core.specs.Leaves.{Leaves}
 use Rattle.commit_core.specs.Told.{IsToldTruly, AllTellTruly}
 use Rattle.commit_core.specs.Serial.{state_below, committed, ReadsFrom, ReadsAreSerial}
@@ -33,8 +34,8 @@ pub record Keeps (opening : List (Key × Content)) (p : ℕ) (m : Story) (n : Mo
   pub holders : (seats : ℕ) → p < seats → HoldersAreSeats (stands m.places m.homes) seats
       → HoldersAreSeats (stands n.story.places n.story.homes) seats
 
--- each act that is allowed, and tells what is true, keeps what is sound: of the story, of its seat and of every other one
--- by itself
+-- each act that is allowed, and tells what is true, keeps what is sound: of the story, of its seat and of every other
+-- one by itself
 abbrev pub EachActKeeps : Type 0
 EachActKeeps = (opening : List (Key × Content)) (p : ℕ) (m : Story) (s : Seat) (act : Act) → is_allowed p m s act ≡ true
     → IsToldTruly p m s act → IsSoundStory opening m → IsSoundSeat opening m p s → Keeps opening p m (effect p m s act)
@@ -46,7 +47,8 @@ StartsSound = (pairs : List (Key × ℕ)) (first : Number) (passes : ℕ) → 0 
 
 -- and so does one over any contents that can be opened
 abbrev pub OpensSound : Type 0
-OpensSound = (opening : List (Key × Content)) (places : List (Spot × Place)) (homes : List (Key × Home)) (first : Number)
+OpensSound =
+    (opening : List (Key × Content)) (places : List (Spot × Place)) (homes : List (Key × Home)) (first : Number)
     (passes : ℕ) → CanOpen opening places homes first → IsSound (fresh_core opening places homes first passes)
 
 -- every list of events that tell what is true keeps it so
@@ -82,7 +84,8 @@ StaysGivenUp = (c : CoreState) (events : List Event) (a : Attempt)
 
 -- each act that is allowed leaves alone what other seats hold and have checked, and lets nothing fall
 abbrev pub EachActLeaves : Type 0
-EachActLeaves = (opening : List (Key × Content)) (p : ℕ) (m : Story) (s : Seat) (act : Act) → is_allowed p m s act ≡ true
+EachActLeaves =
+    (opening : List (Key × Content)) (p : ℕ) (m : Story) (s : Seat) (act : Act) → is_allowed p m s act ≡ true
     → IsSoundStory opening m → IsSoundSeat opening m p s → Leaves p m (effect p m s act).story
 
 -- The decided attempts in order of number, as many as were decided, read serially from the opening, and each of them
@@ -101,3 +104,20 @@ SoundIsSerial = (opening : List (Key × Content)) (m : Story) → IsSoundStory o
 abbrev pub IsSerial : Type 0
 IsSerial = (c : CoreState) (events : List Event)
     → AllTellTruly c events → IsSound c → CommitsAreSerial (run events c).opening (run events c).story
+
+-- What holds under every list of events, about the very condition and effect that the machine follows: each act keeps
+-- the story and every seat sound, and leaves alone what other seats hold and have checked; machines start sound and
+-- stay so; what was drawn, checked, decided or marked stays; an attempt that was given up never counts; and the decided
+-- attempts read serially.
+pub record StaysSerial : Type 0 where
+  pub each_act : EachActKeeps
+  pub starts : StartsSound
+  pub opens : OpensSound
+  pub stays : StaysSound
+  pub grows : OnlyGrows
+  pub fails : FailedCheckGivesUp
+  pub given_up : StaysGivenUp
+  pub serial : IsSerial
+  pub sound_serial : SoundIsSerial
+  pub each_act_leaves : EachActLeaves
+  pub fills : FillKeeps

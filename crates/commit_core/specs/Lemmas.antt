@@ -1,5 +1,5 @@
--- Laws of keys and places, of what stands at a key after attempts, of numbers, versions and values at places, of what an
--- absence may lose, and of moves, which crates above cite too.
+-- Laws of keys and places, of what stands at a key after attempts, of numbers, versions and values at places, of what
+-- an absence may lose, and of moves, which crates above cite too.
 pub mod Keys
 pub mod Places
 pub mod States

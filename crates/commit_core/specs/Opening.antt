@@ -77,8 +77,8 @@ fresh_core opening places homes first passes = record {
   seats = replicate passes (fresh_seat first);
 }
 
--- The contents stand at the homes of their keys, unlocked, each in a place of its own where it is in one. They are older
--- than the first number, whose epoch isn't 0 and fits.
+-- The contents stand at the homes of their keys, unlocked, each in a place of its own where it is in one. They are
+-- older than the first number, whose epoch isn't 0 and fits.
 pub record CanOpen
     (opening : List (Key × Content)) (places : List (Spot × Place)) (homes : List (Key × Home)) (first : Number)
     : Type 0 where

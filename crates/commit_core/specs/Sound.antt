@@ -13,10 +13,12 @@ use Rattle.commit_core.specs.declared.story.Story.{Story}
 use Rattle.commit_core.specs.Places.{home_of, stands}
 use Rattle.commit_core.specs.CoreState.{CoreState, clock_of}
 use Rattle.commit_core.specs.Serial.{last_write}
-use Rattle.commit_core.specs.Sound.Numbers.{OrderedNumbers, EpochFits, ChecksArePast, GivenUpStayOut, HorizonIsPast, TriesGoOn}
+use Rattle.commit_core.specs.Sound.Numbers.{OrderedNumbers, EpochFits, ChecksArePast, GivenUpStayOut, HorizonIsPast}
+use Rattle.commit_core.specs.Sound.Numbers.{TriesGoOn}
 use Rattle.commit_core.specs.Sound.Locks.{LockOwners, HoldersAreSeats, HomesAlive, HomesApart, AttemptStands}
 use Rattle.commit_core.specs.Sound.Homes.{UnlockedHomes, LockedHomes}
-use Rattle.commit_core.specs.Sound.Reads.{ReadsStayTrue, NoLowerWriter, CommitsAreChecked, PartsArePast, KeptIsPast, KeptFits, TriesKept}
+use Rattle.commit_core.specs.Sound.Reads.{ReadsStayTrue, NoLowerWriter, CommitsAreChecked, PartsArePast, KeptIsPast}
+use Rattle.commit_core.specs.Sound.Reads.{KeptFits, TriesKept}
 use Rattle.commit_core.specs.Sound.Marks.{MarksArePast}
 
 -- what holds of the story by itself

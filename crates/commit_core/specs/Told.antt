@@ -1,4 +1,5 @@
--- What the layer above tells, and when that is true. This machine doesn't know what words other than a record's are now.
+-- What the layer above tells, and when that is true. This machine doesn't know what words other than a record's are
+-- now.
 use Rattle.std.specs.Prelude.{◌≡◌, ℕ, true, List, [], ◌∷◌, Some, slice_get, ⊤, Contains}
 use Rattle.serial_model.specs.declared.key.Key.{Key}
 use Rattle.homes.specs.declared.places.Holder.TheVariants.{Free}
@@ -6,7 +7,8 @@ use Rattle.commit_core.specs.declared.place.Place.{Place}
 use Rattle.commit_core.specs.declared.part.Part.{Part}
 use Rattle.commit_core.specs.declared.attempt.Attempt.{Attempt}
 use Rattle.commit_core.specs.declared.event.Act.{Act}
-use Rattle.commit_core.specs.declared.event.Act.TheVariants.{See, Keep, Lock, Draw, Check as Look, Confirm, Decide, Put, Open, Forget, Rehome, Advance, Mark}
+use Rattle.commit_core.specs.declared.event.Act.TheVariants.{See, Keep, Lock, Draw, Check as Look, Confirm, Decide, Put}
+use Rattle.commit_core.specs.declared.event.Act.TheVariants.{Open, Forget, Rehome, Advance, Mark}
 use Rattle.commit_core.specs.declared.event.Event.{Event}
 use Rattle.commit_core.specs.declared.seat.Seat.{Seat}
 use Rattle.commit_core.specs.declared.story.Story.{Story}
@@ -24,8 +26,8 @@ abbrev pub IsSoNow : ℕ → (Key → Place) → Part → Type 0
 IsSoNow p st part =
     (k : Key) → covers part k ≡ true → (is_open_to p (st k).holder ≡ true) × ((st k).content ≡ found part k)
 
--- What is told is true: a part that is kept is so now, and where a word is told to be as it was, the parts of this word are
--- so now.
+-- What is told is true: a part that is kept is so now, and where a word is told to be as it was, the parts of this word
+-- are so now.
 abbrev pub IsToldTruly : ℕ → Story → Seat → Act → Type 0
 IsToldTruly p m s (See k) = ⊤
 IsToldTruly p m s (Keep part) = IsFreeNow (stands m.places m.homes) part

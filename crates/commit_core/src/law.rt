@@ -1,24 +1,12 @@
 // What holds under every list of events.
-ghost use Rattle.commit_core.specs.Law.{EachActKeeps, StartsSound, OpensSound, StaysSound, OnlyGrows, FailedCheckGivesUp, StaysGivenUp, IsSerial, SoundIsSerial, EachActLeaves};
-ghost use Rattle.commit_core.specs.Fill.{FillKeeps};
+ghost use Rattle.commit_core.specs.Law.{StaysSerial};
 
 /// The theorem, about the very condition and effect that `Core::step` follows. Each act keeps the story and every seat
 /// sound, one seat at a time, and leaves alone what other seats hold and have checked, and what is dead; the start is
 /// sound. So from a sound state every list of events, of any number of seats, leads to a sound state, where what the
-/// layer above tells of words other than a record's is true; what was drawn, checked, decided
-/// and marked before still is, and neither epoch nor marks fall; a check that fails gives its attempt up, and an
-/// attempt that was given up never counts; and the decided attempts, in order of number and as many as were decided,
-/// read serially.
+/// layer above tells of words other than a record's is true; what was drawn, checked, decided and marked before still
+/// is, and neither epoch nor marks fall; a check that fails gives its attempt up, and an attempt that was given up
+/// never counts; and the decided attempts, in order of number and as many as were decided, read serially.
 pub fn commits_are_serial()
-    ensures each_act { EachActKeeps }
-    ensures starts { StartsSound }
-    ensures opens { OpensSound }
-    ensures stays { StaysSound }
-    ensures grows { OnlyGrows }
-    ensures fails { FailedCheckGivesUp }
-    ensures given_up { StaysGivenUp }
-    ensures serial { IsSerial }
-    ensures sound_serial { SoundIsSerial }
-    ensures each_act_leaves { EachActLeaves }
-    ensures fills { FillKeeps }
+    ensures { StaysSerial }
 {}

@@ -2,9 +2,9 @@
 //!
 //! Promises: under every list of events, of any number of seats, the decided attempts are, in order of number, a
 //! serial run in which each read what it kept (`commits_are_serial`), while keys move from home to home. `Core::step`
-//! follows the same condition and effect that the theorem speaks of: it refuses exactly where the condition fails, wants
-//! memory only where the act is allowed and takes some, and after either nothing is changed (`event`). `Core::serial`
-//! gives that run (`all`, `serial`).
+//! follows the same condition and effect that the theorem speaks of: it refuses exactly where the condition fails,
+//! wants memory only where the act is allowed and takes some, and after either nothing is changed (`event`).
+//! `Core::serial` gives that run (`all`, `serial`).
 //! What words other than a record's say is told by the layer above, and the laws have it as a premise (`IsToldTruly`).
 //! Invariants: the sound state (`IsSound`): `ordered_numbers`, `lock_owners`, `unlocked_homes`, `locked_homes`,
 //! `reads_stay_true` with its other half `no_lower_writer`, `commits_are_checked` and `marks_are_past`, and, to make
@@ -12,8 +12,8 @@
 //! `parts_are_past`, `kept_is_past`, `kept_fits`, `checks_are_past`, `given_up_stay_out`, `horizon_is_past`,
 //! `epoch_fits`, `holders_are_seats`. Each is a fact of the story alone or of one seat beside it.
 //! Terms: *story*, what all seats share; *seat*, what one thread has; *attempt*, a transaction that took its number,
-//! with the parts that it read and what it writes; *part*, a word that was read and must stay valid, and what it vouches
-//! for; *home*, where a key's record is; *horizon*, what the number of each absence that was lost is at most.
+//! with the parts that it read and what it writes; *part*, a word that was read and must stay valid, and what it
+//! vouches for; *home*, where a key's record is; *horizon*, what the number of each absence that was lost is at most.
 //! Layout: `Event` says what may happen, `Sound` what holds, `Law` the theorem and `Lemmas` what proofs above cite, all
 //! in specs/; proofs/ has one file for the laws of each part, one in proofs/Events for the acts that change the same
 //! fields, and `Runs`, the induction over lists.

@@ -2,7 +2,8 @@
 ghost use Rattle.std.specs.Prelude.{◌≡◌, ℕ, List, IfOk, OnOk};
 ghost use Rattle.commit_core.specs.CoreState.{CoreState};
 ghost use Rattle.commit_core.specs.Event.{Answers, AnswersEvent};
-ghost use Rattle.commit_core.specs.Opening.{first_number, opening_core, opening_content, opening_place, opening_spot, opening_contents, opening_places, opening_homes, fresh_seat};
+ghost use Rattle.commit_core.specs.Opening.{first_number, opening_core, opening_content, opening_place, opening_spot};
+ghost use Rattle.commit_core.specs.Opening.{opening_contents, opening_places, opening_homes, fresh_seat};
 ghost use Rattle.commit_core.specs.Serial.{committed, ReadsAreSerial};
 ghost use Rattle.commit_core.specs.Sound.{IsSound};
 ghost use Rattle.commit_core.specs.Told.{TellsTruly};
@@ -42,19 +43,6 @@ impl Core {
         ensures sound { IfOk result IsSound }
     {
         opened(alloc, pairs, passes)
-    }
-
-    /// A machine with these parts. Whether a machine that begins with them is sound, `CanOpen` says.
-    pub fn from_parts(opening: Vec<(Key, Content)>, story: Story, seats: Vec<Seat>) -> Self
-        ensures opening { result.opening ≡ opening.items }
-        ensures story { result.story ≡ story }
-        ensures seats { result.seats ≡ seats.items }
-    {
-        Core {
-            opening,
-            story,
-            seats,
-        }
     }
 
     /// Lets the event happen, if its condition holds.

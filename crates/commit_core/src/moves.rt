@@ -4,7 +4,9 @@ ghost use Rattle.std.specs.List.{list_any, list_all};
 ghost use Rattle.homes.specs.Homes.{same_key};
 ghost use Rattle.commit_core.specs.Places.{place, spot_of, spot_at, stands_at, stands};
 ghost use Rattle.serial_model.specs.Numbers.{is_below};
-ghost use Rattle.commit_core.specs.Moves.{moves_key, is_spot, moves_to_spot, are_apart, is_nobodys, is_movable, is_below_all, may_go_for, can_move, can_rehome, is_left, buried_entry, buried, rehomed, horizon_by, horizon_after, with_moves};
+ghost use Rattle.commit_core.specs.Moves.{moves_key, is_spot, moves_to_spot, are_apart, is_nobodys, is_movable};
+ghost use Rattle.commit_core.specs.Moves.{is_below_all, may_go_for, can_move, can_rehome, is_left, buried_entry};
+ghost use Rattle.commit_core.specs.Moves.{buried, rehomed, horizon_by, horizon_after, with_moves};
 
 use crate::story::{NOTHING, home_in, spot_of};
 use crate::{Place, Story};

@@ -5,7 +5,8 @@ ghost use Rattle.commit_core.specs.declared.part.Version.TheVariants as versions
 ghost use Rattle.commit_core.specs.Event.{is_as_seen};
 ghost use Rattle.std.specs.List.{find};
 ghost use Rattle.commit_core.specs.Keys.{same_key, has_key, content_at};
-ghost use Rattle.commit_core.specs.Parts.{same_word, is_record, version_of, is_version, covers, found, only, record_part};
+ghost use Rattle.commit_core.specs.Parts.{same_word, is_record, version_of, is_version, covers, found, only};
+ghost use Rattle.commit_core.specs.Parts.{record_part};
 
 use crate::Place;
 use crate::place::is_open_to;

@@ -4,9 +4,10 @@ ghost use Rattle.commit_core.specs.Fill.{filled};
 ghost use Rattle.std.specs.List.{find};
 ghost use Rattle.std.specs.Option.{option_copied};
 ghost use Rattle.homes.specs.Homes.{look, same_spot};
-ghost use Rattle.commit_core.specs.Keys.{same_key, same_number};
+ghost use Rattle.commit_core.specs.Keys.{same_key};
 ghost use Rattle.commit_core.specs.Places.{place_of, home_of, stands_at, stands, spot_of, spot_at, placed};
-ghost use Rattle.commit_core.specs.CoreState.{clock_of, is_decided, is_given_up, is_in_progress, is_checked, attempt_tried, attempt_decided};
+ghost use Rattle.commit_core.specs.CoreState.{clock_of, is_decided, is_given_up, is_in_progress, is_checked};
+ghost use Rattle.commit_core.specs.CoreState.{attempt_tried, attempt_decided};
 ghost use Rattle.commit_core.specs.Event.{all_checked, stays_as_seen};
 ghost use Rattle.commit_core.specs.Serial.{committed};
 
@@ -111,14 +112,6 @@ impl Story {
         ensures { result ≡ is_in_progress self.now.decided self.now.given_up number }
     {
         !(self.is_decided(number) || self.is_given_up(number))
-    }
-
-    /// The attempt of this number, if one has it.
-    pub fn attempt_numbered(&self, number: Number) -> Option<&Attempt>
-        ensures { option_copied result ≡ find (λ a. same_number a.number number) self.now.history }
-    {
-        let mut attempts = self.history.as_slice().iter();
-        attempts.find(|attempt| attempt.number == number)
     }
 
     /// Whether the attempt with this number has checked its part of the word.

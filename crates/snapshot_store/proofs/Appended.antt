@@ -1,5 +1,6 @@
 -- A write behind some bytes, and a sync, leave these bytes.
-use Rattle.std.proofs.Common.{◌≡◌, ◌≤◌, ◌<◌, ◌+◌, ℕ, true, List, Option, Some, None, inl, inr, refl, ap, subst, ◌∙◌, arith}
+use Rattle.std.proofs.Common.{◌≡◌, ◌≤◌, ◌<◌, ◌+◌, ℕ, Bool, true, false, List, Option, Some, None, inl, inr}
+use Rattle.std.proofs.Common.{refl, sym, ap, subst, ◌∙◌, arith}
 use Rattle.std.specs.Prelude.{is_some}
 use Rattle.lists.specs.Fronts.{IsFront}
 use Rattle.lists.specs.declared.memory.OrMemory.{OrMemory}
@@ -7,9 +8,10 @@ use Rattle.lists.specs.declared.memory.OrMemory.TheVariants.{Fault}
 use Rattle.outside.specs.Disk.{Torn, Same, Goes}
 use Rattle.outside.specs.Fronts.{AllBegin}
 use Rattle.outside.specs.Moments.{runs_call, runs_then, left_after_runs}
+use Rattle.wire_form.specs.declared.page.Page.{Page}
 use Rattle.snapshot_store.specs.declared.store.StoreFault.{StoreFault}
 use Rattle.snapshot_store.specs.declared.store.StoreFault.TheVariants.{Device as Failed, Short, Limit}
-use Rattle.snapshot_store.specs.Store.{KeepsFront}
+use Rattle.snapshot_store.specs.Store.{StoreState, KeepsFront}
 use Rattle.snapshot_store.proofs.Writes.{front_torn}
 
 -- the device is all that an append of pages with numbers tells of
@@ -39,6 +41,21 @@ module _ {D : Type 0} {clock : D → ℕ} {image_at : D → ℕ → List ℕ →
         | inr now ↦ now
       ] in
       runs_then first (runs_call (λ d c was same. subst (IsFront front) same (begun d was)) next)
+
+-- a store of these parts
+abbrev store_of : List Page → Bool → StoreState
+store_of pages sound = record { pages = pages; sound = sound }
+
+-- what isn't false is true
+true_of : (b : Bool) → (b ≡ false → ⊥) → b ≡ true
+true_of true never = refl
+true_of false never = absurd (never refl)
+
+-- a store with the same pages, of which no call said that the device failed, is as it was
+pub same_store : (old new : StoreState) → new.pages ≡ old.pages → old.sound ≡ true → (new.sound ≡ false → ⊥) → new ≡ old
+same_store old new pages was never =
+    ap (λ l. store_of l new.sound) pages
+    ∙ ap (λ b. store_of old.pages b) (true_of new.sound never ∙ sym was)
 
 -- something that is there is one thing
 pub some_of : {X : Type 0} (o : Option X) → is_some o ≡ true → (x : X) × (o ≡ Some x)

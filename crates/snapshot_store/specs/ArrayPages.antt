@@ -1,6 +1,7 @@
 -- How the pages of an array are read. A page stands for a range of indexes: a leaf for 32 of them, an
 -- interior page for 64 equal parts.
-use Rattle.std.specs.Prelude.{◌≡◌, ◌⊎◌, ◌≤◌, ℕ, ◌+◌, ◌-◌, ◌*◌, ◌/◌, ◌<◌, ◌==◌, List, [], ◌∷◌, Option, Some, None, nat_le, drop, min, slice_index, zero, suc, if◌then◌else◌}
+use Rattle.std.specs.Prelude.{◌≡◌, ◌⊎◌, ◌≤◌, ℕ, ◌+◌, ◌-◌, ◌*◌, ◌/◌, ◌<◌, ◌==◌, List, [], ◌∷◌, Option, Some, None}
+use Rattle.std.specs.Prelude.{nat_le, drop, min, slice_index, zero, suc, if◌then◌else◌}
 use Rattle.std.specs.Int.{div_ceil}
 use Rattle.wire_form.specs.declared.page.PageKind.{PageKind}
 use Rattle.wire_form.specs.declared.page.PageKind.TheVariants.{ArrayLeaf, ArrayInner}
@@ -29,7 +30,8 @@ row words span low (suc n) =
 
 -- a page is a leaf where its range is no more than a leaf has room for
 abbrev pub array_below : List ℕ → ℕ → ℕ → List PagePlace
-array_below words low high = if nat_le (span_of low high) leaf_room then [] else row words (span_of low high / fan) low fan
+array_below words low high =
+    if nat_le (span_of low high) leaf_room then [] else row words (span_of low high / fan) low fan
 
 -- a record that was never written has the number 0, and isn't in the content
 abbrev pub array_found : ℕ → ℕ → Option Found
@@ -38,7 +40,8 @@ array_found number value = if number == 0 then None else Some (record { number =
 -- the record of an index is told by two words
 abbrev pub array_look : List ℕ → ℕ → ℕ → Option Found
 array_look words low key =
-    array_found (slice_index words (word_in array_leaf (key - low))) (slice_index words (value_in array_leaf (key - low) 0))
+    array_found (slice_index words (word_in array_leaf (key - low)))
+    (slice_index words (value_in array_leaf (key - low) 0))
 
 -- how the pages of arrays are read
 abbrev pub array_format : Format
@@ -48,10 +51,12 @@ array_format = record { below = array_below; look = array_look }
 abbrev pub parts_of : ℕ → ℕ → ℕ
 parts_of rest span = div_ceil rest span
 
--- the kind of the page that stands for a range of an array of this size: as many records or children as the size needs there
+-- the kind of the page that stands for a range of an array of this size: as many records or children as the size needs
+-- there
 abbrev pub array_kind : ℕ → ℕ → ℕ → PageKind
 array_kind size low high =
-    if nat_le (span_of low high) leaf_room then ArrayLeaf (min leaf_room (size - low)) else ArrayInner (min fan (parts_of (size - low) (span_of low high / fan)))
+    if nat_le (span_of low high) leaf_room then ArrayLeaf (min leaf_room (size - low))
+    else ArrayInner (min fan (parts_of (size - low) (span_of low high / fan)))
 
 -- how many indexes a page has so many levels above the leaves
 abbrev pub indexes_at : ℕ → ℕ

@@ -1,5 +1,6 @@
 -- What a snapshot has: the records of the leaves that a catalogue's roots lead to.
-use Rattle.std.specs.Prelude.{◌≡◌, ℕ, ◌-◌, ◌^◌, ◌≤◌, ◌==◌, List, [], ◌∷◌, Option, Some, None, nat_le, length, map, if◌then◌else◌}
+use Rattle.std.specs.Prelude.{◌≡◌, ℕ, ◌-◌, ◌^◌, ◌≤◌, ◌==◌, List, [], ◌∷◌, Option, Some, None, nat_le, length, map}
+use Rattle.std.specs.Prelude.{if◌then◌else◌}
 use Rattle.std.specs.List.{AllByRecursion}
 use Rattle.std.specs.FinMap.{get}
 use Rattle.serial_model.specs.Keys.{id_of}
@@ -46,7 +47,8 @@ IsPageOf (Tree id) = IsTreePage
 -- the record of a key in a storage
 abbrev pub record_in : List (List ℕ) → Stored → ℕ → Option Found
 record_in pages s key =
-    if nat_le key (root_place s.decl s.root).high then find (format_of s.decl) pages deepest key (root_place s.decl s.root) else None
+    if nat_le key (root_place s.decl s.root).high then find (format_of s.decl) pages deepest key
+    (root_place s.decl s.root) else None
 
 -- the value of a record, if there is one
 abbrev pub value_of : Option Found → Option ℕ

@@ -1,4 +1,6 @@
 pub mod Store
+pub mod Appends
+pub mod Loads
 pub mod Places
 pub mod ArrayPages
 pub mod TreePages

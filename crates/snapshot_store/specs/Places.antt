@@ -1,5 +1,6 @@
 -- Pages that lead to pages: which page stands for which range of keys, and what is found there.
-use Rattle.std.specs.Prelude.{◌≡◌, ℕ, ◌+◌, ◌≤◌, List, [], ◌∷◌, ◌++◌, Option, Some, None, cond, nat_le, length, slice_index_or, zero, suc, ⊤}
+use Rattle.std.specs.Prelude.{◌≡◌, ℕ, ◌+◌, ◌≤◌, List, [], ◌∷◌, ◌++◌, Option, Some, None, cond, nat_le, length}
+use Rattle.std.specs.Prelude.{slice_index_or, zero, suc, ⊤}
 use Rattle.std.specs.List.{AllByRecursion, flat_map}
 use Rattle.snapshot_store.specs.declared.place.PagePlace.{PagePlace}
 
@@ -61,7 +62,8 @@ look_in F pages key (Some q) = F.look (words_at pages q) q.low key
 abbrev pub find : Format → List (List ℕ) → ℕ → ℕ → PagePlace → Option Found
 find F pages zero key p = None
 find F pages (suc d) key p =
-    here_or_below (F.look (words_at pages p) p.low key) (at_key key (find F pages d key) (places_below F pages p)) (places_below F pages p)
+    here_or_below (F.look (words_at pages p) p.low key) (at_key key (find F pages d key) (places_below F pages p))
+    (places_below F pages p)
 
 -- places in a row, from one key to another without gap or overlap
 abbrev pub Cover : ℕ → ℕ → List PagePlace → Type 0
@@ -74,7 +76,8 @@ Tiles low high [] = ⊤
 Tiles low high (q ∷ qs) = Cover low high (q ∷ qs)
 
 -- a page is there, is right for its range, and what it leads to is so too
-pub record Stands (F : Format) (Is : PagePlace → List ℕ → Type 0) (pages : List (List ℕ)) (Below : PagePlace → Type 0) (p : PagePlace) : Type 0 where
+pub record Stands (F : Format) (Is : PagePlace → List ℕ → Type 0) (pages : List (List ℕ))
+    (Below : PagePlace → Type 0) (p : PagePlace) : Type 0 where
   pub there : p.number ≤ length pages
   pub right : Is p (words_at pages p)
   pub tiles : Tiles p.low p.high (places_below F pages p)
@@ -85,7 +88,8 @@ abbrev pub StandsTo : Format → (PagePlace → List ℕ → Type 0) → List (L
 StandsTo F Is pages zero p = ⊥
 StandsTo F Is pages (suc d) p = Stands F Is pages (StandsTo F Is pages d) p
 
--- the pages with numbers above this one that a place leads to: those of the places below it, from left to right, and then its own
+-- the pages with numbers above this one that a place leads to: those of the places below it, from left to right, and
+-- then its own
 abbrev pub newer : Format → List (List ℕ) → ℕ → ℕ → PagePlace → List ℕ
 newer F pages have zero p = []
 newer F pages have (suc d) p =

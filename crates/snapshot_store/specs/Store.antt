@@ -43,7 +43,8 @@ abbrev pub HoldsPages : {D : Type 0} → (tells : D → Option (List ℕ)) → D
 HoldsPages tells disk pages = IfTold (tells disk) (IsFront (bytes_of_pages pages))
 
 -- Bytes were written at a place, in one call of the device, or the write failed, or was not begun.
-pub record WritesAt {D : Type 0} (tells : D → Option (List ℕ)) (clock : D → ℕ) (image_at : D → ℕ → List ℕ → Type 0) (faults : D → ℕ) (at : ℕ) (bytes : List ℕ) (old new : D) (done : Bool) : Type 0 where
+pub record WritesAt {D : Type 0} (tells : D → Option (List ℕ)) (clock : D → ℕ) (image_at : D → ℕ → List ℕ → Type 0)
+    (faults : D → ℕ) (at : ℕ) (bytes : List ℕ) (old new : D) (done : Bool) : Type 0 where
   pub written : done ≡ true → IfTold (tells old) (λ file. tells new ≡ Some (written at bytes file))
   pub torn : done ≡ false → IfTold (tells old) (λ file. IfTold (tells new) (Torn at (length bytes) file))
   pub told : is_some (tells new) ≡ is_some (tells old)
@@ -58,7 +59,8 @@ pub record AreRead (count : ℕ) (pages : List Page) : Type 0 where
   pub kinds : AllByRecursion (λ p. p.kind ≡ Catalogue) pages
 
 -- A sync was done: a stop then leaves what reads give. Or it failed, and settled nothing.
-pub record Syncs {D : Type 0} (tells : D → Option (List ℕ)) (clock : D → ℕ) (image_at : D → ℕ → List ℕ → Type 0) (faults : D → ℕ) (old new : D) (done : Bool) : Type 0 where
+pub record Syncs {D : Type 0} (tells : D → Option (List ℕ)) (clock : D → ℕ) (image_at : D → ℕ → List ℕ → Type 0)
+    (faults : D → ℕ) (old new : D) (done : Bool) : Type 0 where
   pub told : tells new ≡ tells old
   pub durable : done ≡ true → IfTold (tells old) (Only clock image_at new)
   pub unsettled : done ≡ false → LeavesEach clock image_at Same old new (clock new)

@@ -1,5 +1,6 @@
 -- How the pages of a tree are read.
-use Rattle.std.specs.Prelude.{◌≡◌, ◌⊎◌, ℕ, ◌+◌, ◌-◌, ◌/◌, ◌%◌, ◌<◌, ◌==◌, List, [], ◌∷◌, Option, Some, None, take, drop, slice_index, zero, suc, if◌then◌else◌}
+use Rattle.std.specs.Prelude.{◌≡◌, ◌⊎◌, ℕ, ◌+◌, ◌-◌, ◌/◌, ◌%◌, ◌<◌, ◌==◌, List, [], ◌∷◌, Option, Some, None, take, drop}
+use Rattle.std.specs.Prelude.{slice_index, zero, suc, if◌then◌else◌}
 use Rattle.wire_form.specs.declared.page.PageKind.TheVariants.{TreeLeaf, TreeInner}
 use Rattle.wire_form.specs.Leaves.{tree_leaf, tree_fan, stride}
 use Rattle.wire_form.specs.Pages.{HasKind}
@@ -70,4 +71,5 @@ tree_format = record {
 -- no page where there is no number, else a leaf or an interior page with the range for its fences
 pub record IsTreePage (p : PagePlace) (words : List ℕ) : Type 0 where
   pub none : p.number ≡ 0 → words ≡ []
-  pub page : 0 < p.number → HasKind (TreeLeaf p.low p.high) p.number words ⊎ HasKind (TreeInner p.low p.high) p.number words
+  pub page : 0 < p.number → HasKind (TreeLeaf p.low p.high) p.number words
+      ⊎ HasKind (TreeInner p.low p.high) p.number words

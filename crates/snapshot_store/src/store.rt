@@ -1,14 +1,13 @@
 // The pages of snapshots in memory, and their device.
-ghost use Rattle.std.specs.Prelude.{◌≡◌, ◌≢◌, ◌↔◌, ◌⊎◌, ◌+◌, ◌-◌, ◌*◌, ◌<◌, ◌≤◌, ◌++◌, ℕ, List, Some, Err, true, false};
-ghost use Rattle.std.specs.Prelude.{IsTrue, is_some, length, is_ok, slice_get, IfOk, OnOk, OnErr};
+ghost use Rattle.std.specs.Prelude.{◌≡◌, ◌+◌, ◌-◌, ◌≤◌, ℕ, List, Some, Err, true, length, is_ok, slice_get};
+ghost use Rattle.std.specs.Prelude.{OnOk, OnErr};
 ghost use Rattle.outside.specs.Disk.{IfTold};
 ghost use Rattle.outside.specs.Faults.{Rose};
 ghost use Rattle.outside.specs.Fronts.{AllBegin, KeepsSince};
-ghost use Rattle.snapshot_store.specs.Store.{NumberedFrom, bytes_of_pages, IsWhole, HoldsPages, WritesAt, Syncs};
-ghost use Rattle.snapshot_store.specs.Store.{KeepsFront};
+ghost use Rattle.snapshot_store.specs.Store.{NumberedFrom, bytes_of_pages, IsWhole, HoldsPages, Syncs};
+ghost use Rattle.snapshot_store.specs.Appends.{AppendsPages, AppendsDurably};
 ghost use Rattle.snapshot_store.specs.Places.{page};
 ghost use Rattle.snapshot_store.specs.Content.{words_of};
-ghost use Rattle.snapshot_store.specs.declared.store.StoreFault.{StoreFault as Fault};
 
 use crate::write::add;
 use lists::OrMemory;
@@ -101,23 +100,8 @@ impl SnapStore {
         requires sound { self.old.sound ≡ true }
         requires numbered { NumberedFrom (length self.old.pages + 1) pages.now }
         requires holds { HoldsPages D.tells disk.old self.old.pages }
-        ensures pages { OnOk result (self.new.pages ≡ self.old.pages ++ pages.now) }
-        ensures first { IfOk result (λ first. first ≡ length self.old.pages + 1) }
-        ensures kept { OnErr result (self.new.pages ≡ self.old.pages) }
-        ensures sound { (self.new.sound ≡ false) ↔ (result ≡ Err (OrMemory.Fault StoreFault.Device)) }
-        ensures limit { (count : ℕ) → (result ≡ Err (OrMemory.Fault (StoreFault.Limit count)))
-            ↔ ((count ≡ length self.old.pages + length pages.now) × (65536 < count)) }
-        ensures never_short { (at : ℕ) → result ≢ Err (OrMemory.Fault (StoreFault.Short at)) }
-        ensures device { result ≡ Err (OrMemory.Fault StoreFault.Device)
-            → Rose (D.faults disk.old) (D.faults disk.new) }
-        ensures untouched { OnErr result (result ≢ Err (OrMemory.Fault StoreFault.Device)
-            → disk.new ≡ disk.old) }
-        ensures writes { WritesAt D.tells D.clock D.image_at D.faults (512 * length self.old.pages)
-            (bytes_of_pages pages.now) disk.old disk.new (is_ok result) }
-        ensures holds { HoldsPages D.tells disk.new self.new.pages }
-        ensures stays { (since : ℕ) (front : List ℕ) → length front ≤ 512 * length self.old.pages
-            → since ≤ D.clock disk.old → KeepsSince D.clock D.image_at disk.old since front
-            → KeepsSince D.clock D.image_at disk.new since front }
+        ensures { AppendsPages D.tells D.clock D.image_at D.faults pages.now self.old self.new
+            disk.old disk.new result }
     {
         let first = self.pages.len() as u32 + 1;
         let count = self.pages.len() as u64 + pages.len() as u64;
@@ -169,21 +153,8 @@ impl SnapStore {
         requires numbered { NumberedFrom (length self.old.pages + 1) pages.now }
         requires few { length self.old.pages + length pages.now ≤ 65536 }
         requires holds { HoldsPages D.tells disk.old self.old.pages }
-        ensures pages { OnOk result (self.new.pages ≡ self.old.pages ++ pages.now) }
-        ensures grown { OnErr result ((self.new.pages ≡ self.old.pages)
-            ⊎ (self.new.pages ≡ self.old.pages ++ pages.now)) }
-        ensures sound { OnOk result (self.new.sound ≡ true) }
-        ensures holds { OnOk result (HoldsPages D.tells disk.new self.new.pages) }
-        ensures durable { OnOk result (IfTold (D.tells disk.old) (λ _.
-            AllBegin (D.image_at disk.new (D.clock disk.new)) (bytes_of_pages self.new.pages))) }
-        ensures runs { KeepsFront D.clock D.image_at (512 * length self.old.pages) disk.old disk.new }
-        ensures told { is_some (D.tells disk.new) ≡ is_some (D.tells disk.old) }
-        ensures causes { (fault : Fault) → result ≡ Err (OrMemory.Fault fault) → fault ≡ StoreFault.Device }
-        ensures unsound { (fault : Fault) → result ≡ Err (OrMemory.Fault fault) → self.new.sound ≡ false }
-        ensures device { (fault : Fault) → result ≡ Err (OrMemory.Fault fault)
-            → Rose (D.faults disk.old) (D.faults disk.new) }
-        ensures quiet { OnOk result (D.faults disk.new ≡ D.faults disk.old) }
-        ensures untouched { result ≡ Err OrMemory.Memory → (disk.new ≡ disk.old) × (self.new ≡ self.old) }
+        ensures { AppendsDurably D.tells D.clock D.image_at D.faults pages.now self.old self.new
+            disk.old disk.new result }
     {
         match self.append(disk, pages) {
             Ok(_) => {}

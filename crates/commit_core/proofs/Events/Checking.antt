@@ -178,7 +178,8 @@ module _ (opening : List (Key × Content)) (p : ℕ) (m : Story) (s : Seat) (i :
     kept_fits = sound.kept_fits;
   }
 
-  -- another seat's attempt in progress holds what it writes, and so does not write a key whose home is open to this seat
+  -- another seat's attempt in progress holds what it writes, and so does not write a key whose home is open to this
+  -- seat
   other_writes_not : AreSo p m a w → (q : ℕ) (t : Seat) → (q ≡ p → ⊥) → IsSoundSeat opening m q t → (j : ℕ) (b : Attempt) → t.stage ≡ Trying j → slice_get m.history j ≡ Some b
       → (part : Part) → Contains a.parts part → part.word ≡ w → (k : Key) → covers part k ≡ true → writes_key b.writes k ≡ false
   other_writes_not so q t other sound j b stage' there part n e k c =

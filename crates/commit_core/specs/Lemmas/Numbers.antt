@@ -1,5 +1,6 @@
 -- Numbers under a draw, a check, a decision and an advance.
-use Rattle.std.proofs.Common.{◌≡◌, ℕ, ◌+◌, ◌<◌, true, false, true≢false, ◌&&◌, ◌⊎◌, inl, inr, List, [], ◌∷◌, ◌++◌, refl, sym, ap, ◌∙◌, subst, arith, length, length-append}
+use Rattle.std.proofs.Common.{◌≡◌, ℕ, ◌+◌, ◌<◌, true, false, true≢false, ◌&&◌, ◌⊎◌, inl, inr, List, [], ◌∷◌, ◌++◌, refl}
+use Rattle.std.proofs.Common.{sym, ap, ◌∙◌, subst, arith, length, length-append}
 use Rattle.std.proofs.lemmas.Bool.{and_parts, or_left, or_right, false_from_ne_true}
 use Rattle.std.specs.List.{Contains}
 use Rattle.serial_model.specs.declared.key.Key.{Key}
@@ -20,25 +21,29 @@ use Rattle.commit_core.specs.Sound.Numbers.{EachOnce, OrderedNumbers, ChecksAreP
 -- ---- the clock goes on
 
 -- a draw moves the clock up
-pub clock_after_draw : (first epoch : ℕ) (h : List Attempt) (a : Attempt) → IsBelow (clock_of first epoch h) (clock_of first epoch (h ++ a ∷ []))
+pub clock_after_draw : (first epoch : ℕ) (h : List Attempt) (a : Attempt)
+    → IsBelow (clock_of first epoch h) (clock_of first epoch (h ++ a ∷ []))
 clock_after_draw first epoch h a = let longer = length-append h (a ∷ []) in later epoch (first + length h) (first + length (h ++ a ∷ [])) (omega (arith, longer))
   where
     later : (e x y : ℕ) → x < y → IsBelow (record { epoch = e; draw = x }) (record { epoch = e; draw = y })
     later e x y l = inr (refl, l)
 
 -- an advance of the epoch moves the clock up
-pub clock_after_advance : (first epoch : ℕ) (h : List Attempt) → IsBelow (clock_of first epoch h) (clock_of first (epoch + 1) h)
+pub clock_after_advance : (first epoch : ℕ) (h : List Attempt)
+    → IsBelow (clock_of first epoch h) (clock_of first (epoch + 1) h)
 clock_after_advance first epoch h = inl (omega arith)
 
 -- ---- one more decided number, one more check
 
 -- once one more is decided, a decided one was decided before, or is the new one
-pub decided_cases : (decided : List Number) (m n : Number) → is_decided (decided ++ m ∷ []) n ≡ true → (is_decided decided n ≡ true) ⊎ (m ≡ n)
+pub decided_cases : (decided : List Number) (m n : Number) → is_decided (decided ++ m ∷ []) n ≡ true
+    → (is_decided decided n ≡ true) ⊎ (m ≡ n)
 decided_cases decided m n h =
     elim (any_push_cases (λ x. same_number x n) decided m h) [ inl old ↦ inl old | inr new ↦ inr (same_number-true m n new) ]
 
 -- what was decided stays so
-pub decided_old : (decided : List Number) (m n : Number) → is_decided decided n ≡ true → is_decided (decided ++ m ∷ []) n ≡ true
+pub decided_old : (decided : List Number) (m n : Number) → is_decided decided n ≡ true
+    → is_decided (decided ++ m ∷ []) n ≡ true
 decided_old decided m n h = any_push_old (λ x. same_number x n) decided m h
 
 -- the new one is decided
@@ -46,12 +51,14 @@ pub decided_new : (decided : List Number) (m n : Number) → m ≡ n → is_deci
 decided_new decided m n e = any_push_new (λ x. same_number x n) decided m (subst (λ (x : Number). same_number m x ≡ true) e (same_number-self m))
 
 -- of another number the decision of one says nothing
-pub decided_other : (decided : List Number) (m n : Number) → (m ≡ n → ⊥) → is_decided (decided ++ m ∷ []) n ≡ is_decided decided n
+pub decided_other : (decided : List Number) (m n : Number) → (m ≡ n → ⊥)
+    → is_decided (decided ++ m ∷ []) n ≡ is_decided decided n
 decided_other decided m n other =
     any_push-false (λ x. same_number x n) decided m (false_from_ne_true (same_number m n) (λ h. other (same_number-true m n h)))
 
 -- once one more part is checked, a checked one was checked before, or is the new one
-pub checked_cases : (checks : List Check) (n : Number) (w : Word) (m : Number) (v : Word) → is_checked (checks ++ check_of n w ∷ []) m v ≡ true
+pub checked_cases : (checks : List Check) (n : Number) (w : Word) (m : Number) (v : Word)
+    → is_checked (checks ++ check_of n w ∷ []) m v ≡ true
     → (is_checked checks m v ≡ true) ⊎ ((n ≡ m) × (w ≡ v))
 checked_cases checks n w m v h =
     elim (any_push_cases (λ c. same_number c.number m && same_word c.word v) checks (check_of n w) h) [
@@ -60,13 +67,15 @@ checked_cases checks n w m v h =
     ]
 
 -- what was checked stays so
-pub checked_old : (checks : List Check) (n : Number) (w : Word) (m : Number) (v : Word) → is_checked checks m v ≡ true → is_checked (checks ++ check_of n w ∷ []) m v ≡ true
+pub checked_old : (checks : List Check) (n : Number) (w : Word) (m : Number) (v : Word)
+    → is_checked checks m v ≡ true → is_checked (checks ++ check_of n w ∷ []) m v ≡ true
 checked_old checks n w m v h = any_push_old (λ c. same_number c.number m && same_word c.word v) checks (check_of n w) h
 
 -- ---- ordered_numbers
 
 -- ordered numbers stay ordered where the clock moves up
-pub numbers_later : (opening : List (Key × Content)) (h : List Attempt) (decided : List Number) (t u : Number) → IsBelow t u → OrderedNumbers opening h decided t → OrderedNumbers opening h decided u
+pub numbers_later : (opening : List (Key × Content)) (h : List Attempt) (decided : List Number) (t u : Number)
+    → IsBelow t u → OrderedNumbers opening h decided t → OrderedNumbers opening h decided u
 numbers_later opening h decided t u l o = record {
   opening_past = λ k. below_then (content_at opening k).number t u (o.opening_past k) l;
   rising = o.rising;
@@ -76,12 +85,14 @@ numbers_later opening h decided t u l o = record {
 }
 
 -- the clock's number is not decided
-pub clock_undecided : (opening : List (Key × Content)) (h : List Attempt) (decided : List Number) (t : Number) → OrderedNumbers opening h decided t → is_decided decided t ≡ false
+pub clock_undecided : (opening : List (Key × Content)) (h : List Attempt) (decided : List Number) (t : Number)
+    → OrderedNumbers opening h decided t → is_decided decided t ≡ false
 clock_undecided opening h decided t o =
     false_from_ne_true (is_decided decided t) (λ e. let d = o.decided_drawn t e in not_below_itself d.0.number t d.2 (o.past d.0 d.1))
 
 -- ordered numbers stay ordered where an attempt takes the clock's number
-pub numbers_drawn : (opening : List (Key × Content)) (h : List Attempt) (decided : List Number) (t u : Number) (a : Attempt) → a.number ≡ t → IsBelow t u
+pub numbers_drawn : (opening : List (Key × Content)) (h : List Attempt) (decided : List Number) (t u : Number)
+    (a : Attempt) → a.number ≡ t → IsBelow t u
     → OrderedNumbers opening h decided t → OrderedNumbers opening (h ++ a ∷ []) decided u
 numbers_drawn opening h decided t u a e l o = record {
   opening_past = λ k. below_then (content_at opening k).number t u (o.opening_past k) l;
@@ -94,7 +105,8 @@ numbers_drawn opening h decided t u a e l o = record {
   decided_once = o.decided_once;
 }
 
-once_push : (decided : List Number) (m : Number) → EachOnce decided → is_decided decided m ≡ false → EachOnce (decided ++ m ∷ [])
+once_push : (decided : List Number) (m : Number) → EachOnce decided → is_decided decided m ≡ false
+    → EachOnce (decided ++ m ∷ [])
 once_push [] m o e = (refl, tt)
 once_push (n ∷ decided) m o e = (
   false_from_ne_true (is_decided (decided ++ m ∷ []) n) (λ h.
@@ -106,7 +118,8 @@ once_push (n ∷ decided) m o e = (
 )
 
 -- ordered numbers stay ordered where an attempt of the history is decided
-pub numbers_decided : (opening : List (Key × Content)) (h : List Attempt) (decided : List Number) (t : Number) (a : Attempt) → Contains h a → is_decided decided a.number ≡ false
+pub numbers_decided : (opening : List (Key × Content)) (h : List Attempt) (decided : List Number) (t : Number)
+    (a : Attempt) → Contains h a → is_decided decided a.number ≡ false
     → OrderedNumbers opening h decided t → OrderedNumbers opening h (decided ++ a.number ∷ []) t
 numbers_decided opening h decided t a m e o = record {
   opening_past = o.opening_past;
@@ -123,6 +136,11 @@ pub checks_later : (checks : List Check) (t u : Number) → IsBelow t u → Chec
 checks_later checks t u l past = λ n w h. below_then n t u (past n w h) l
 
 -- a check of an attempt below the clock lies below the clock
-pub checks_checked : (checks : List Check) (t n : Number) (w : Word) → IsBelow n t → ChecksArePast checks t → ChecksArePast (checks ++ check_of n w ∷ []) t
+pub checks_checked : (checks : List Check) (t n : Number) (w : Word) → IsBelow n t → ChecksArePast checks t
+    → ChecksArePast (checks ++ check_of n w ∷ []) t
 checks_checked checks t n w l past = λ m v h.
-    elim (checked_cases checks n w m v h) [ inl old ↦ past m v old | inr new ↦ subst (λ (x : Number). IsBelow x t) new.0 l ]
+    elim (checked_cases checks n w m v h) [
+      | inl old ↦ past m v old
+      | inr new ↦ subst (λ (x : Number). IsBelow x t)
+          new.0 l
+    ]

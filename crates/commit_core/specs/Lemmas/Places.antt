@@ -1,5 +1,6 @@
 -- What stands in places and at keys once one place has something new.
-use Rattle.std.proofs.Common.{◌≡◌, true, false, true≢false, cond, inl, inr, List, [], ◌∷◌, ◌⊎◌, refl, sym, ap, ◌∙◌, subst, Some}
+use Rattle.std.proofs.Common.{◌≡◌, true, false, true≢false, cond, inl, inr, List, [], ◌∷◌, ◌⊎◌, refl, sym, ap, ◌∙◌}
+use Rattle.std.proofs.Common.{subst, Some}
 use Rattle.std.proofs.lemmas.Bool.{cases_Bool, cond-false, false_from_ne_true}
 use Rattle.serial_model.specs.declared.key.Key.{Key}
 use Rattle.homes.specs.declared.places.Spot.{Spot}
@@ -25,7 +26,8 @@ same_or_other a b =
 -- ---- places
 
 -- in another place stands what stood there
-pub place_of-placed_other : (places : List (Spot × Place)) (x : Spot) (new : Place) (y : Spot) → (x ≡ y → ⊥) → place_of (placed places x new) y ≡ place_of places y
+pub place_of-placed_other : (places : List (Spot × Place)) (x : Spot) (new : Place) (y : Spot) → (x ≡ y → ⊥)
+    → place_of (placed places x new) y ≡ place_of places y
 place_of-placed_other [] x new y other = refl
 place_of-placed_other (e ∷ more) x new y other =
     elim (cases_Bool (same_spot e.0 x)) [
@@ -36,7 +38,8 @@ place_of-placed_other (e ∷ more) x new y other =
     ]
 
 -- in the place stands the new one, where it was filled at all
-pub place_of-placed_same : (places : List (Spot × Place)) (x : Spot) (new : Place) → ((place_of places x).holder ≡ Dead → ⊥) → place_of (placed places x new) x ≡ new
+pub place_of-placed_same : (places : List (Spot × Place)) (x : Spot) (new : Place)
+    → ((place_of places x).holder ≡ Dead → ⊥) → place_of (placed places x new) x ≡ new
 place_of-placed_same [] x new alive = absurd (alive refl)
 place_of-placed_same (e ∷ more) x new alive =
     elim (cases_Bool (same_spot e.0 x)) [
@@ -47,13 +50,15 @@ place_of-placed_same (e ∷ more) x new alive =
 -- ---- homes
 
 -- what stands at a home that is a place
-pub stands-spot : (places : List (Spot × Place)) (h : Home) (x : Spot) → spot_of h ≡ Some x → stands_at places h ≡ place_of places x
+pub stands-spot : (places : List (Spot × Place)) (h : Home) (x : Spot) → spot_of h ≡ Some x
+    → stands_at places h ≡ place_of places x
 stands-spot places (InSlot y) x e = let same : y ≡ x = cc in ap (place_of places) same
 stands-spot places (InPage n c) x e = cc
 stands-spot places Nowhere x e = cc
 
 -- at a home that isn't the place stands what stood there
-pub stands-placed_at : (places : List (Spot × Place)) (x : Spot) (new : Place) (h : Home) → (spot_of h ≡ Some x → ⊥) → stands_at (placed places x new) h ≡ stands_at places h
+pub stands-placed_at : (places : List (Spot × Place)) (x : Spot) (new : Place) (h : Home) → (spot_of h ≡ Some x → ⊥)
+    → stands_at (placed places x new) h ≡ stands_at places h
 stands-placed_at places x new (InSlot y) other = place_of-placed_other places x new y (λ e. other (ap (λ (z : Spot). Some z) (sym e)))
 stands-placed_at places x new (InPage n c) other = refl
 stands-placed_at places x new Nowhere other = refl
@@ -66,7 +71,8 @@ pub record Sets (k : Key) (new : Place) (st st' : Key → Place) : Type 0 where
   pub others : (q : Key) → (k ≡ q → ⊥) → st' q ≡ st q
 
 -- so it is where the home of the key has something new
-pub placed_sets : (places : List (Spot × Place)) (homes : List (Key × Home)) (k : Key) (x : Spot) (new : Place) → HomesApart (home_of homes) → spot_at homes k ≡ Some x
+pub placed_sets : (places : List (Spot × Place)) (homes : List (Key × Home)) (k : Key) (x : Spot) (new : Place)
+    → HomesApart (home_of homes) → spot_at homes k ≡ Some x
     → ((place_of places x).holder ≡ Dead → ⊥) → Sets k new (stands places homes) (stands (placed places x new) homes)
 placed_sets places homes k x new apart at alive = record {
   now = stands-spot (placed places x new) (home_of homes k) x at ∙ place_of-placed_same places x new alive;

@@ -1,5 +1,6 @@
 -- What stands for what, where an absence may have lost its number.
-use Rattle.std.proofs.Common.{◌≡◌, ℕ, zero, suc, ◌<◌, false, true≢false, ◌⊎◌, inl, inr, List, refl, sym, ap, ◌∙◌, subst, arith, Option, Some, None}
+use Rattle.std.proofs.Common.{◌≡◌, ℕ, zero, suc, ◌<◌, false, true≢false, ◌⊎◌, inl, inr, List, refl, sym, ap, ◌∙◌, subst}
+use Rattle.std.proofs.Common.{arith, Option, Some, None}
 use Rattle.std.specs.Prelude.{is_some}
 use Rattle.serial_model.specs.declared.key.Key.{Key}
 use Rattle.serial_model.specs.declared.number.Number.{Number}
@@ -48,14 +49,17 @@ shows_trans h h' new c d up (inr x) (inl e) = inr (x.0, subst (λ (y : Content).
 shows_trans h h' new c d up (inr x) (inr y) = inr (x.0, record { absent = y.1.absent; past = up_then_up d.number h h' y.1.past up })
 
 -- what shows the last write has a number below the clock
-pub shown_past : (horizon : Number) (opening : List (Key × Content)) (h : List Attempt) (decided : List Number) (t : Number) (k : Key) (c : Content) → OrderedNumbers opening h decided t
+pub shown_past : (horizon : Number) (opening : List (Key × Content)) (h : List Attempt) (decided : List Number)
+    (t : Number) (k : Key) (c : Content) → OrderedNumbers opening h decided t
     → Shows horizon c (last_write opening h decided k) → IsBelow c.number t
 shown_past horizon opening h decided t k c o (inl exact) =
-    subst (λ (x : Content). IsBelow x.number t) (sym exact) (version_past opening h decided t k (last_write opening h decided k) o (last_version opening h decided k))
+    subst (λ (x : Content). IsBelow x.number t) (sym exact)
+    (version_past opening h decided t k (last_write opening h decided k) o (last_version opening h decided k))
 shown_past horizon opening h decided t k c o (inr lost) = subst (λ (x : Content). IsBelow x.number t) (sym lost.0) (opening_below (content_at opening k).number t (o.opening_past k))
 
 -- it is a version, or nothing
-pub shown_version : (horizon : Number) (opening : List (Key × Content)) (h : List Attempt) (decided : List Number) (k : Key) (c : Content)
+pub shown_version : (horizon : Number) (opening : List (Key × Content)) (h : List Attempt) (decided : List Number)
+    (k : Key) (c : Content)
     → Shows horizon c (last_write opening h decided k) → (c ≡ nothing) ⊎ IsVersion opening h k c
 shown_version horizon opening h decided k c (inl exact) = inr (subst (λ (x : Content). IsVersion opening h k x) (sym exact) (last_version opening h decided k))
 shown_version horizon opening h decided k c (inr lost) = inl lost.0
@@ -71,9 +75,11 @@ is_nothing : (c d : Content) → d ≡ nothing → c.number ≡ d.number → is_
 is_nothing c d e n v = same_content_parts c d n (value_none c.value (v ∙ ap (λ (x : Content). is_some x.value) e) ∙ sym (ap (λ (x : Content). x.value) e))
 
 -- the same number, and a value in both or in neither, is the same content
-pub same_word_content : (horizon : Number) (opening : List (Key × Content)) (h : List Attempt) (decided : List Number) (k : Key) (c f : Content) → RisesFrom (content_at opening k).number h
+pub same_word_content : (horizon : Number) (opening : List (Key × Content)) (h : List Attempt)
+    (decided : List Number) (k : Key) (c f : Content) → RisesFrom (content_at opening k).number h
     → Shows horizon c (last_write opening h decided k) → (f ≡ nothing) ⊎ IsVersion opening h k f → c.number ≡ f.number → is_some c.value ≡ is_some f.value → c ≡ f
 same_word_content horizon opening h decided k c f r (inl exact) (inl none) n v = is_nothing c f none n v
 same_word_content horizon opening h decided k c f r (inl exact) (inr version) n v =
-    sym (version_same opening h k f c r version (subst (λ (x : Content). IsVersion opening h k x) (sym exact) (last_version opening h decided k)) (sym n))
+    sym (version_same opening h k f c r version
+    (subst (λ (x : Content). IsVersion opening h k x) (sym exact) (last_version opening h decided k)) (sym n))
 same_word_content horizon opening h decided k c f r (inr lost) version n v = sym (is_nothing f c lost.0 (sym n) (sym v))

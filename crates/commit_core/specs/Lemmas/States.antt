@@ -1,5 +1,6 @@
 -- What stands at a key after the attempts that count.
-use Rattle.std.proofs.Common.{◌≡◌, ℕ, Bool, true, false, true≢false, cond, ◌⊎◌, inl, inr, List, [], ◌∷◌, ◌++◌, refl, sym, ap, ◌∙◌, subst, Option, Some, None}
+use Rattle.std.proofs.Common.{◌≡◌, ℕ, Bool, true, false, true≢false, cond, ◌⊎◌, inl, inr, List, [], ◌∷◌, ◌++◌, refl}
+use Rattle.std.proofs.Common.{sym, ap, ◌∙◌, subst, Option, Some, None}
 use Rattle.std.proofs.lemmas.Bool.{cases_Bool, false_from_ne_true, cond-true, cond-false}
 use Rattle.std.specs.List.{Contains}
 use Rattle.std.specs.Prelude.{is_some}
@@ -16,7 +17,8 @@ use Rattle.lists.specs.Elements.{in_none, in_head, in_tail, in_cases}
 -- ---- numbers that rise
 
 -- each number of a history that rises from a number on is above it
-pub rises_low : (low : Number) (h : List Attempt) → RisesFrom low h → (a : Attempt) → Contains h a → IsBelow low a.number
+pub rises_low : (low : Number) (h : List Attempt) → RisesFrom low h → (a : Attempt) → Contains h a
+    → IsBelow low a.number
 rises_low low [] r a m = absurd (in_none a m)
 rises_low low (b ∷ h) r a m =
     elim (in_cases a b h m) [
@@ -36,7 +38,8 @@ rises_push low [] a r l past = (l, r)
 rises_push low (b ∷ h) a r l past = (r.0, rises_push b.number h a r.1 (past b (in_head b h)) (λ c m. past c (in_tail c b h m)))
 
 -- an attempt is known by its number
-pub one_of_a_number : (low : Number) (h : List Attempt) → RisesFrom low h → (a b : Attempt) → Contains h a → Contains h b → a.number ≡ b.number → a ≡ b
+pub one_of_a_number : (low : Number) (h : List Attempt) → RisesFrom low h → (a b : Attempt) → Contains h a
+    → Contains h b → a.number ≡ b.number → a ≡ b
 one_of_a_number low [] r a b m n e = absurd (in_none a m)
 one_of_a_number low (c ∷ h) r a b m n e =
     elim (in_cases a c h m) [
@@ -52,11 +55,13 @@ one_of_a_number low (c ∷ h) r a b m n e =
 
 -- ---- one attempt
 
-not_written : (n : Number) (w : Option (Option ℕ)) (c : Content) → is_some w ≡ false → option_map_or (λ v. content_of n v) w c ≡ c
+not_written : (n : Number) (w : Option (Option ℕ)) (c : Content) → is_some w ≡ false
+    → option_map_or (λ v. content_of n v) w c ≡ c
 not_written n None c e = refl
 not_written n (Some v) c e = absurd (true≢false e)
 
-is_written : (n : Number) (w : Option (Option ℕ)) (c : Content) → (w ≡ None) ⊎ ((v : Option ℕ) × (w ≡ Some v) × (option_map_or (λ u. content_of n u) w c ≡ content_of n v))
+is_written : (n : Number) (w : Option (Option ℕ)) (c : Content)
+    → (w ≡ None) ⊎ ((v : Option ℕ) × (w ≡ Some v) × (option_map_or (λ u. content_of n u) w c ≡ content_of n v))
 is_written n None c = inl refl
 is_written n (Some v) c = inr (v, refl, refl)
 
@@ -65,7 +70,8 @@ pub written-writes : (k : Key) (a : Attempt) (v : Option ℕ) → written k a.wr
 written-writes k a v e = ap (λ (w : Option (Option ℕ)). is_some w) e
 
 -- a key among those written has a value that was written
-pub writes-written : (k : Key) (a : Attempt) → writes_key a.writes k ≡ true → (v : Option ℕ) × (written k a.writes ≡ Some v)
+pub writes-written : (k : Key) (a : Attempt) → writes_key a.writes k ≡ true
+    → (v : Option ℕ) × (written k a.writes ≡ Some v)
 writes-written k a e =
     elim (is_written a.number (written k a.writes) nothing) [
       | inl none ↦ absurd (true≢false (sym e ∙ ap (λ (w : Option (Option ℕ)). is_some w) none))
@@ -77,14 +83,16 @@ pub after_writes-not : (k : Key) (a : Attempt) (c : Content) → writes_key a.wr
 after_writes-not k a c e = not_written a.number (written k a.writes) c e
 
 -- an attempt that writes the key leaves its value with its own number
-pub after_writes-value : (k : Key) (a : Attempt) (c : Content) (v : Option ℕ) → written k a.writes ≡ Some v → after_writes k a c ≡ content_of a.number v
+pub after_writes-value : (k : Key) (a : Attempt) (c : Content) (v : Option ℕ) → written k a.writes ≡ Some v
+    → after_writes k a c ≡ content_of a.number v
 after_writes-value k a c v e = ap (λ (w : Option (Option ℕ)). option_map_or (λ u. content_of a.number u) w c) e
 
 -- what one attempt of a list does, if it counts
 abbrev stepped : Bool → Key → Attempt → Content → Content
 stepped b k a c = cond b (after_writes k a c) c
 
-step_nothing : (b : Bool) (k : Key) (a : Attempt) (c : Content) → (b ≡ true → writes_key a.writes k ≡ true → ⊥) → stepped b k a c ≡ c
+step_nothing : (b : Bool) (k : Key) (a : Attempt) (c : Content) → (b ≡ true → writes_key a.writes k ≡ true → ⊥)
+    → stepped b k a c ≡ c
 step_nothing true k a c h = after_writes-not k a c (false_from_ne_true (writes_key a.writes k) (h refl))
 step_nothing false k a c h = refl
 
@@ -102,7 +110,8 @@ step_cases true k a c =
       | inr some ↦ inr (record { value = some.0; written_is = some.1; is = some.2 })
     ]
 
-step_agrees : (x y : Bool) (k : Key) (a : Attempt) (c : Content) → (writes_key a.writes k ≡ true → x ≡ y) → stepped x k a c ≡ stepped y k a c
+step_agrees : (x y : Bool) (k : Key) (a : Attempt) (c : Content) → (writes_key a.writes k ≡ true → x ≡ y)
+    → stepped x k a c ≡ stepped y k a c
 step_agrees x y k a c same =
     elim (cases_Bool (writes_key a.writes k)) [
       | inl writes ↦ ap (λ (b : Bool). stepped b k a c) (same writes)
@@ -118,7 +127,8 @@ after_all-push f k [] a c = refl
 after_all-push f k (b ∷ h) a c = after_all-push f k h a (stepped (f b) k b c)
 
 -- one more that doesn't count changes nothing
-pub after_all-push_not : (f : Attempt → Bool) (k : Key) (h : List Attempt) (a : Attempt) (c : Content) → f a ≡ false → after_all f k (h ++ a ∷ []) c ≡ after_all f k h c
+pub after_all-push_not : (f : Attempt → Bool) (k : Key) (h : List Attempt) (a : Attempt) (c : Content) → f a ≡ false
+    → after_all f k (h ++ a ∷ []) c ≡ after_all f k h c
 after_all-push_not f k h a c e = after_all-push f k h a c ∙ cond-false (f a) (after_writes k a (after_all f k h c)) (after_all f k h c) e
 
 -- only whether the writers of the key count matters
@@ -146,7 +156,13 @@ after_all-version f k (a ∷ h) c =
       | inl stays ↦ elim (step_cases (f a) k a c) [
         | inl same ↦ inl (stays ∙ same)
         | inr wrote ↦ let now = stays ∙ wrote.is in
-            inr (a, in_head a h, sym (ap (λ (d : Content). d.number) now), wrote.written_is ∙ ap (λ (v : Option ℕ). Some v) (sym (ap (λ (d : Content). d.value) now)))
+            inr (
+              a,
+              in_head a h,
+              sym (ap (λ (d : Content). d.number) now),
+              wrote.written_is
+                  ∙ ap (λ (v : Option ℕ). Some v) (sym (ap (λ (d : Content). d.value) now)),
+            )
       ]
       | inr later ↦ inr (later.0, in_tail later.0 a h later.1, later.2, later.3)
     ]
@@ -161,14 +177,22 @@ after_all-counted f k (a ∷ h) c =
         | inl hit ↦ elim (step_cases (f a) k a c) [
           | inl same ↦ inl (stays ∙ same)
           | inr wrote ↦ let now = stays ∙ wrote.is in
-              inr (a, in_head a h, hit, sym (ap (λ (d : Content). d.number) now), wrote.written_is ∙ ap (λ (v : Option ℕ). Some v) (sym (ap (λ (d : Content). d.value) now)))
+              inr (
+                a,
+                in_head a h,
+                hit,
+                sym (ap (λ (d : Content). d.number) now),
+                wrote.written_is
+                    ∙ ap (λ (v : Option ℕ). Some v) (sym (ap (λ (d : Content). d.value) now)),
+              )
         ]
         | inr miss ↦ inl (stays ∙ ap (λ (b : Bool). stepped b k a c) miss)
       ]
       | inr later ↦ inr (later.0, in_tail later.0 a h later.1, later.2, later.3, later.4)
     ]
 
-rises_step : (b : Bool) (k : Key) (a : Attempt) (h : List Attempt) (c : Content) → RisesFrom c.number (a ∷ h) → RisesFrom (stepped b k a c).number h
+rises_step : (b : Bool) (k : Key) (a : Attempt) (h : List Attempt) (c : Content) → RisesFrom c.number (a ∷ h)
+    → RisesFrom (stepped b k a c).number h
 rises_step b k a h c r =
     elim (step_cases b k a c) [
       | inl same ↦ subst (λ (d : Content). RisesFrom d.number h) (sym same) (rises_lower c.number a.number h r.0 r.1)
@@ -176,7 +200,8 @@ rises_step b k a h c r =
     ]
 
 -- numbers at a key rise
-after_all-at_least : (f : Attempt → Bool) (k : Key) (h : List Attempt) (c : Content) → RisesFrom c.number h → IsUpTo c.number (after_all f k h c).number
+after_all-at_least : (f : Attempt → Bool) (k : Key) (h : List Attempt) (c : Content) → RisesFrom c.number h
+    → IsUpTo c.number (after_all f k h c).number
 after_all-at_least f k [] c r = inl refl
 after_all-at_least f k (a ∷ h) c r =
     let below = after_all-at_least f k h (stepped (f a) k a c) (rises_step (f a) k a h c r) in
@@ -198,7 +223,8 @@ after_all-greatest f k (a ∷ h) c r b m counts w =
     elim (in_cases b a h m) [
       | inl is ↦ let v = writes-written k b w in
           let now = ap (λ (x : Attempt). stepped (f x) k x c) is ∙ cond-true (f b) (after_writes k b c) c counts ∙ after_writes-value k b c v.0 v.1 in
-          subst (λ (d : Content). IsUpTo d.number (after_all f k (a ∷ h) c).number) now (after_all-at_least f k h (stepped (f a) k a c) (rises_step (f a) k a h c r))
+          subst (λ (d : Content). IsUpTo d.number (after_all f k (a ∷ h) c).number) now
+          (after_all-at_least f k h (stepped (f a) k a c) (rises_step (f a) k a h c r))
       | inr n ↦ after_all-greatest f k h (stepped (f a) k a c) (rises_step (f a) k a h c r) b n counts w
     ]
 

@@ -1,5 +1,6 @@
 -- What stands at a place, and what was read there before: who reads a place in several steps needs these.
-use Rattle.std.proofs.Common.{◌≡◌, ℕ, ◌⊎◌, inl, inr, Bool, true, false, List, refl, sym, ap, ◌∙◌, subst, Option, Some, None}
+use Rattle.std.proofs.Common.{◌≡◌, ℕ, ◌⊎◌, inl, inr, Bool, true, false, List, refl, sym, ap, ◌∙◌, subst, Option, Some}
+use Rattle.std.proofs.Common.{None}
 use Rattle.std.specs.Prelude.{◌&&◌, Contains, is_some}
 use Rattle.std.proofs.lemmas.Bool.{and_parts}
 use Rattle.serial_model.specs.declared.key.Key.{Key}
@@ -26,14 +27,17 @@ use Rattle.commit_core.specs.Lemmas.Versions.{version_same}
 use Rattle.lists.specs.Elements.{at_in}
 
 -- a decided attempt above the number writes the key
-pub record Overwrites (history : List Attempt) (decided : List Number) (k : Key) (n : Number) (b : Attempt) : Type 0 where
-  pub drawn : Contains history b
-  pub counts : is_decided decided b.number ≡ true
-  pub writes : writes_key b.writes k ≡ true
-  pub above : IsBelow n b.number
+pub record Overwrites (history : List Attempt) (decided : List Number) (k : Key) (n : Number) (b : Attempt) : Type 0
+  where
+    pub drawn : Contains history b
+    pub counts : is_decided decided b.number ≡ true
+    pub writes : writes_key b.writes k ≡ true
+    pub above : IsBelow n b.number
 
 -- what stood at a key, with a number up to that of what decided attempts leave, is that, or is overwritten
-pub version_or : (opening : List (Key × Content)) (h : List Attempt) (decided : List Number) (passes : Number → Bool) (k : Key) (d : Content) → RisesFrom (content_at opening k).number h → IsVersion opening h k d
+pub version_or : (opening : List (Key × Content)) (h : List Attempt) (decided : List Number)
+    (passes : Number → Bool) (k : Key) (d : Content) → RisesFrom (content_at opening k).number h
+    → IsVersion opening h k d
     → IsUpTo d.number (content_after opening h decided passes k).number → (d ≡ content_after opening h decided passes k) ⊎ ((b : Attempt) × Overwrites h decided k d.number b)
 version_or opening h decided passes k d rises is (inl e) =
     inl (version_same opening h k d (content_after opening h decided passes k) rises is (after_all-version (λ a. is_decided decided a.number && passes a.number) k h (content_at opening k)) e)
@@ -62,7 +66,8 @@ IsLeftOrPut opening m k c =
     ((passes : Number → Bool) × Shows m.horizon c (content_after opening m.history m.decided passes k))
     ⊎ ((a : Attempt) × Overwrites m.history m.decided k c.number a)
 
-held_stands : (opening : List (Key × Content)) (m : Story) (p : ℕ) (put : List Key) (k : Key) (c : Content) (stage : Stage)
+held_stands : (opening : List (Key × Content)) (m : Story) (p : ℕ) (put : List Key) (k : Key) (c : Content)
+    (stage : Stage)
     → AttemptStands m.history m.decided (stands m.places m.homes) put p stage → HomeHeld m.horizon opening m.history m.decided put k c stage → IsLeftOrPut opening m k c
 held_stands opening m p put k c Idle a h = inl ((λ _. true), h)
 held_stands opening m p put k c (Trying i) a h = inl ((λ _. true), h.0)
@@ -70,12 +75,23 @@ held_stands opening m p put k c Ended a h = inl ((λ _. true), h)
 held_stands opening m p put k c (Decided i) a h =
     let now = h a.0 a.1.at in by_written now.0.0 now.0.1 (written k a.0.writes) refl (has_key put k) now.0.2
   where
-    by_written : (old : Content) → Shows m.horizon old (state_below opening m.history m.decided a.0.number k) → (o : Option (Option ℕ)) → written k a.0.writes ≡ o → (b : Bool)
+    by_written : (old : Content) → Shows m.horizon old (state_below opening m.history m.decided a.0.number k)
+        → (o : Option (Option ℕ)) → written k a.0.writes ≡ o → (b : Bool)
         → c ≡ half_put b (written k a.0.writes) old → IsLeftOrPut opening m k c
     by_written old shows None e b is =
-        inl ((λ n. is_below n a.0.number), subst (λ (x : Content). Shows m.horizon x (state_below opening m.history m.decided a.0.number k)) (sym (is ∙ ap (λ o. half_put b o old) e)) shows)
+        inl (
+          (λ n. is_below n a.0.number),
+          subst
+              (λ (x : Content). Shows m.horizon x (state_below opening m.history m.decided a.0.number k))
+              (sym (is ∙ ap (λ o. half_put b o old) e)) shows,
+        )
     by_written old shows (Some v) e false is =
-        inl ((λ n. is_below n a.0.number), subst (λ (x : Content). Shows m.horizon x (state_below opening m.history m.decided a.0.number k)) (sym (is ∙ ap (λ o. half_put false o old) e)) shows)
+        inl (
+          (λ n. is_below n a.0.number),
+          subst
+              (λ (x : Content). Shows m.horizon x (state_below opening m.history m.decided a.0.number k))
+              (sym (is ∙ ap (λ o. half_put false o old) e)) shows,
+        )
     by_written old shows (Some v) e true is = inr (
       a.0,
       record {
@@ -87,11 +103,13 @@ held_stands opening m p put k c (Decided i) a h =
     )
 
 -- what stands at a key that nobody holds
-pub free_home_stands : (opening : List (Key × Content)) (m : Story) (k : Key) → IsSoundStory opening m → (stands m.places m.homes k).holder ≡ Free
+pub free_home_stands : (opening : List (Key × Content)) (m : Story) (k : Key) → IsSoundStory opening m
+    → (stands m.places m.homes k).holder ≡ Free
     → IsLeftOrPut opening m k (stands m.places m.homes k).content
 free_home_stands opening m k story free = inl ((λ _. true), story.unlocked_homes k free)
 
 -- what stands at a key that a seat holds
-pub held_home_stands : (opening : List (Key × Content)) (m : Story) (p : ℕ) (s : Seat) (k : Key) → IsSoundSeat opening m p s → holder_is p (stands m.places m.homes k).holder ≡ true
+pub held_home_stands : (opening : List (Key × Content)) (m : Story) (p : ℕ) (s : Seat) (k : Key)
+    → IsSoundSeat opening m p s → holder_is p (stands m.places m.homes k).holder ≡ true
     → IsLeftOrPut opening m k (stands m.places m.homes k).content
 held_home_stands opening m p s k seat mine = held_stands opening m p s.put k (stands m.places m.homes k).content s.stage seat.attempt_stands (seat.locked_homes k mine)

@@ -1,9 +1,8 @@
 -- Digits, by the test of a byte and by value; digits at the front of a text.
-use Rattle.std.proofs.Common.{◌≡◌, ℕ, suc, ◌⊎◌, inl, inr, subst, ◌<◌, Bool, true, false, List, [], ◌∷◌, ◌++◌, take, drop, refl, sym, ap, ◌∙◌, arith}
+use Rattle.std.proofs.Common.{◌≡◌, ℕ, suc, ◌⊎◌, inl, inr, subst, ◌<◌, Bool, true, false, List, [], ◌∷◌, take, refl, sym, ap, ◌∙◌, arith}
 use Rattle.std.specs.Int.{IsInRange}
 use Rattle.std.specs.Char.{digit_value, is_ascii_digit}
 use Rattle.std.specs.Str.Parse.{AllDigits}
-use Rattle.std.specs.Prelude.{⊤}
 use Rattle.std.specs.List.{list_all}
 use Rattle.std.proofs.lemmas.Bool.{and_parts, and_from}
 use Rattle.std.proofs.lemmas.Bool.Decides.{nat_tests}
@@ -40,25 +39,13 @@ len-cons_no b bs e = rw e refl
 abbrev pub digits_at : List ℕ → List ℕ
 digits_at bs = take (digits_len bs) bs
 
--- the bytes behind the digits at the front
-abbrev pub behind_digits : List ℕ → List ℕ
-behind_digits bs = drop (digits_len bs) bs
-
 -- the front grows by a digit
 digits_at-cons_yes : (b : ℕ) (bs : List ℕ) → is_ascii_digit b ≡ true → digits_at (b ∷ bs) ≡ b ∷ digits_at bs
 digits_at-cons_yes b bs e = ap (λ (k : ℕ). take k (b ∷ bs)) (len-cons_yes b bs e)
 
--- what is behind stays under one digit more
-behind_digits-cons_yes : (b : ℕ) (bs : List ℕ) → is_ascii_digit b ≡ true → behind_digits (b ∷ bs) ≡ behind_digits bs
-behind_digits-cons_yes b bs e = ap (λ (k : ℕ). drop k (b ∷ bs)) (len-cons_yes b bs e)
-
 -- no digit at the front, no front
 digits_at-cons_no : (b : ℕ) (bs : List ℕ) → is_ascii_digit b ≡ false → digits_at (b ∷ bs) ≡ []
 digits_at-cons_no b bs e = ap (λ (k : ℕ). take k (b ∷ bs)) (len-cons_no b bs e)
-
--- no digit at the front, all is behind
-behind_digits-cons_no : (b : ℕ) (bs : List ℕ) → is_ascii_digit b ≡ false → behind_digits (b ∷ bs) ≡ b ∷ bs
-behind_digits-cons_no b bs e = ap (λ (k : ℕ). drop k (b ∷ bs)) (len-cons_no b bs e)
 
 -- all of the front are digits
 pub AllDigits-digits_at : (bs : List ℕ) → AllDigits 10 (digits_at bs)
@@ -68,25 +55,6 @@ AllDigits-digits_at (b ∷ bs) =
       | inl digit ↦ subst (AllDigits 10) (sym (digits_at-cons_yes b bs digit)) (digit_below b digit, AllDigits-digits_at bs)
       | inr other ↦ subst (AllDigits 10) (sym (digits_at-cons_no b bs other)) tt
     ]
-
--- no digit stands at the front
-abbrev pub EndsDigits : List ℕ → Type 0
-EndsDigits [] = ⊤
-EndsDigits (b ∷ bs) = is_ascii_digit b ≡ false
-
--- of digits and an end, the front is the digits
-pub digits_at-append : (ds rest : List ℕ) → AllDigits 10 ds → EndsDigits rest → digits_at (ds ++ rest) ≡ ds
-digits_at-append [] [] all ends = refl
-digits_at-append [] (b ∷ rest) all ends = digits_at-cons_no b rest ends
-digits_at-append (d ∷ ds) rest all ends =
-    digits_at-cons_yes d (ds ++ rest) (is_digit d all.0) ∙ ap (λ (xs : List ℕ). d ∷ xs) (digits_at-append ds rest all.1 ends)
-
--- of digits and an end, the end is behind
-pub behind_digits-append : (ds rest : List ℕ) → AllDigits 10 ds → EndsDigits rest → behind_digits (ds ++ rest) ≡ rest
-behind_digits-append [] [] all ends = refl
-behind_digits-append [] (b ∷ rest) all ends = behind_digits-cons_no b rest ends
-behind_digits-append (d ∷ ds) rest all ends =
-    behind_digits-cons_yes d (ds ++ rest) (is_digit d all.0) ∙ behind_digits-append ds rest all.1 ends
 
 -- bytes that all pass the test are their own front
 all_at : (ds : List ℕ) → list_all is_ascii_digit ds ≡ true → digits_at ds ≡ ds

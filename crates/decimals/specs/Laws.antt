@@ -1,16 +1,15 @@
 -- A text that is read as a number is how the number is written, and what is so written is read again.
-use Rattle.std.proofs.Common.{◌≡◌, ◌⊎◌, ◌↔◌, inl, inr, ℕ, zero, suc, ◌^◌, ◌<◌, Bool, true, false, cond, ltb, List, [], ◌∷◌, ◌++◌, length, get_or, Option, Some, None, refl, sym, ap, subst, ◌∙◌, arith}
+use Rattle.std.proofs.Common.{◌≡◌, ◌⊎◌, ◌↔◌, inl, inr, ℕ, zero, suc, ◌^◌, ◌<◌, Bool, true, false, cond, ltb, List, [], ◌∷◌, length, get_or, Option, Some, None, refl, sym, ap, ◌∙◌, arith}
 use Rattle.std.specs.Prelude.{option_map}
 use Rattle.std.specs.Fmt.{decimal}
 use Rattle.std.specs.Char.{is_ascii_digit}
 use Rattle.std.specs.List.{list_all}
 use Rattle.std.specs.Str.Parse.{AllDigits, digits_value}
 use Rattle.std.proofs.lemmas.Bool.{ltb-true, lt-ltb, eqb-false, ne_eqb}
-use Rattle.std.proofs.lemmas.List.{take-append-drop}
 use Rattle.std.proofs.lemmas.Fmt.{decimal-digits_value, digits_decimal, digits_value-decimal, decimal_digit, decimal_nonempty, first_decimal}
 use Rattle.std.proofs.lemmas.Str.Parse.{IsNumeralModel, numerals_by_value, tells_digits}
-use Rattle.decimals.specs.Numbers.{is_misspelled, value_of, digits_number, number_of, number_at}
-use Rattle.decimals.specs.Digits.{digits_at, behind_digits, AllDigits-digits_at, AllDigits-all, all_digits, EndsDigits, digits_at-append, behind_digits-append}
+use Rattle.decimals.specs.Numbers.{is_misspelled, value_of, digits_number, number_of}
+use Rattle.decimals.specs.Digits.{AllDigits-all, all_digits}
 
 -- a choice that finds something passed its test
 chosen : {A : Type 0} (b : Bool) (o : Option A) (y : A) → cond b o None ≡ Some y → (b ≡ true) × (o ≡ Some y)
@@ -74,22 +73,6 @@ digits_number_takes ds n all e =
 pub digits_number_again : (n : ℕ) → n < 2 ^ 64 → digits_number (decimal n) ≡ Some n
 unfolding digits_number value_of
 digits_number_again n lt = rw (decimal_well_spelled n lt, digits_value-decimal own n lt, lt-ltb n (2 ^ 64) lt) refl
-
--- a number that is read is spelled so
-pub number_takes : (bs : List ℕ) (n : ℕ) (rest : List ℕ) → number_at bs ≡ Some (n, rest) → (bs ≡ decimal n ++ rest) × (n < 2 ^ 64)
-unfolding number_at
-number_takes bs n rest e =
-    let b = mapped (λ m. (m, behind_digits bs)) (digits_number (digits_at bs)) (n, rest) e in
-    let t = digits_number_takes (digits_at bs) b.0 (AllDigits-digits_at bs) b.1 in
-    let whole : bs ≡ decimal b.0 ++ behind_digits bs = sym (take-append-drop _ bs) ∙ ap (λ (ds : List ℕ). ds ++ behind_digits bs) t.0 in
-    subst (λ (x : ℕ × List ℕ). (bs ≡ decimal x.0 ++ x.1) × (x.0 < 2 ^ 64)) b.2 (whole, t.1)
-
--- a spelled number is read again
-pub number_again : (n : ℕ) (rest : List ℕ) → n < 2 ^ 64 → EndsDigits rest → number_at (decimal n ++ rest) ≡ Some (n, rest)
-unfolding number_at
-number_again n rest lt ends =
-    let all : AllDigits 10 (decimal n) = digits_decimal own n lt in
-    rw (digits_at-append (decimal n) rest all ends, behind_digits-append (decimal n) rest all ends, digits_number_again n lt) refl
 
 -- bytes that are read as a number are how it is written
 pub number_of_takes : (bytes : List ℕ) (n : ℕ) → number_of bytes ≡ Some n → (bytes ≡ decimal n) × (n < 2 ^ 64)

@@ -25,9 +25,6 @@ use Rattle.drop_core.proofs.Conditions.{CanInstallInner}
 use Rattle.drop_core.proofs.Repoints.{slot-same, slot-other, passes-same, pointer-same, pointer-other, span-same, holder-same}
 use Rattle.drop_core.proofs.PageLaws.{page_ties-same}
 
-in_in : (a b : Spot) → In a ≡ In b → a ≡ b
-in_in a b e = cc
-
 none_some : (t : ℕ) → None ≡ Some t → ⊥
 none_some t e = cc
 

@@ -1,6 +1,6 @@
 -- Look-ups, item by item.
 use Rattle.std.proofs.Common.{◌≡◌, ℕ, zero, suc, ◌+◌, ◌-◌, ◌<◌, Bool, true, false, ◌&&◌, List, [], ◌∷◌, ◌++◌, length, take, drop, get_or, refl, sym, ap, ◌∙◌, subst, arith, Option, Some, None}
-use Rattle.std.proofs.lemmas.Bool.{cond-true, cond-false}
+use Rattle.std.proofs.lemmas.Bool.{cond-true}
 use Rattle.std.proofs.lemmas.Grind.{common_steps}
 use Rattle.std.proofs.lemmas.List.{drop_more, take_more}
 use Rattle.std.specs.List.{find}
@@ -40,39 +40,17 @@ entry-here n xs k i d lt so hit =
     sym (so ∙ ap (λ (l : List (Key × Content)). entry_home n l k) (drop_more xs i d lt)
     ∙ cond-true (same_key (get_or xs i d).0 k) (InPage n (get_or xs i d).1) (entry_home n (drop (i + 1) xs) k) hit)
 
-pub entry-further : (n : ℕ) (xs : List (Key × Content)) (k : Key) (i : ℕ) (d : Key × Content) → i < length xs → entry_home n xs k ≡ entry_home n (drop i xs) k
-    → same_key (get_or xs i d).0 k ≡ false → entry_home n xs k ≡ entry_home n (drop (i + 1) xs) k
-entry-further n xs k i d lt so miss =
-    so ∙ ap (λ (l : List (Key × Content)). entry_home n l k) (drop_more xs i d lt)
-    ∙ cond-false (same_key (get_or xs i d).0 k) (InPage n (get_or xs i d).1) (entry_home n (drop (i + 1) xs) k) miss
-
 pub child-here : (xs : List (Span × ℕ)) (k : Key) (i : ℕ) (d : Span × ℕ) → i < length xs → child_of xs k ≡ child_of (drop i xs) k
     → in_span (get_or xs i d).0 k ≡ true → (get_or xs i d).1 ≡ child_of xs k
 child-here xs k i d lt so hit =
     sym (so ∙ ap (λ (l : List (Span × ℕ)). child_of l k) (drop_more xs i d lt)
     ∙ cond-true (in_span (get_or xs i d).0 k) (get_or xs i d).1 (child_of (drop (i + 1) xs) k) hit)
 
-pub child-further : (xs : List (Span × ℕ)) (k : Key) (i : ℕ) (d : Span × ℕ) → i < length xs → child_of xs k ≡ child_of (drop i xs) k
-    → in_span (get_or xs i d).0 k ≡ false → child_of xs k ≡ child_of (drop (i + 1) xs) k
-child-further xs k i d lt so miss =
-    so ∙ ap (λ (l : List (Span × ℕ)). child_of l k) (drop_more xs i d lt)
-    ∙ cond-false (in_span (get_or xs i d).0 k) (get_or xs i d).1 (child_of (drop (i + 1) xs) k) miss
-
 pub key-here : (s : ℕ) (xs : List Key) (k : Key) (i : ℕ) (d : Key) → i < length xs → leaf_home s 0 xs k ≡ leaf_home s i (drop i xs) k
     → same_key (get_or xs i d) k ≡ true → InSlot (record { slot = s; index = i }) ≡ leaf_home s 0 xs k
 key-here s xs k i d lt so hit =
     sym (so ∙ ap (λ (l : List Key). leaf_home s i l k) (drop_more xs i d lt)
     ∙ cond-true (same_key (get_or xs i d) k) (InSlot (record { slot = s; index = i })) (leaf_home s (suc i) (drop (i + 1) xs) k) hit)
-
-pub key-further : (s : ℕ) (xs : List Key) (k : Key) (i : ℕ) (d : Key) → i < length xs → leaf_home s 0 xs k ≡ leaf_home s i (drop i xs) k
-    → same_key (get_or xs i d) k ≡ false → leaf_home s 0 xs k ≡ leaf_home s (i + 1) (drop (i + 1) xs) k
-key-further s xs k i d lt so miss =
-    so ∙ ap (λ (l : List Key). leaf_home s i l k) (drop_more xs i d lt)
-    ∙ cond-false (same_key (get_or xs i d) k) (InSlot (record { slot = s; index = i })) (leaf_home s (suc i) (drop (i + 1) xs) k) miss
-    ∙ ap (λ (j : ℕ). leaf_home s j (drop (i + 1) xs) k) (next i)
-  where
-    next : (i : ℕ) → suc i ≡ i + 1
-    next i = omega arith
 
 -- ---- one number more
 

@@ -91,12 +91,6 @@ free_is Dead e = absurd (true≢false (sym e))
 leaf_split : (keys : List Key) → Leaf keys ≡ Split → ⊥
 leaf_split keys e = cc
 
-inner_split : (n : ℕ) → Inner n ≡ Split → ⊥
-inner_split n e = cc
-
-blank_split : Blank ≡ Split → ⊥
-blank_split e = cc
-
 -- the pointers of an interior page that may stand for another are open
 open_children : (d : Table) (s n : ℕ) (span : Span) (count : ℕ) → stands_for d s n span (Inner count) ≡ true
     → all_below count (λ i. is_free (child d s i).holder) ≡ true

@@ -1,5 +1,5 @@
 -- Homes in a leaf of a slot, and in snapshot pages. Crates above cite these laws too.
-use Rattle.std.proofs.Common.{◌≡◌, ℕ, zero, suc, ◌≤◌, Bool, true, false, true≢false, ◌||◌, inl, inr, List, [], ◌∷◌, refl, sym, ap, ◌∙◌, arith}
+use Rattle.std.proofs.Common.{◌≡◌, ℕ, zero, suc, ◌≤◌, true, false, true≢false, inl, inr, List, [], ◌∷◌, refl, sym, ap, ◌∙◌, arith}
 use Rattle.std.proofs.lemmas.Bool.{cases_Bool, or_left, or_right, cond-true, cond-false, false_from_ne_true}
 use Rattle.serial_model.specs.declared.key.Key.{Key}
 use Rattle.homes.specs.declared.places.Content.{Content}
@@ -7,7 +7,6 @@ use Rattle.homes.specs.declared.places.Spot.{Spot}
 use Rattle.homes.specs.declared.places.Home.{Home}
 use Rattle.homes.specs.declared.places.Home.TheVariants.{InSlot, InPage, Nowhere}
 use Rattle.homes.specs.Homes.{same_key, has_key}
-use Rattle.homes.specs.Laws.{same_key-true}
 use Rattle.drop_core.specs.declared.table.SnapPage.{SnapPage}
 use Rattle.drop_core.specs.declared.table.SnapPage.TheVariants.{Missing, Entries, Children}
 use Rattle.drop_core.specs.declared.table.Table.{Table}
@@ -55,20 +54,6 @@ snap-fixed d n k = walk-fixed n (snap_of d) n k
 
 -- ---- leaves
 
--- where a key of the leaf is
-pub leaf-has : (s i : ℕ) (keys : List Key) (k : Key) → has_key keys k ≡ true
-    → (y : Spot) × (leaf_home s i keys k ≡ InSlot y)
-leaf-has s i [] k hit = absurd (true≢false (sym hit))
-leaf-has s i (x ∷ more) k hit =
-    elim (cases_Bool (same_key x k)) [
-      | inl e ↦ (record { slot = s; index = i }, cond-true (same_key x k) (leaf_place s i) (leaf_home s (suc i) more k) e)
-      | inr e ↦ let r = leaf-has s (suc i) more k (sym (or_false (same_key x k) (has_key more k) e) ∙ hit) in
-          (r.0, cond-false (same_key x k) (leaf_place s i) (leaf_home s (suc i) more k) e ∙ r.1)
-    ]
-  where
-    or_false : (a b : Bool) → a ≡ false → (a || b) ≡ b
-    or_false a b e = rw e refl
-
 -- a key that isn't in the leaf has no home there
 pub leaf-none : (s i : ℕ) (keys : List Key) (k : Key) → has_key keys k ≡ false → leaf_home s i keys k ≡ Nowhere
 leaf-none s i [] k miss = refl
@@ -104,31 +89,3 @@ leaf-in s i (x ∷ more) k y e =
             there = or_right (same_key x k) (has_key more k) r.there;
           }
     ]
-
--- two keys have two places
-pub leaf-apart : (s i : ℕ) (keys : List Key) (k q : Key) (y : Spot)
-    → leaf_home s i keys k ≡ InSlot y → leaf_home s i keys q ≡ InSlot y → k ≡ q
-leaf-apart s i [] k q y e f = absurd (nowhere_not y e)
-leaf-apart s i (x ∷ more) k q y e f =
-    elim (cases_Bool (same_key x k)) [
-      | inl hit ↦ elim (cases_Bool (same_key x q)) [
-        | inl hit' ↦ sym (same_key-true x k hit) ∙ same_key-true x q hit'
-        | inr miss' ↦ absurd (first (at_first k hit e) (leaf-in s (suc i) more q y (at_later q miss' f)).from)
-      ]
-      | inr miss ↦ elim (cases_Bool (same_key x q)) [
-        | inl hit' ↦ absurd (first (at_first q hit' f) (leaf-in s (suc i) more k y (at_later k miss e)).from)
-        | inr miss' ↦ leaf-apart s (suc i) more k q y (at_later k miss e) (at_later q miss' f)
-      ]
-    ]
-  where
-    at_first : (k : Key) → same_key x k ≡ true → leaf_home s i (x ∷ more) k ≡ InSlot y → i ≡ y.index
-    at_first k hit e = ap (λ (z : Spot). z.index) (slot_home (record { slot = s; index = i }) y
-        (sym (cond-true (same_key x k) (leaf_place s i) (leaf_home s (suc i) more k) hit) ∙ e))
-
-    at_later : (k : Key) → same_key x k ≡ false → leaf_home s i (x ∷ more) k ≡ InSlot y
-        → leaf_home s (suc i) more k ≡ InSlot y
-    at_later k miss e =
-        sym (cond-false (same_key x k) (leaf_place s i) (leaf_home s (suc i) more k) miss) ∙ e
-
-    first : i ≡ y.index → suc i ≤ y.index → ⊥
-    first e l = absurd (omega arith)

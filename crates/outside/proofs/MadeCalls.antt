@@ -1,11 +1,9 @@
 -- How the crash images of a disk in memory go on at a call.
-use Rattle.std.proofs.Common.{◌≡◌, inl, inr, ℕ, ◌+◌, ◌-◌, ◌*◌, ◌<◌, ◌≤◌, ◌^◌, Bool, true, false, List, [], ◌∷◌, ◌++◌, length, length-append, Result, Ok, Err, sym, ap, subst, arith}
+use Rattle.std.proofs.Common.{◌≡◌, inl, inr, ℕ, ◌+◌, ◌-◌, ◌*◌, ◌<◌, ◌≤◌, ◌^◌, Bool, List, [], ◌∷◌, ◌++◌, length, length-append, Result, Ok, Err, sym, ap, subst, arith}
 use Rattle.outside.specs.declared.call.Call.{Call}
-use Rattle.outside.specs.declared.call.Made.{Made}
 use Rattle.outside.specs.declared.memory_disk.MemDisk.{MemDisk}
 use Rattle.outside.specs.Disk.{Goes, LeavesEach, Calls}
 use Rattle.outside.specs.Faults.{Rose}
-use Rattle.outside.specs.Listed.{GrewBy, IsRecorded}
 use Rattle.outside.specs.MemoryDisk.{clock_of, image_of, faults_of}
 use Rattle.outside.specs.Replay.{step_of, IsLoose, read_through, LeftAfter, LeavesLast, IsImage, moments_of}
 use Rattle.outside.proofs.Replays.{turn, more, goes_more, each_within, each_more, left_last}
@@ -26,23 +24,6 @@ pub each_none : (step : List ℕ → List ℕ → Type 0) (old new : MemDisk)
     → LeavesEach clock_of image_of step old new end
 each_none step old new calls end le = record {
   each = λ m d c gt to was step. absurd (omega (arith, ap length calls));
-}
-
--- a record that grew by one call grew by one of a wider kind
-grew_by : (P Q : Call → Type 0) (failed : Bool) (old new : List Made) → ((call : Call) → P call → Q call) → GrewBy P failed old new → GrewBy Q failed old new
-grew_by P Q failed old new to grew = (grew.0, to grew.0 grew.1, grew.2)
-
--- and so what is recorded of it
-pub recorded_by : {T E : Type 0} (P Q : Call → Type 0) (fails : List ℕ) (old new : List Made) (result : Result T E) → ((call : Call) → P call → Q call)
-    → IsRecorded P fails old new result → IsRecorded Q fails old new result
-recorded_by P Q fails old new (Ok done) to made =
-    record { done = (made.done.0, grew_by P Q false old new to made.done.1); failed = tt }
-recorded_by P Q fails old new (Err error) to made = record {
-  done = tt;
-  failed = elim made.failed [
-    | inl failed ↦ inl (failed.0, grew_by P Q true old new to failed.1)
-    | inr none ↦ inr none
-  ];
 }
 
 -- what such a call does

@@ -1,10 +1,10 @@
 -- What all images of a moment begin with, and what the calls of a disk leave of it.
-use Rattle.std.specs.Prelude.{◌≡◌, ◌≤◌, ℕ, List, [], length, take}
+use Rattle.std.specs.Prelude.{◌≡◌, ◌≤◌, ℕ, List, length, take}
 use Rattle.std.proofs.Common.{inl, inr, ap, sym, ◌∙◌, arith}
 use Rattle.std.proofs.lemmas.Bool.{cases_lt}
 use Rattle.std.proofs.lemmas.List.{take-take}
-use Rattle.lists.specs.Fronts.{IsFront, front_none, front_then}
-use Rattle.outside.specs.Disk.{Torn, Shortened, Same, Goes}
+use Rattle.lists.specs.Fronts.{IsFront, front_then}
+use Rattle.outside.specs.Disk.{Torn, Same, Goes}
 
 -- all images of a moment begin with these bytes
 abbrev pub AllBegin : (List ℕ → Type 0) → List ℕ → Type 0
@@ -24,10 +24,6 @@ AgreesOn images made = (front : List ℕ) → AllBegin images front → IsFront 
 abbrev pub KeepsSince : {D : Type 0} → (clock : D → ℕ) → (image_at : D → ℕ → List ℕ → Type 0) → D → ℕ → List ℕ → Type 0
 KeepsSince clock image_at disk since made = (m : ℕ) (c : List ℕ) → since ≤ m → m ≤ clock disk → image_at disk m c → IsFront made c
 
--- all images begin with nothing
-pub begins_none : (images : List ℕ → Type 0) → AllBegin images []
-begins_none images c image = front_none c
-
 -- and with less than what they begin with
 pub begins_less : (images : List ℕ → Type 0) (less made : List ℕ) → AllBegin images made → IsFront less made → AllBegin images less
 begins_less images less made all front c image = front_then less made c front (all c image)
@@ -45,11 +41,6 @@ pub begins_torn : (size at count : ℕ) (old new : List ℕ) → size ≤ at →
 begins_torn size at count old new within torn =
     sym (take-take size at new within) ∙ ap (take size) torn.before ∙ take-take size at old within
 
--- and so does a cut behind them
-pub begins_shortened : (size len : ℕ) (old new : List ℕ) → size ≤ len → Shortened len old new → take size new ≡ take size old
-begins_shortened size len old new within cut =
-    sym (take-take size len new within) ∙ ap (take size) cut.front ∙ take-take size len old within
-
 module _ {D : Type 0} {clock : D → ℕ} {image_at : D → ℕ → List ℕ → Type 0} where
   -- a call whose step leaves those bytes
   pub keeps_call : {step : List ℕ → List ℕ → Type 0} {old new : D} {since : ℕ} {made : List ℕ} → ((d c : List ℕ) → step d c → take (length made) c ≡ take (length made) d)
@@ -66,12 +57,6 @@ module _ {D : Type 0} {clock : D → ℕ} {image_at : D → ℕ → List ℕ →
       → Goes clock image_at (Torn at count) old new → KeepsSince clock image_at old since made → KeepsSince clock image_at new since made
   keeps_torn {at = at} {count = count} {made = made} within =
       keeps_call (λ d c torn. begins_torn (length made) at count d c within torn)
-
-  -- a cut behind them, done or in part
-  pub keeps_shortened : {len : ℕ} {old new : D} {since : ℕ} {made : List ℕ} → length made ≤ len → since ≤ clock old
-      → Goes clock image_at (Shortened len) old new → KeepsSince clock image_at old since made → KeepsSince clock image_at new since made
-  keeps_shortened {len = len} {made = made} within =
-      keeps_call (λ d c cut. begins_shortened (length made) len d c within cut)
 
   -- a call that changes nothing
   pub keeps_same : {old new : D} {since : ℕ} {made : List ℕ} → since ≤ clock old

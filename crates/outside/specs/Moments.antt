@@ -50,10 +50,6 @@ module _ {D : Type 0} {clock : D → ℕ} {image_at : D → ℕ → List ℕ →
   pub runs_step : {step : List ℕ → List ℕ → Type 0} {old new : D} {file : List ℕ} → Only clock image_at old file → Goes clock image_at step old new → Runs clock image_at old new (step file)
   runs_step {step = step} only goes = runs_call (λ d c was is. subst (λ b. step b c) (only d was) is) goes
 
-  -- a call that changes nothing, from the one content that a stop could leave
-  pub runs_same : {old new : D} {file : List ℕ} → Goes clock image_at Same old new → Only clock image_at old file → Runs clock image_at old new (λ c. c ≡ file)
-  runs_same goes only = runs_call (λ d c was is. sym is ∙ only d was) goes
-
   -- what a stop leaves as a call has returned
   pub left_after : {step : List ℕ → List ℕ → Type 0} {old new : D} (c : List ℕ) → Goes clock image_at step old new → image_at new (clock new) c → image_at old (clock old) c ⊎ ((d : List ℕ) × image_at old (clock old) d × step d c)
   left_after {old = old} {new = new} c goes left = elim (cases_lt (clock old) (clock new)) [
@@ -75,13 +71,6 @@ module _ {D : Type 0} {clock : D → ℕ} {image_at : D → ℕ → List ℕ →
   -- a call that changes nothing settles nothing and unsettles nothing
   pub only_same : {old new : D} {file : List ℕ} → Goes clock image_at Same old new → Only clock image_at old file → Only clock image_at new file
   only_same goes only c left = ⊎_elim (λ was. only c was) (λ was. sym was.2 ∙ only was.0 was.1) (left_after c goes left)
-
-  -- and what is settled stays so
-  pub settled_same : {tells : D → Option (List ℕ)} {old new : D} {file : List ℕ} → Goes clock image_at Same old new → tells new ≡ tells old → IsSettled tells clock image_at old file → IsSettled tells clock image_at new file
-  settled_same goes tells settled = record {
-    told = tells ∙ settled.told;
-    only = only_same goes settled.only;
-  }
 
   -- what is told of a settled disk
   pub told_is : {tells : D → Option (List ℕ)} {disk : D} {file bytes : List ℕ} → IsSettled tells clock image_at disk file → tells disk ≡ Some bytes → bytes ≡ file

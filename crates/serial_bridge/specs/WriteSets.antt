@@ -1,11 +1,10 @@
 -- What attempts write: the write sets of their transactions, and attempts behind others.
-use Rattle.std.specs.Prelude.{◌≡◌, ℕ, false, List, [], ◌∷◌, ◌++◌, map, Some, Contains, ⊤}
+use Rattle.std.specs.Prelude.{◌≡◌, List, [], ◌∷◌, ◌++◌, map, Some, Contains, ⊤}
 use Rattle.std.specs.List.{AllByRecursion}
 use Rattle.std.specs.FinMap.{get}
 use Rattle.serial_model.specs.declared.decl.Decl.{Decl}
 use Rattle.serial_model.specs.declared.key.Key.{Key}
 use Rattle.serial_model.specs.declared.number.Change.{Change}
-use Rattle.serial_model.specs.Keys.{is_tree}
 use Rattle.serial_model.specs.State.{State}
 use Rattle.serial_model.specs.History.{Entry, state_after}
 use Rattle.serial_model.specs.WriteSet.{write_set}
@@ -15,10 +14,6 @@ use Rattle.commit_core.specs.Keys.{content_at, written}
 use Rattle.commit_core.specs.Serial.{ReadsAreSerial, ReadsFrom}
 use Rattle.serial_bridge.specs.Transaction.{IsAttemptOf, AreAttemptsOf}
 use Rattle.serial_bridge.specs.Bridge.{Agrees, RunsSerially, after_attempts}
-
--- none of the declared storages is a tree
-abbrev pub HasNoTree : List Decl → Type 0
-HasNoTree decls = (storage : ℕ) → is_tree decls storage ≡ false
 
 -- each of the writes is the one that counts at its key, as where their keys rise
 abbrev pub EachCounts : List Change → Type 0

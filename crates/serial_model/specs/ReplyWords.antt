@@ -3,7 +3,7 @@ use Rattle.std.specs.Prelude.{◌≡◌, ℕ, zero, suc, ◌+◌, ◌-◌, ◌*�
 use Rattle.std.specs.List.{flat_map}
 use Rattle.std.proofs.Common.{refl, sym, ap, ◌∙◌, arith, inl, inr, length-append, append_assoc}
 use Rattle.std.proofs.lemmas.Bool.{cases_Bool, lt-ltb, le-ltb}
-use Rattle.std.proofs.lemmas.List.{take_at, drop_at, append-nil}
+use Rattle.std.proofs.lemmas.List.{take_at, drop_at}
 use Rattle.serial_model.specs.declared.reply.Reply.{Reply}
 use Rattle.serial_model.specs.declared.reply.Reply.TheVariants.{Value, Absent, Rows}
 
@@ -123,10 +123,6 @@ pub replies_words-append : (xs ys : List Reply) → replies_words (xs ++ ys) ≡
 replies_words-append [] ys = refl
 replies_words-append (x ∷ xs) ys =
     ap (λ (rest : List ℕ). reply_words x ++ rest) (replies_words-append xs ys) ∙ sym (append_assoc (reply_words x) (replies_words xs) (replies_words ys))
-
--- the words of one reply more
-pub replies_words-push : (rs : List Reply) (r : Reply) → replies_words (rs ++ r ∷ []) ≡ replies_words rs ++ reply_words r
-replies_words-push rs r = replies_words-append rs (r ∷ []) ∙ ap (λ (l : List ℕ). replies_words rs ++ l) (append-nil (reply_words r))
 
 -- words of replies, and those of more replies behind them
 pub are_appended : (words : List ℕ) (more : List Reply) → AreReplyWords words

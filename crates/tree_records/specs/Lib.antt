@@ -1,4 +1,3 @@
 pub mod Reads
 pub mod Held
 pub mod ReadLaws
-pub mod Places

@@ -1,13 +1,11 @@
 -- What follows from the first load of a read.
-use Rattle.std.specs.Prelude.{◌≡◌, ℕ, ◌+◌, not, List, [], ◌∷◌, filter, Option, Some, None}
-use Rattle.std.proofs.Common.{inl, inr, true≢false, sym, ap, ◌∙◌, arith}
+use Rattle.std.specs.Prelude.{◌≡◌, ℕ, not, List, [], ◌∷◌, filter, None}
+use Rattle.std.proofs.Common.{inl, inr, true≢false, sym, ap, ◌∙◌}
 use Rattle.lists.specs.Elements.{filter_only, in_push_cases}
 use Rattle.serial_model.specs.declared.key.Key.{Key}
 use Rattle.serial_model.specs.declared.number.Number.{Number}
 use Rattle.homes.specs.declared.places.Content.{Content}
 use Rattle.homes.specs.declared.places.Spot.{Spot}
-use Rattle.wire_form.specs.Leaves.{tree_leaf}
-use Rattle.wire_form.specs.Words.{absent_field, number_word}
 use Rattle.commit_core.specs.declared.attempt.Attempt.{Attempt}
 use Rattle.commit_core.specs.declared.part.Part.{Part}
 use Rattle.commit_core.specs.declared.part.Word.TheVariants.{Record}
@@ -15,9 +13,8 @@ use Rattle.commit_core.specs.Keys.{nothing}
 use Rattle.commit_core.specs.Lemmas.Keys.{same_word-self}
 use Rattle.commit_core.specs.Parts.{record_part, same_word}
 use Rattle.engine_pages.specs.declared.view.View.{View}
-use Rattle.page_records.specs.Locks.{IsOpenWord}
 use Rattle.page_records.specs.Reads.{saw}
-use Rattle.tree_records.specs.Reads.{IsKeptThere, SawTreeFree}
+use Rattle.tree_records.specs.Reads.{IsKeptThere}
 
 -- the content of the first pair
 abbrev first_content : List (Key × Content) → Content
@@ -36,13 +33,3 @@ saw_there all chosen k x c at n v there d has none =
       | inr new ↦
           there (ap (λ (z : Content). z.value) (ap (λ (p : Part). first_content p.pairs) new) ∙ none)
     ]
-
--- its word is one without a lock
-pub saw_open : (k : Key) (x : Spot) (at : ℕ) (v : View) (n : ℕ) (w : View) → SawTreeFree k x at v n w → IsOpenWord n
-saw_open k x at v n w s = by_value s.content.value s.word
-  where
-    by_value : (o : Option ℕ) → number_word s.content.number + absent_field tree_leaf o ≡ n → IsOpenWord n
-    by_value None word =
-        let draw = s.small.draw in let epoch = s.small.epoch in inr (omega (arith, word), omega (arith, word, draw, epoch))
-    by_value (Some i) word =
-        let draw = s.small.draw in let epoch = s.small.epoch in inl (omega (arith, word, draw, epoch))

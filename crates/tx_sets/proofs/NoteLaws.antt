@@ -1,6 +1,6 @@
 -- Notes of which slots are held.
-use Rattle.std.proofs.Common.{◌≡◌, ℕ, ◌<◌, ◌==◌, ◌||◌, Bool, true, false, true≢false, inl, inr, refl}
-use Rattle.std.proofs.Common.{List, [], ◌∷◌, ◌++◌, length, get_or, sym, ap, ◌∙◌, subst, arith}
+use Rattle.std.proofs.Common.{◌≡◌, ℕ, ◌<◌, ◌==◌, ◌||◌, Bool, true, false, inl, inr, refl}
+use Rattle.std.proofs.Common.{List, [], ◌∷◌, ◌++◌, get_or, sym, ap, ◌∙◌, subst, arith}
 use Rattle.std.proofs.Math.ListN.{replicate}
 use Rattle.std.specs.List.{list_any}
 use Rattle.std.proofs.lemmas.Bool.{cases_Bool}
@@ -48,30 +48,3 @@ more_noted old new slots all slot put was is = record {
 -- what is noted is one of those from here on
 abbrev pub IsLeft : List Bool → List ℕ → Type 0
 IsLeft noted left = (t : ℕ) → t < 4096 → get_or noted t false ≡ true → list_any (λ s. s == t) left ≡ true
-
--- so it is at first
-pub left_first : (noted : List Bool) (slots : List ℕ) → AreNoted noted slots → IsLeft noted slots
-left_first noted slots was t less is = sym (was.each t less) ∙ is
-
--- without the first of them
-pub left_less : (old new : List Bool) (slot : ℕ) (left : List ℕ) → IsLeft old (slot ∷ left) → IsNoted slot false old new
-    → IsLeft new left
-left_less old new slot left was is t less on = elim (cases_Bool (slot == t)) [
-  | inl same ↦
-      let here : slot ≡ t = grind (arith, nat_tests) in
-      absurd (true≢false (sym on ∙ subst (λ u. get_or new u false ≡ false) here
-      (is.here (subst (λ u. u < 4096) (sym here) less))))
-  | inr other ↦
-      let found = was t less (sym (is.others t less other) ∙ on) in
-      subst (λ b. (b || list_any (λ s. s == t) left) ≡ true) other found
-]
-
--- and where none is left nothing is noted
-pub left_none : (noted : List Bool) → length noted ≡ 4096 → IsLeft noted [] → AreNoted noted []
-left_none noted many none = record {
-  many = many;
-  each = λ t less. elim (cases_Bool (get_or noted t false)) [
-    | inl on ↦ absurd (true≢false (sym (none t less on)))
-    | inr off ↦ off
-  ];
-}

@@ -1,5 +1,5 @@
 -- Lists of what a function gives for the numbers below one, as of each seat by its number: laws in place of cases.
-use Rattle.std.proofs.Common.{◌≡◌, ℕ, zero, suc, ◌<◌, cond, eqb, List, [], ◌∷◌, length, set, refl, ap, ◌∙◌, arith, Some}
+use Rattle.std.proofs.Common.{◌≡◌, ℕ, zero, suc, ◌<◌, cond, eqb, List, [], ◌∷◌, set, refl, ap, ◌∙◌, arith, Some}
 use Rattle.std.proofs.Common.{true, false, true≢false, eqb-true, eq-eqb, sym, inl, inr}
 use Rattle.std.specs.List.{slice_get}
 use Rattle.std.proofs.lemmas.Bool.{cases_Bool, cond-false}
@@ -13,22 +13,11 @@ each_below (suc n) f = f zero ∷ each_below n (λ i. f (suc i))
 abbrev pub put_at : {A : Type 0} → (ℕ → A) → ℕ → A → ℕ → A
 put_at f p x q = cond (eqb q p) x (f q)
 
--- there are so many
-pub length_each : {A : Type 0} (n : ℕ) (f : ℕ → A) → length (each_below n f) ≡ n
-length_each zero f = refl
-length_each (suc n) f = ap suc (length_each n (λ i. f (suc i)))
-
 -- each stands at its number
 pub at_each : {A : Type 0} (n : ℕ) (f : ℕ → A) (p : ℕ) → p < n → slice_get (each_below n f) p ≡ Some (f p)
 at_each zero f p few = absurd (omega arith)
 at_each (suc n) f zero few = refl
 at_each (suc n) f (suc p) few = at_each n (λ i. f (suc i)) p (omega arith)
-
--- and nothing stands elsewhere
-pub in_each : {A : Type 0} (n : ℕ) (f : ℕ → A) (p : ℕ) (x : A) → slice_get (each_below n f) p ≡ Some x → p < n
-in_each zero f p x e = absurd (cc)
-in_each (suc n) f zero x e = omega arith
-in_each (suc n) f (suc p) x e = let below = in_each n (λ i. f (suc i)) p x e in omega arith
 
 -- ---- another value at one number
 

@@ -32,14 +32,6 @@ module _ {A : Type 0} where
     pub each : (P : A → Type 0) → AllByRecursion P xs → AllByRecursion P after → AllByRecursion P ys
     pub were : (P : A → Type 0) → AllByRecursion P xs → AllByRecursion P before
 
-  -- one becomes another
-  pub one_changes : (xs : List A) (i : ℕ) (v w : A) → get_elem? xs i ≡ some v → Change (v ∷ []) (w ∷ []) xs (set xs i w)
-  one_changes xs i v w at = record {
-    sums = λ f. omega (arith, total-set f xs i v w at);
-    each = λ P each new. each_set P xs i w each new.0;
-    were = λ P each. (each_at P xs i v each at, tt);
-  }
-
   -- one is cut in two
   pub one_splits : (xs : List A) (i : ℕ) (v left right : A) → get_elem? xs i ≡ some v
       → Change (v ∷ []) (left ∷ right ∷ []) xs (set xs i left ++ right ∷ [])

@@ -1,6 +1,6 @@
 -- Sums over lists, and how often a number stands in one.
 use Rattle.std.proofs.Common.{◌≡◌, ℕ, zero, suc, ◌+◌, ◌==◌, ◌≤◌, Bool, true, false, cond, eqb, List, [], ◌∷◌, ◌++◌}
-use Rattle.std.proofs.Common.{length, set, refl, ap, arith}
+use Rattle.std.proofs.Common.{set, refl, ap, arith}
 use Rattle.std.specs.List.{AllByRecursion}
 use Rattle.std.proofs.lemmas.Bool.Decides.{nat_tests}
 use mathlib.Core.Option.{some, some-injective, some-ne-none}
@@ -41,10 +41,6 @@ module _ {A : Type 0} where
   pub total_none : (f : A → ℕ) (xs : List A) → ((x : A) → f x ≡ 0) → total f xs ≡ 0
   total_none f [] each = refl
   total_none f (x ∷ xs) each = omega (arith, each x, total_none f xs each)
-
-  pub total_ones : (xs : List A) → total (λ _. 1) xs ≡ length xs
-  total_ones [] = refl
-  total_ones (x ∷ xs) = omega (arith, total_ones xs)
 
 -- ---- how often
 

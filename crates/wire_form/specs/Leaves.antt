@@ -1,8 +1,6 @@
 -- How many records and pointers a page has room for, and where they lie in its words: by the kind of a storage, and by how
 -- many words its values have.
 use Rattle.std.specs.Prelude.{ℕ, zero, suc, ◌+◌, ◌-◌, ◌*◌, ◌/◌}
-use Rattle.serial_model.specs.declared.decl.Decl.{Decl}
-use Rattle.serial_model.specs.declared.decl.Decl.TheVariants.{Array, Tree}
 
 -- The records of a leaf begin behind so many words. Each has its key first, where keys stand there (then keys is 1; it is
 -- 0 where the place tells the key), and then the word of its number and so many words of its value. A leaf has room for so
@@ -20,15 +18,6 @@ array_form width = record { first = 0; keys = 0; width = width; room = 64 / (1 +
 -- a leaf of a tree, where values have so many words: the header and the fences stand before the records
 abbrev pub tree_form : ℕ → LeafForm
 tree_form width = record { first = 16; keys = 1; width = width; room = 48 / (2 + width) }
-
--- how many words a value of the storage has
-abbrev pub width_of : Decl → ℕ
-width_of decl = 1
-
--- the leaves of the storage
-abbrev pub leaf_form : Decl → LeafForm
-leaf_form (Array id size) = array_form (width_of (Array id size))
-leaf_form (Tree id) = tree_form (width_of (Tree id))
 
 -- the leaves of arrays whose values have one word
 abbrev pub array_leaf : LeafForm

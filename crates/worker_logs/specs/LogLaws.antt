@@ -1,10 +1,8 @@
 -- What is known of a worker's log through its calls, as laws for those who make them.
-use Rattle.std.proofs.Common.{◌≡◌, ◌≤◌, ◌++◌, ◌∷◌, inl, inr, ℕ, List, [], Option, Some, None, length}
+use Rattle.std.proofs.Common.{◌≡◌, ◌++◌, ◌∷◌, ℕ, List, [], Option, Some, None, length}
 use Rattle.std.proofs.Common.{append_assoc, refl, sym, ◌∙◌, ap, subst, arith}
-use Rattle.std.specs.List.{AllByRecursion, Contains, flat_map}
+use Rattle.std.specs.List.{AllByRecursion}
 use Rattle.std.proofs.lemmas.List.{append-nil}
-use Rattle.std.proofs.lemmas.List.Elements.{Contains-append_cases}
-use Rattle.lists.specs.Elements.{in_cases, in_none}
 use Rattle.lists.specs.Fronts.{front_none}
 use Rattle.outside.specs.Growth.{grows_none}
 use Rattle.serial_model.specs.declared.number.Commit.{Commit}
@@ -13,40 +11,12 @@ use Rattle.wire_form.specs.LogLine.{line_bytes}
 use Rattle.wire_form.specs.declared.clock.Mark.{Mark}
 use Rattle.log_writer.specs.Counted.{KeepsCounted, keeps_durable}
 use Rattle.joint_crashes.specs.Marks.{Marks}
-use Rattle.joint_crashes.specs.Rounds.{WorkerRan}
 use Rattle.joint_crashes.specs.Crashes.Marking.{lines_more, mark_put, mark_set}
-use Rattle.worker_logs.specs.Logs.{LogState, idle_log, reset_log, MarkSays, IsMarkOf, epoch_with, set_mark}
+use Rattle.worker_logs.specs.Logs.{LogState, idle_log, reset_log, MarkSays, IsMarkOf}
 use Rattle.worker_logs.specs.Logs.{IsEpochPassed, IsPassed}
 use Rattle.worker_logs.specs.Logs.{IsLog, IsSomeLog, LogGoesOn, LogRan}
 
 -- ---- marks
-
--- the number of an epoch and a length that a mark tells
-tells_this : (commits : List Commit) (marked : Option ℕ) (length epoch size : ℕ) → MarkSays commits length marked
-    → Contains (epoch_with marked length) (epoch, size) → Marks commits epoch size × (size ≡ length)
-tells_this commits None length epoch size says has = absurd (in_none (epoch, size) has)
-tells_this commits (Some marked) length epoch size says has = elim (in_cases (epoch, size) (marked, length) [] has) [
-  | inl is ↦
-      let same_epoch : marked ≡ epoch = ap (λ (m : ℕ × ℕ). m.0) is in
-      let same_size : length ≡ size = ap (λ (m : ℕ × ℕ). m.1) is in (
-        subst (λ k. Marks commits epoch k) same_size (subst (λ e. Marks commits e length) same_epoch says),
-        sym same_size,
-      )
-  | inr none ↦ absurd (in_none (epoch, size) none)
-]
-
--- what marks tell is of the commits and of what is durable
-pub marks_tell : (commits : List Commit) (durable : List ℕ) (marks : List Mark) (epoch size : ℕ)
-    → AllByRecursion (IsMarkOf commits durable) marks → Contains (flat_map set_mark marks) (epoch, size)
-    → Marks commits epoch size × (size ≤ length durable)
-marks_tell commits durable [] epoch size had has = absurd (in_none (epoch, size) has)
-marks_tell commits durable (m ∷ ms) epoch size had has =
-    elim (Contains-append_cases (set_mark m) (flat_map set_mark ms) (epoch, size) has) [
-      | inl here ↦
-          let this = tells_this commits m.epoch m.length epoch size had.0.says here in
-          (this.0, omega (arith, this.1, had.0.within))
-      | inr later ↦ marks_tell commits durable ms epoch size had.1 later
-    ]
 
 -- of no commit a mark says what it counts, which is nothing
 says_none : (marked : Option ℕ) → MarkSays [] 0 marked
@@ -107,17 +77,6 @@ module _ {D : Type 0} {tells : D → Option (List ℕ)} {clock : D → ℕ} {ima
     journal_of = ran.journal_of;
     lines = ran.lines;
     mark = last_is (IsMarkOf commits durable) marks ran.last.0 log.mark ran.last.1 ran.had;
-  }
-
-  -- and it is a worker's part of a round
-  pub worker_ran : {commits : List Commit} {was durable : List ℕ} {marks : List Mark} {first bank : D} {log : LogState}
-      → LogRan tells clock image_at commits was durable marks first bank log
-      → WorkerRan tells clock image_at commits (flat_map set_mark marks) was durable first bank log.journal
-  worker_ran {commits = commits} {durable = durable} {marks = marks} ran = record {
-    grows = ran.grows;
-    journal_of = ran.journal_of;
-    lines = ran.lines;
-    marked = λ epoch size has. marks_tell commits durable marks epoch size ran.had has;
   }
 
   -- A commit is put behind those that wait, which each mark allows.

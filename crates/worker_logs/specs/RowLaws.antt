@@ -1,19 +1,19 @@
 -- Calls of a worker's log, one after another, as laws for those above.
 use Rattle.std.proofs.Common.{◌≡◌, ◌∙◌, ◌≤◌, ◌+◌, ◌-◌, ◌++◌, ◌∷◌, inl, inr, sym, ap, subst, refl, ℕ, List}
 use Rattle.std.proofs.Common.{[]}
-use Rattle.std.proofs.Common.{Option, Some, None, append_assoc, arith}
+use Rattle.std.proofs.Common.{Option, Some, None, arith}
 use Rattle.std.specs.Prelude.{flat_map, option_to_list}
 use Rattle.std.specs.List.{AllByRecursion}
 use Rattle.std.proofs.lemmas.List.{append-nil}
-use Rattle.lists.specs.Each.{all_append, all_weaker}
+use Rattle.lists.specs.Each.{all_weaker}
 use Rattle.outside.specs.Faults.{Rose}
 use Rattle.serial_model.specs.declared.number.Commit.{Commit}
 use Rattle.wire_form.specs.declared.clock.Mark.{Mark}
 use Rattle.log_writer.specs.Journal.{JournalState, Reaches}
 use Rattle.log_writer.specs.declared.journal.LogFault.{LogFault}
 use Rattle.log_writer.specs.declared.journal.LogFault.TheVariants.{Device, Down, Limit}
-use Rattle.worker_logs.specs.Logs.{IsEpochPassed, IsPassed, IsSomeLog, LogGoesOn, LogRan, LogState}
-use Rattle.worker_logs.specs.LogLaws.{log_begins, log_of, log_put}
+use Rattle.worker_logs.specs.Logs.{IsEpochPassed, IsPassed, IsSomeLog, LogRan, LogState}
+use Rattle.worker_logs.specs.LogLaws.{log_begins, log_of}
 use Rattle.worker_logs.specs.Moves.{MovesLog}
 use Rattle.worker_logs.specs.Rows.{Blames, IsBeforeOne, IsFull, KeepsMark, KeepsMarkIn, LogTakes, NeverFall}
 use Rattle.worker_logs.specs.Rows.{TakesCommit, full_after}
@@ -108,43 +108,6 @@ module _ {D : Type 0} {tells : D → Option (List ℕ)} {clock : D → ℕ} {ima
         (subst (λ m. LogRan tells clock image_at commits was durable m first bank log) (sym (append-nil marks)) ran);
   }
 
-  -- a call that adds no commit, at the last epoch or a later one
-  pub takes_move : {low high epoch : ℕ} {logged : List Commit} {old mid new : LogState} {before between now : D}
-      → low ≤ epoch → high ≤ epoch
-      → LogTakes tells clock image_at low high logged old mid before between
-      → LogGoesOn tells clock image_at (epoch - 1) mid new between now
-      → LogTakes tells clock image_at low epoch logged old new before now
-  takes_move {low = low} {high = high} {epoch = epoch} {logged = logged} {new = new} {now = now} least most takes goes
-      commits was durable marks first ran passed =
-      let took = takes commits was durable marks first ran passed in
-      let went = goes (commits ++ logged) was took.durable (marks ++ took.set) first took.ran in
-      record {
-        durable = went.durable;
-        set = took.set ++ went.set;
-        of_epochs = all_append (λ (m : Mark). IsBeforeOne low epoch m.epoch) took.set went.set
-            (set_wider low high epoch took.set most took.of_epochs)
-            (all_weaker (λ (m : Mark). m.epoch ≡ Some (epoch - 1)) (λ (m : Mark). IsBeforeOne low epoch m.epoch)
-            (λ m is. before_one low epoch epoch m.epoch least (omega arith) is) went.set went.of_epoch);
-        rise = rise_more (low - 1) low high (epoch - 1) took.set went.set (omega (arith, least)) (omega (arith, most))
-            took.of_epochs took.rise (rise_one (epoch - 1) went.set went.of_epoch);
-        ran = subst (λ m. LogRan tells clock image_at (commits ++ logged) was went.durable m first now new)
-            (append_assoc marks took.set went.set) went.ran;
-      }
-
-  -- at epochs up to a later one
-  pub takes_later : {low high later : ℕ} {logged : List Commit} {old new : LogState} {before now : D} → high ≤ later
-      → LogTakes tells clock image_at low high logged old new before now
-      → LogTakes tells clock image_at low later logged old new before now
-  takes_later {low = low} {high = high} {later = later} most takes commits was durable marks first ran passed =
-      let took = takes commits was durable marks first ran passed in
-      record {
-        durable = took.durable;
-        set = took.set;
-        of_epochs = set_wider low high later took.set most took.of_epochs;
-        rise = took.rise;
-        ran = took.ran;
-      }
-
   -- What was the log of some commits is that of these and the new ones.
   pub some_takes : (low high : ℕ) (logged : List Commit) {old new : LogState} {before now : D}
       → LogTakes tells clock image_at low high logged old new before now
@@ -154,37 +117,6 @@ module _ {D : Type 0} {tells : D → Option (List ℕ)} {clock : D → ℕ} {ima
       let took = takes some.commits some.durable some.durable (old.mark ∷ []) before (log_begins some.is)
       (λ any. (passed any, tt)) in
       record { commits = some.commits ++ logged; durable = took.durable; is = log_of took.ran }
-
-  -- a commit of the last epoch or a later one, or none
-  pub takes_commit : {low high : ℕ} {logged : List Commit} {old mid new : LogState} {before now : D}
-      (commit : Option Commit) → 1 ≤ high → low ≤ high
-      → ((c : Commit) → commit ≡ Some c → high ≤ c.number.epoch)
-      → LogTakes tells clock image_at low high logged old mid before now
-      → TakesCommit commit mid new
-      → LogTakes tells clock image_at low high (logged ++ option_to_list commit) old new before now
-  takes_commit {low = low} {high = high} {logged = logged} {old = old} {mid = mid} {before = before} {now = now} None some least of takes is =
-      subst (λ l. LogTakes tells clock image_at low high (logged ++ []) old l before now) (sym is)
-      (subst (λ c. LogTakes tells clock image_at low high c old mid before now) (sym (append-nil logged)) takes)
-  takes_commit {low = low} {high = high} {logged = logged} {new = new} {now = now} (Some c) some least of takes puts =
-      λ commits was durable marks first ran passed.
-      let before : AllByRecursion (IsPassed low) marks = passed (some_pushed logged c) in
-      let took = takes commits was durable marks first ran (λ some. before) in
-      let reached : high ≤ c.number.epoch = of c refl in
-      let earlier : AllByRecursion (IsPassed c.number.epoch) marks =
-      all_weaker (IsPassed low) (IsPassed c.number.epoch)
-      (λ m is. passed_later low c.number.epoch m.epoch (omega (arith, least, reached)) is) marks before in
-      let all : AllByRecursion (IsPassed c.number.epoch) (marks ++ took.set) =
-      all_append (IsPassed c.number.epoch) marks took.set earlier
-      (passed_set low high c.number.epoch took.set some reached took.of_epochs) in
-      record {
-        durable = took.durable;
-        set = took.set;
-        of_epochs = took.of_epochs;
-        rise = took.rise;
-        ran = subst (λ l. LogRan tells clock image_at l was took.durable (marks ++ took.set) first now new)
-            (append_assoc commits logged (c ∷ []))
-            (log_put c took.ran puts.lines puts.durable puts.down puts.mark all);
-      }
 
 -- ---- marks
 
@@ -281,11 +213,6 @@ module _ {D : Type 0} {tells : D → Option (List ℕ)} {clock : D → ℕ} {ima
   }
 
 -- ---- refusals
-
--- a log that has room for a line isn't full
-pub room_left : (full : Option ℕ) → ((size : ℕ) → full ≡ Some size → ⊥) → full ≡ None
-room_left None not = refl
-room_left (Some size) not = absurd (not size refl)
 
 -- what a log with a commit more is
 pub blames_took : {D : Type 0} {faults : D → ℕ} {first now : D} (ready left : LogState) (commit : Option Commit)

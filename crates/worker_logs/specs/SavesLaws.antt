@@ -27,8 +27,7 @@ use Rattle.joint_crashes.specs.Rounds.{KeeperRan}
 use Rattle.joint_crashes.specs.Story.{Story}
 use Rattle.joint_crashes.specs.Crashes.Rounded.{keeper_stores}
 use Rattle.joint_crashes.specs.Crashes.SaveSteps.{save_stored, save_failed}
-use Rattle.worker_logs.specs.Logs.{LogState, MarkSays, IsLog, IsMarkOf}
-use Rattle.worker_logs.specs.LogLaws.{log_idles}
+use Rattle.worker_logs.specs.Logs.{MarkSays, IsMarkOf}
 use Rattle.worker_logs.specs.Saves.{AreDurable, saved_epoch, sequence_begun, IsCounted, SavesBy, SavesMarks, CountsOf}
 use Rattle.worker_logs.specs.Saves.{closed_number, growing_number, in_turn, lengths_by}
 use Rattle.worker_logs.specs.declared.savepoints.Beside.{Beside}
@@ -233,14 +232,6 @@ counted_marks {clock = clock} {image_at = image_at} {seen = seen} {beside = besi
       ]
     ]
 
--- A log file that is closed behind its log's last flush and mark is covered by that mark, up to any epoch.
-pub closed_covers : {D : Type 0} {tells : D → Option (List ℕ)} {clock : D → ℕ} {image_at : D → ℕ → List ℕ → Type 0}
-    {commits : List Commit} {durable : List ℕ} {log : LogState} {bank : D} (epoch : ℕ)
-    → IsLog tells clock image_at commits durable log bank → log.journal.lines ≡ []
-    → log.mark.length ≡ log.journal.durable → IsCounted commits durable epoch log.mark.length
-closed_covers epoch is none counts =
-    let idle = log_idles is none counts in (idle.mark.says epoch, idle.mark.within)
-
 -- ---- one who knows the save device
 
 -- a device that told its bytes still does
@@ -248,17 +239,6 @@ told_still : (before now : Option (List ℕ)) (file : List ℕ) → before ≡ S
     → (bytes : List ℕ) × (now ≡ Some bytes)
 told_still before (Some bytes) file told same = (bytes, refl)
 told_still before None file told same = absurd (let there : is_some before ≡ true = ap is_some told in cc)
-
--- where the pages are those of the savepoint before it, each image of the snapshots begins with them
-pub begins_same : {D : Type 0} {clock : D → ℕ} {image_at : D → ℕ → List ℕ → Type 0} {story : Story} {from : Moments}
-    {low s high : ℕ} {save_was save snaps_was snaps : D} {ties_was ties : List Tie}
-    → KeeperRan clock image_at story from low s high save_was save snaps_was snaps ties_was ties
-    → story.pages (high + 1) ≡ story.pages high
-    → AllBegin (image_at snaps (clock snaps)) (story.pages (high + 1))
-begins_same {clock = clock} {image_at = image_at} {high = high} {snaps = snaps} ran same =
-    subst (λ pages. AllBegin (image_at snaps (clock snaps)) pages) (sym same)
-    (ran.snaps_told.since high (clock snaps) ran.save_told.ordered (omega arith)
-    ran.snaps_told.began (omega arith) (λ tie has is. ran.snaps_told.times tie has))
 
 module _ {D : Type 0} {tells : D → Option (List ℕ)} {clock : D → ℕ} {image_at : D → ℕ → List ℕ → Type 0}
     {faults : D → ℕ} {story : Story} {from : Moments} {low s : ℕ} {save_was snaps_was : D} {ties_was : List Tie}

@@ -18,7 +18,7 @@ use Rattle.worker_logs.specs.LogLaws.{log_put}
 use Rattle.worker_logs.specs.RowLaws.{before_one, passed_later, passed_set, rise_more, rise_one, set_wider, some_pushed}
 use Rattle.worker_logs.specs.RowLaws.{takes_none}
 use Rattle.worker_logs.specs.Rows.{IsBeforeOne, LogTakes, LogTook, TakesCommit}
-use Rattle.worker_logs.specs.Shown.{IsShownSince, LogShown, LogShows, Stood}
+use Rattle.worker_logs.specs.Shown.{IsShownSince, LogShows, Stood}
 
 -- what holds of all holds of each
 each_of : {A : Type 0} (P : A → Type 0) (xs : List A) (x : A) → AllByRecursion P xs → Contains xs x → P x
@@ -279,18 +279,3 @@ module _ {D : Type 0} {tells : D → Option (List ℕ)} {clock : D → ℕ} {ima
         each = subst (λ l. AllByRecursion (IsShownSince clock image_at s.took.durable (clock bank) now l) shown)
             (append_assoc marks went.set s.took.set) s.each;
       }
-
-  -- What a mark that was shown counts, as whoever saw it takes it: it says what it counts, and that is kept since.
-  pub shown_counts : {low high : ℕ} {commits : List Commit} {was : List ℕ} {marks : List Mark} {shown : List Stood}
-      {begun : ℕ} {first now : D} {log : LogState} (m : Stood)
-      → (s : LogShown tells clock image_at low high commits was marks shown begun first now log) → Contains shown m
-      → IsMarkOf commits s.took.durable m.mark × (begun ≤ m.since) × (m.since ≤ clock now)
-      × KeepsSince clock image_at now m.since (take m.mark.length s.took.durable)
-  shown_counts {commits = commits} {marks = marks} {shown = shown} {begun = begun} {now = now} m s has =
-      let stood = each_of (IsShownSince clock image_at s.took.durable begun now (marks ++ s.took.set)) shown m s.each
-      has in (
-        each_of (IsMarkOf commits s.took.durable) (marks ++ s.took.set) m.mark s.took.ran.had stood.among,
-        stood.begun,
-        stood.come,
-        stood.keeps,
-      )

@@ -1,1 +1,2 @@
 pub mod CutsRecorded
+pub mod Exits

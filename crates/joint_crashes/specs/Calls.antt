@@ -75,3 +75,4 @@ pub record StoresAndCuts {D : Type 0} (tells : D → Option (List ℕ)) (clock :
   pub quiet : OnOk result (AreQuiet faults old new)
   pub never_down : (count : ℕ) → result ≡ Err (Store (Down count)) → ⊥
   pub records : RecordsAdded (sequence_of before.newest) 1 numbers (is_ok result) old new
+  pub stops : (n : ℕ) → result ≡ Err (Cut n) → CutsUpTo n numbers old new

@@ -12,5 +12,4 @@ pub mod Rested
 pub mod Safe
 pub mod Rounded
 pub mod Marking
-pub mod Working
 pub mod CausalSteps

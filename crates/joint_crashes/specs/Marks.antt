@@ -1,5 +1,5 @@
--- What a worker's mark says, and what a savepoint makes of it.
-use Rattle.std.specs.Prelude.{◌≡◌, ◌≤◌, ◌<◌, ℕ, List, length, take, drop, filter, nat_le}
+-- What a worker's mark says.
+use Rattle.std.specs.Prelude.{◌≡◌, ◌≤◌, ◌<◌, ℕ, List, length, take, drop}
 use Rattle.std.specs.List.{AllByRecursion}
 use Rattle.serial_model.specs.declared.number.Commit.{Commit}
 use Rattle.wire_form.specs.LogFile.{lines_bytes}
@@ -16,13 +16,3 @@ pub record Marks (commits : List Commit) (epoch size : ℕ) : Type 0 where
   pub counted : size ≤ length (lines_bytes commits)
   pub lines : lines_bytes (take front commits) ≡ take size (lines_bytes commits)
   pub rest : AllByRecursion (IsAbove epoch) (drop front commits)
-
--- the commits up to an epoch
-abbrev pub up_to : ℕ → List Commit → List Commit
-up_to epoch commits = filter (λ c. nat_le c.number.epoch epoch) commits
-
--- So many bytes cover the worker's commits up to the epoch: they are whole lines, and have each of those commits.
-pub record Covers (commits : List Commit) (epoch size : ℕ) : Type 0 where
-  pub lines : List Commit
-  pub bytes : lines_bytes lines ≡ take size (lines_bytes commits)
-  pub same : up_to epoch lines ≡ up_to epoch commits

@@ -1,23 +1,19 @@
 -- Moments of marks from one call of a log file to the next, and what they make of stops.
-use Rattle.std.proofs.Common.{◌≡◌, ◌≤◌, ◌<◌, ◌⊎◌, inl, inr, ℕ, List, [], Option, Some, length}
-use Rattle.std.proofs.Common.{sym, refl, ◌∙◌, ap, subst, arith}
+use Rattle.std.proofs.Common.{◌≡◌, ◌≤◌, ◌<◌, ◌⊎◌, inl, inr, ℕ, List, [], Some}
+use Rattle.std.proofs.Common.{sym, ◌∙◌, ap, subst, arith}
 use Rattle.std.specs.List.{Contains}
 use Rattle.std.proofs.lemmas.Bool.{cases_eq, cases_lt}
 use Rattle.lists.specs.Fronts.{IsFront, front_none, front_then}
 use Rattle.outside.specs.Disk.{Goes, Shortened}
 use Rattle.outside.specs.Fronts.{AllBegin, KeepsSince}
 use Rattle.outside.specs.Growth.{Grows}
-use Rattle.outside.specs.declared.device.Device.TheVariants.{Bank}
-use Rattle.log_writer.specs.declared.records.Cut.{Cut}
 use Rattle.log_writer.specs.declared.records.Tie.{Tie}
 use Rattle.log_writer.specs.Newest.{names_one}
 use Rattle.log_writer.specs.Points.{sequence_of}
 use Rattle.joint_crashes.specs.Causal.{AreSince, BankSince, IsCausal, Since}
 use Rattle.joint_crashes.specs.Images.{Images, counted_of}
-use Rattle.joint_crashes.specs.JointCrash.{HasCut, IsJointCrash, IsNow, IsSince, KeepsCrashes, Moments, Parts}
-use Rattle.joint_crashes.specs.Rounds.{KeeperRan}
-use Rattle.joint_crashes.specs.Story.{AreOpen, BankOpen, IsTold, Lasts, StandsFor, Story}
-use Rattle.joint_crashes.specs.Crashes.Rounded.{round_joined}
+use Rattle.joint_crashes.specs.JointCrash.{IsJointCrash, IsSince, Moments, Parts}
+use Rattle.joint_crashes.specs.Story.{BankOpen, IsTold, Lasts, StandsFor, Story}
 use Rattle.joint_crashes.specs.Crashes.Standing.{crash_covers, crash_stands}
 use Rattle.joint_crashes.specs.Crashes.ToldSteps.{parts}
 
@@ -112,24 +108,6 @@ module _ {D : Type 0} {clock : D → ℕ} {image_at : D → ℕ → List ℕ →
         (λ began after cut. uncut began after (keeps began after cut));
   }
 
-  -- A log file each image of which since a moment, behind its last cut, begins with what the newest savepoint counts.
-  pub since_begun : {counted : ℕ → List ℕ} {since : ℕ → ℕ} {from s : ℕ} {bank : D} {IsCut : ℕ → ℕ → Type 0}
-      → since s ≤ clock bank
-      → ((began after : ℕ) → IsCut began after → after < s → began < since s)
-      → ((m : ℕ) → since s ≤ m → m ≤ clock bank → AllBegin (image_at bank m) (counted s))
-      → BankSince clock image_at counted since from s s bank IsCut
-  since_begun {counted = counted} {since = since} {s = s} {bank = bank} come past begins = record {
-    come = λ k at_least at_most.
-        let is : s ≡ k = omega (arith, at_least, at_most) in subst (λ j. since j ≤ clock bank) is come;
-    past = λ k at_least at_most began after cut less.
-        let is : s ≡ k = omega (arith, at_least, at_most) in
-        subst (λ j. began < since j) is (past began after cut (omega (arith, less, is)));
-    kept = λ k m at_least at_most since_from since_mark come uncut.
-        let is : s ≡ k = omega (arith, at_least, at_most) in
-        subst (λ j. AllBegin (image_at bank m) (counted j)) is
-        (begins m (subst (λ j. since j ≤ m) (sym is) since_mark) come);
-  }
-
 -- ---- stops
 
 module _ {D : Type 0} {clock : D → ℕ} {image_at : D → ℕ → List ℕ → Type 0} {story : Story} {since : Since}
@@ -192,58 +170,3 @@ module _ {D : Type 0} {clock : D → ℕ} {image_at : D → ℕ → List ℕ →
       → (k : ℕ) × (low ≤ k) × (k ≤ high) × (tie.sequence ≤ k) × StandsFor clock image_at story parts found k
   causal_covers tie end told stood from_then crash =
       crash_covers tie end told from_then (causal_crash told stood from_then crash)
-
-  -- A stop now of all devices could be at one instant, where it is a joint crash.
-  pub now_causal : {at : Moments} {found : Images} → IsTold clock image_at story from low high parts
-      → AreSince clock image_at story since from low high parts → IsSince from at → IsNow clock image_at parts at
-      → IsJointCrash clock image_at parts at found → IsCausal clock image_at since parts at found
-  now_causal {at = at} {found = found} told stood from_then is_now crash =
-      let named = told.save.names at.save found.save from_then.save crash.images.save_come crash.images.save in
-      let k = named.0 in
-      let number : sequence_of (story.point k) ≡ k = told.save.numbered k named.1 named.2 in
-      record {
-        images = crash.images;
-        marked = λ point names n bank there.
-            let same = names_one found.save point (story.point k) names named.3 in
-            let is : sequence_of point ≡ k = ap sequence_of same ∙ number in
-            let come = (stood n bank there).come k named.1 named.2 in
-            subst (λ j. since j n ≤ at.bank n) (sym is) (omega (arith, come, is_now.bank n bank there));
-        stored = crash.stored;
-        ended = crash.ended;
-      }
-
--- ---- a round
-
-module _ {D : Type 0} {clock : D → ℕ} {image_at : D → ℕ → List ℕ → Type 0} {story : Story} {since : Since}
-    {from : Moments} {low : ℕ} where
-  -- A round in which savepoints are stored beside running workers, at any points between their flushes: what each device
-  -- tells by itself is put together. Then each stop that could be at one instant stands for a savepoint.
-  pub round_since : {s high : ℕ} {save_was save_now snaps_was snaps_now : D} {banks_was banks_now : ℕ → Option D}
-      {ties_was ties_now : List Tie} {cuts : List Cut} {was now : ℕ → List ℕ}
-      → IsTold clock image_at story from low s (parts save_was snaps_was banks_was ties_was cuts)
-      → AreOpen clock image_at story from low s (parts save_was snaps_was banks_was ties_was cuts) was
-      → AreSince clock image_at story since from low s (parts save_was snaps_was banks_was ties_was cuts)
-      → ((n : ℕ) (bank : D) → banks_now n ≡ Some bank
-      → (old : D) × (banks_was n ≡ Some old) × Grows clock image_at old bank (was n) (now n)
-      × ((k : ℕ) → s < k → k ≤ high → (clock old ≤ since k n) × (since k n ≤ clock bank)
-      × KeepsSince clock image_at bank (since k n) (story.counted k n)))
-      → KeeperRan clock image_at story from low s high save_was save_now snaps_was snaps_now ties_was ties_now
-      → ((n k : ℕ) (bank : D) → banks_now n ≡ Some bank → s < k → k ≤ high
-      → IsFront (story.counted k n) (now n) × (length (story.counted k n) ≡ counted_of (story.point k) n))
-      → IsTold clock image_at story from low high (parts save_now snaps_now banks_now ties_now cuts)
-      × AreOpen clock image_at story from low high (parts save_now snaps_now banks_now ties_now cuts) now
-      × KeepsCrashes clock image_at from (parts save_was snaps_was banks_was ties_was cuts)
-      (parts save_now snaps_now banks_now ties_now cuts)
-      × AreSince clock image_at story since from low high (parts save_now snaps_now banks_now ties_now cuts)
-      × ((at : Moments) (found : Images) → IsSince from at
-      → IsCausal clock image_at since (parts save_now snaps_now banks_now ties_now cuts) at found
-      → (k : ℕ) × (low ≤ k) × (k ≤ high)
-      × StandsFor clock image_at story (parts save_now snaps_now banks_now ties_now cuts) found k)
-  round_since {high = high} {save_now = save_now} {snaps_now = snaps_now} {banks_now = banks_now} {ties_now = ties_now}
-      {cuts = cuts} told opened stood worker keeper counts =
-      let joined = round_joined told opened
-      (λ n bank there. let w = worker n bank there in (w.0, w.1, w.2)) keeper counts in
-      let marks : AreSince clock image_at story since from low high (parts save_now snaps_now banks_now ties_now cuts)
-      = λ n bank there.
-      let w = worker n bank there in since_grown (stood n w.0 w.1) (opened n w.0 w.1) w.2 w.3 in
-      (joined.0, joined.1, joined.2, marks, λ at found since_then crash. causal_stands joined.0 marks since_then crash)

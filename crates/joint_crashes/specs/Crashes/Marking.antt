@@ -1,53 +1,12 @@
--- What a worker's mark says through the calls of its journal, and what the least of the marks covers.
-use Rattle.std.proofs.Common.{◌≡◌, ◌≤◌, ◌++◌, ◌∷◌, ℕ, false, List, [], zero, suc}
+-- What a worker's mark says through the calls of its journal.
+use Rattle.std.proofs.Common.{◌≡◌, ◌++◌, ◌∷◌, ℕ, List, []}
 use Rattle.std.proofs.Common.{length, take, drop, length-append, append_assoc, refl, sym, ◌∙◌, ap, subst, arith}
-use Rattle.std.specs.Prelude.{nat_le}
 use Rattle.std.specs.List.{AllByRecursion}
 use Rattle.std.proofs.lemmas.List.{take-append-le, drop-append-le, take_all, drop_all}
-use Rattle.std.proofs.lemmas.Bool.Decides.{nat_tests}
 use Rattle.serial_model.specs.declared.number.Commit.{Commit}
 use Rattle.wire_form.specs.LogFile.{lines_bytes}
 use Rattle.wire_form.specs.LogLine.{line_bytes}
-use Rattle.joint_crashes.specs.Marks.{IsAbove, Marks, up_to, Covers}
-
--- later commits are none of those up to the epoch
-up_to_none : (epoch : ℕ) (commits : List Commit) → AllByRecursion (IsAbove epoch) commits → up_to epoch commits ≡ []
-up_to_none epoch [] above = refl
-up_to_none epoch (c ∷ cs) above =
-    let is : nat_le c.number.epoch epoch ≡ false = grind (arith, nat_tests, above.0) in
-    rw is (up_to_none epoch cs above.1)
-
-up_to_front : (epoch front : ℕ) (commits : List Commit) → AllByRecursion (IsAbove epoch) (drop front commits)
-    → up_to epoch (take front commits) ≡ up_to epoch commits
-up_to_front epoch zero commits above = sym (up_to_none epoch commits above)
-up_to_front epoch (suc n) [] above = refl
-up_to_front epoch (suc n) (c ∷ cs) above = rw (up_to_front epoch n cs above) refl
-
--- what is above an epoch is above each earlier one
-above_less : (less epoch : ℕ) (commits : List Commit) → less ≤ epoch → AllByRecursion (IsAbove epoch) commits
-    → AllByRecursion (IsAbove less) commits
-above_less less epoch [] within above = tt
-above_less less epoch (c ∷ cs) within above = (omega (arith, above.0, within), above_less less epoch cs within above.1)
-
--- a mark of an epoch is one of each earlier epoch
-pub mark_less : (commits : List Commit) (epoch less size : ℕ) → Marks commits epoch size → less ≤ epoch
-    → Marks commits less size
-mark_less commits epoch less size mark within = record {
-  front = mark.front;
-  within = mark.within;
-  counted = mark.counted;
-  lines = mark.lines;
-  rest = above_less less epoch (drop mark.front commits) within mark.rest;
-}
-
--- The save takes the least of the marks: what each mark's length covers.
-pub mark_covers : (commits : List Commit) (epoch least length : ℕ) → Marks commits epoch length → least ≤ epoch
-    → Covers commits least length
-mark_covers commits epoch least length mark within = record {
-  lines = take mark.front commits;
-  bytes = mark.lines;
-  same = up_to_front least mark.front commits (above_less least epoch (drop mark.front commits) within mark.rest);
-}
+use Rattle.joint_crashes.specs.Marks.{IsAbove, Marks}
 
 -- the lines of two lists of commits stand behind one another
 pub lines_more : (a b : List Commit) → lines_bytes (a ++ b) ≡ lines_bytes a ++ lines_bytes b

@@ -1,21 +1,15 @@
 -- The snapshots, which only grow.
 use Rattle.std.proofs.Common.{◌≡◌, ◌≤◌, ◌+◌, ◌++◌, ◌∷◌, inl, inr, ℕ}
-use Rattle.std.proofs.Common.{List, [], Option, length, sym, ◌∙◌, ap, subst, arith}
+use Rattle.std.proofs.Common.{List, [], Option, sym, ap, subst, arith}
 use Rattle.std.specs.List.{Contains}
 use Rattle.std.proofs.lemmas.Bool.{cases_lt, cases_eq}
 use Rattle.std.proofs.lemmas.List.Elements.{Contains-push_cases, Contains-push, Contains-append_left}
 use Rattle.log_writer.specs.declared.records.Tie.{Tie}
-use Rattle.outside.specs.Disk.{Torn, Runs}
-use Rattle.outside.specs.Fronts.{begins_torn}
+use Rattle.outside.specs.Disk.{Runs}
 use Rattle.lists.specs.Fronts.{IsFront}
 use Rattle.outside.specs.Fronts.{AllBegin}
 use Rattle.joint_crashes.specs.Story.{SnapsTold}
 use Rattle.lists.specs.Fronts.{front_then}
-
--- a write behind some bytes leaves them
-pub front_torn : (front : List ℕ) (at count : ℕ) (d c : List ℕ) → length front ≤ at → Torn at count d c
-    → IsFront front d → IsFront front c
-front_torn front at count d c within torn was = begins_torn (length front) at count d c within torn ∙ was
 
 -- pages are appended, or nothing is done
 pub snaps_runs : {D : Type 0} {clock : D → ℕ} {image_at : D → ℕ → List ℕ → Type 0} {pages : ℕ → List ℕ}

@@ -17,6 +17,7 @@ use Rattle.log_writer.specs.Records.{AddsCuts, no_cuts}
 use Rattle.log_writer.specs.Save.{IsNewest}
 use Rattle.joint_crashes.specs.RecordsAdded.{cuts_added}
 use Rattle.joint_crashes.proofs.CutsRecorded.{cut_split, kept_push, adds_push}
+use Rattle.joint_crashes.proofs.Exits.{not_err, same_err}
 use Rattle.joint_crashes.proofs.cutting.cut_banks.Goals as goal
 
 pub cut_in-requires-clause-newest : goal.cut_in-requires-clause-newest
@@ -27,7 +28,7 @@ cut_in-requires-clause-newest g c =
 pub returns : goal.returns
 returns g c =
     let inv = c.loop-number.invariant in
-    let all = take_all c.loop-number.number-index c.args.numbers.now (omega (arith, c.loop-number-test.false)) in
+    let all = take_all c.loop-number.number-index c.args.numbers.now c.loop-number-test.false in
     record {
       cut = λ story from low may.
           subst (λ l. AreCut g.D.Disk.clock g.D.Disk.image_at story from low c.args.after l
@@ -35,8 +36,8 @@ returns g c =
       emptied = λ tell.
           subst (λ l. (m : ℕ) (bank : g.row.D.Denot) → Contains l m → disk_in c.loop-number.vault (Bank m)
           ≡ Some bank → g.D.Disk.tells bank ≡ Some []) all (inv.emptied tell).0;
-      among = λ n is. absurd (cc is);
-      device = λ n is was now before after. absurd (cc is);
+      among = λ n is. absurd (not_err _ _ is);
+      device = λ n is was now before after. absurd (not_err _ _ is);
       quiet = inv.stand;
       there = λ n was. inv.still n was;
       others = (inv.save, inv.snaps, inv.ties);
@@ -44,13 +45,13 @@ returns g c =
       records = cuts_added c.args.numbers.now [] (ap (λ t. t.items) inv.ties)
           (subst (λ l. AddsCuts c.args.after l c.args.vault.now.cuts.items c.loop-number.vault.cuts.items) all inv.adds)
           (sym (append-nil c.args.numbers.now)) (λ is. refl);
-      stops = λ n is. absurd (cc is);
+      stops = λ n is. absurd (not_err _ _ is);
     }
 
 pub returns-in_default : goal.returns-in_default
 returns-in_default g c =
     let inv = c.loop-number.invariant in
-    let within : c.loop-number.number-index < length c.args.numbers.now = omega (arith, c.loop-number-test.true) in
+    let within : c.loop-number.number-index < length c.args.numbers.now = c.loop-number-test.true in
     let has = Contains-get_or c.args.numbers.now c.loop-number.number-index 0 within in
     let front = take c.loop-number.number-index c.args.numbers.now in
     let behind = drop (c.loop-number.number-index + 1) c.args.numbers.now in
@@ -63,10 +64,10 @@ returns-in_default g c =
           c.cut_in.ensures.save c.cut_in.ensures.ties (may.none _ has) (rw inv.ties may.ended);
       emptied = λ tell. tt;
       among = λ n is.
-          let same : failed ≡ n = cc is in
+          let same : failed ≡ n = same_err _ _ is in
           subst (Contains c.args.numbers.now) same has;
       device = λ n is was now before after.
-          let same : failed ≡ n = cc is in
+          let same : failed ≡ n = same_err _ _ is in
           cut_rose c.args.vault.now failed c.in_default.field-0 c.in_default.is inv.later
           c.cut_in.ensures.cut (inv.there _ has) was now
           (subst (λ j. disk_in c.args.vault.now (Bank j) ≡ Some was) (sym same) before)
@@ -85,7 +86,7 @@ returns-in_default g c =
           c.cut_in.ensures.recorded inv.adds)
           (cut_split c.args.numbers.now c.loop-number.number-index 0 within) (λ is. absurd cc);
       stops = λ n is.
-          let same : failed ≡ n = cc is in
+          let same : failed ≡ n = same_err _ _ is in
           record {
             front = front;
             behind = behind;
@@ -104,7 +105,7 @@ pub loop-number-preserved : goal.loop-number-preserved
 loop-number-preserved g c =
     let inv = c.loop-number.invariant in
     let has = Contains-get_or c.args.numbers.now c.loop-number.number-index 0
-    (omega (arith, c.loop-number-test.true)) in
+    c.loop-number-test.true in
     record {
       there = λ n has_n. still_there _ n c.cut_in.ensures.cut (inv.there n has_n);
       still = λ n was. still_there _ n c.cut_in.ensures.cut (inv.still n was);
@@ -114,13 +115,13 @@ loop-number-preserved g c =
       ties = c.cut_in.ensures.ties ∙ inv.ties;
       whole = λ was. whole_cut c.cut_in.ensures.cut (inv.whole was);
       adds = subst (λ l. AddsCuts c.args.after l c.args.vault.now.cuts.items c.cut_in.new.self.cuts.items)
-          (sym (take_more c.args.numbers.now c.loop-number.number-index 0 (omega (arith, c.loop-number-test.true))))
+          (sym (take_more c.args.numbers.now c.loop-number.number-index 0 c.loop-number-test.true))
           (adds_push g.D.Disk.clock c.args.vault.now c.loop-number.vault c.cut_in.new.self
           (take c.loop-number.number-index c.args.numbers.now) _ (inv.there _ has)
           c.cut_in.ensures.recorded inv.adds);
       kept = λ m other. kept_push c.args.vault.now (take c.loop-number.number-index c.args.numbers.now) _
           c.cut_in.ensures.cut inv.kept m (λ among. other (subst (λ l. Contains l m)
-          (sym (take_more c.args.numbers.now c.loop-number.number-index 0 (omega (arith, c.loop-number-test.true))))
+          (sym (take_more c.args.numbers.now c.loop-number.number-index 0 c.loop-number-test.true))
           among));
       later = later_cut c.args.vault.now _ inv.later c.cut_in.ensures.cut (inv.there _ has);
       stand = quiet_cut c.args.vault.now _ inv.stand c.in-Ok.ensures.cut (inv.there _ has);
@@ -129,7 +130,7 @@ loop-number-preserved g c =
             subst (λ l. (m : ℕ) (bank : g.row.D.Denot) → Contains l m → disk_in c.cut_in.new.self (Bank m)
                 ≡ Some bank → g.D.Disk.tells bank ≡ Some [])
                 (sym (take_more c.args.numbers.now c.loop-number.number-index 0
-                (omega (arith, c.loop-number-test.true))))
+                c.loop-number-test.true))
                 (more_empty (take c.loop-number.number-index c.args.numbers.now) _
                 (inv.there _ has) c.in-Ok.ensures.cut (λ was is. so_far.1 _ was has is) so_far.0),
             still_told c.args.numbers.now _ has (inv.there _ has) c.cut_in.ensures.cut so_far.1,
@@ -141,7 +142,7 @@ loop-number-preserved g c =
           c.cut_in.ensures.save c.cut_in.ensures.ties (may.none _ has) (rw inv.ties may.ended)
           (λ was is. so_far.1 _ was has is) in (
             rw (take_more c.args.numbers.now c.loop-number.number-index 0
-                (omega (arith, c.loop-number-test.true))) done,
+                c.loop-number-test.true) done,
             still_told c.args.numbers.now _ has (inv.there _ has) c.cut_in.ensures.cut so_far.1,
           );
     }

@@ -87,6 +87,7 @@ returns-in-Err g c =
             let same = e.untied (err_differs c.in-Err.fault other) in
             nothing_added refl (ap (λ v. v.ties.items) same) (ap (λ v. v.cuts.items) same)
       ];
+      stops = λ n is. absurd (cc is);
     }
 
 pub returns-in-Ok-cut_banks : goal.returns-in-Ok-cut_banks
@@ -141,6 +142,7 @@ returns-in-Ok-cut_banks g c =
       records = tie_then _ e.tied refl (ap (λ r. r.items) e.others.3)
           (subst (λ k. RecordsAdded k 0 c.args.numbers.now true c.store_in.new.vault c.cut_banks.new.vault) after
           c.in-Ok-cut_banks.ensures.records);
+      stops = λ n is. absurd (cc is);
     }
 
 pub returns-in-Err-cut_banks : goal.returns-in-Err-cut_banks
@@ -195,6 +197,15 @@ returns-in-Err-cut_banks g c =
       records = tie_then _ e.tied refl (ap (λ r. r.items) e.others.3)
           (subst (λ k. RecordsAdded k 0 c.args.numbers.now false c.store_in.new.vault c.cut_banks.new.vault) after
           d.records);
+      stops = λ n is.
+          let bank : c.in-Err-cut_banks.bank ≡ n = cc is in
+          let up = d.stops n (ap Err bank) in
+          record {
+            front = up.front;
+            behind = up.behind;
+            are = up.are;
+            others = λ m before differs. rw (e.others.1, e.others.2) at (up.others m before differs);
+          };
     }
 
 pub cut_banks-requires-clause-newest : goal.cut_banks-requires-clause-newest

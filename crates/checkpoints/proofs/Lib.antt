@@ -13,3 +13,4 @@ pub mod PlainSettled
 pub mod SnapshotsSettled
 pub mod Refusals
 pub mod Emptied
+pub mod Exits

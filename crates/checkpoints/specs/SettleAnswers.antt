@@ -9,7 +9,6 @@ use Rattle.joint_crashes.specs.VaultReads.{RoseIn, AreQuiet}
 use Rattle.recovery_core.specs.declared.recovered.Recovered.{Recovered}
 use Rattle.checkpoints.specs.declared.fault.SettleFault.{SettleFault}
 use Rattle.checkpoints.specs.declared.fault.SettleFault.TheVariants.{Device, Deep, Limit, Sequence}
-use Rattle.checkpoints.specs.declared.without_entries.Settled.{Settled}
 use Rattle.checkpoints.specs.Due.{OfSaved, WouldBeDeep, IsOverLimit, IsWithin, IsStoreDue, TheFault}
 use Rattle.checkpoints.specs.Settled.{SameDevices}
 
@@ -39,7 +38,7 @@ IsRefused faults r snap old new (Fault (Sequence sequence)) =
     × IfSome r.saved (IsWithin r snap) × SameDevices old new
 
 -- It is done where no device failed and nothing stood in its way, or it is told why not.
-abbrev pub SettleAnswers : {D : Type 0} → (D → ℕ) → Recovered → ℕ → Vault D → Vault D → Result Settled TheFault
+abbrev pub SettleAnswers : {D X : Type 0} → (D → ℕ) → Recovered → ℕ → Vault D → Vault D → Result X TheFault
     → Type 0
 SettleAnswers faults r snap old new (Ok s) = AreQuiet faults old new × CanSettle r snap
 SettleAnswers faults r snap old new (Err fault) = IsRefused faults r snap old new fault

@@ -69,6 +69,55 @@ fn new_pages_fit(pages: &[Page])
     }
 }
 
+// Stores what the log entries make of the newest snapshot as the next one. What was recovered is lent: what is owned
+// at a `?` costs a proof.
+fn store_due<D: Disk>(
+    alloc: Global,
+    vault: &mut Vault<D>,
+    recovered: &mut Recovered,
+    saved: &Saved,
+    decls: &[Decl],
+    snap: u32,
+) -> Result<Saved, OrMemory<SettleFault>>
+    requires whole { IsWhole vault.old }
+    requires up { IsUp recovered.old }
+    requires says { recovered.old.saved ≡ Some saved.now }
+    requires due { SomeCount recovered.old }
+    requires stored { IsStored D.tells D.clock D.image_at vault.old.save recovered.old.save.newest }
+    requires holds { HoldsPages D.tells vault.old.snaps recovered.old.store.pages }
+    requires snap { snap ≤ 65536 }
+    ensures leaves { SettleLeaves D.tells D.clock D.image_at recovered.old (is_ok result) vault.old vault.new }
+    ensures settles { IfOk result (λ p.
+        SettlesInto D.tells D.clock D.image_at recovered.old decls.now vault.old vault.new (record {
+          save = recovered.new.save;
+          store = recovered.new.store;
+          saved = p;
+          decls = recovered.new.decls;
+          state = recovered.new.state;
+        })) }
+    ensures within { 1 ≤ snap → IfOk result (λ p. p.count ≤ snap) }
+    ensures answers { SettleAnswers D.faults recovered.old snap vault.old vault.new result }
+{
+    reserve_records(vault)?;
+    let pages = due_pages(alloc, recovered, saved, snap)?;
+    let pages = pages.as_slice();
+    pages_fit(&recovered.store);
+    new_pages_fit(pages);
+    match refuse_last(&recovered.save) {
+        Ok(()) => {}
+        Err(fault) => return Err(OrMemory::Fault(fault)),
+    }
+    let epoch = recovered.epoch;
+    let saved = write_snapshot(
+        &mut recovered.save,
+        &mut recovered.store,
+        vault,
+        pages,
+        epoch,
+    )?;
+    Ok(saved)
+}
+
 // Settles a vault of which log entries count: what they make of the newest snapshot becomes the next one.
 fn settle_entries<D: Disk>(
     alloc: Global,
@@ -91,26 +140,23 @@ fn settle_entries<D: Disk>(
     ensures within { 1 ≤ snap → IfOk result (λ s. s.saved.count ≤ snap) }
     ensures answers { SettleAnswers D.faults recovered snap vault.old vault.new result }
 {
-    reserve_records(vault)?;
-    let pages = due_pages(alloc, &recovered, &saved, snap)?;
-    let pages = pages.as_slice();
-    pages_fit(&recovered.store);
-    new_pages_fit(pages);
+    let mut recovered = recovered;
+    let saved = match store_due(alloc, vault, &mut recovered, &saved, decls, snap) {
+        Ok(saved) => saved,
+        Err(fault) => return Err(fault),
+    };
     let Recovered {
-        mut save,
+        save,
         saved: _,
         decls: kept,
-        mut store,
-        epoch,
+        store,
+        epoch: _,
         state,
-        catalogues: _,
-        entries: _,
+        catalogues,
+        entries,
     } = recovered;
-    match refuse_last(&save) {
-        Ok(()) => {}
-        Err(fault) => return Err(OrMemory::Fault(fault)),
-    }
-    let saved = write_snapshot(&mut save, &mut store, vault, pages, epoch)?;
+    drop(catalogues);
+    drop(entries);
     Ok(Settled {
         save,
         store,

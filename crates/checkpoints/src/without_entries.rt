@@ -195,6 +195,51 @@ fn settle_new<D: Disk>(
     Ok((saved, Sequence::from_vec(sorted)))
 }
 
+// Settles what was recovered, of which no entry counts, and answers what the newest savepoint says then. What was
+// recovered is lent: what is owned at a `?` costs a proof.
+fn settle_lent<D: Disk>(
+    alloc: Global,
+    vault: &mut Vault<D>,
+    recovered: &mut Recovered,
+    decls: &[Decl],
+    snap: u32,
+) -> Result<Saved, OrMemory<SettleFault>>
+    requires whole { IsWhole vault.old }
+    requires up { IsUp recovered.old }
+    requires stored { IsStored D.tells D.clock D.image_at vault.old.save recovered.old.save.newest }
+    requires holds { HoldsPages D.tells vault.old.snaps recovered.old.store.pages }
+    requires decls { AreDecls decls.now }
+    requires none { NoneCount recovered.old }
+    ensures leaves { SettleLeaves D.tells D.clock D.image_at recovered.old (is_ok result) vault.old vault.new }
+    ensures settles { IfOk result (λ p.
+        SettlesInto D.tells D.clock D.image_at recovered.old decls.now vault.old vault.new (record {
+          save = recovered.new.save;
+          store = recovered.new.store;
+          saved = p;
+          decls = recovered.new.decls;
+          state = recovered.new.state;
+        })) }
+    ensures within { 1 ≤ snap → IfOk result (λ p. p.count ≤ snap) }
+    ensures answers { SettleAnswers D.faults recovered.old snap vault.old vault.new result }
+{
+    reserve_records(vault)?;
+    let Some(saved) = recovered.saved else {
+        let (saved, decls) = settle_new(
+            alloc,
+            &mut recovered.save,
+            &mut recovered.store,
+            vault,
+            decls,
+        )?;
+        recovered.decls = decls;
+        return Ok(saved);
+    };
+    match settle_saved(&mut recovered.save, vault, saved, snap) {
+        Ok(saved) => Ok(saved),
+        Err(fault) => Err(OrMemory::Fault(fault)),
+    }
+}
+
 /// Settles a vault as it was recovered, of which no entry counts, for these storages, in any order. The log files are
 /// emptied behind a savepoint that counts nothing of them. A fresh vault gets its first catalogue and its first
 /// savepoint.
@@ -217,35 +262,28 @@ pub(crate) fn settle_without_entries<D: Disk>(
     ensures within { 1 ≤ snap → IfOk result (λ s. s.saved.count ≤ snap) }
     ensures answers { SettleAnswers D.faults recovered snap vault.old vault.new result }
 {
-    reserve_records(vault)?;
+    let mut recovered = recovered;
+    let saved = match settle_lent(alloc, vault, &mut recovered, decls, snap) {
+        Ok(saved) => saved,
+        Err(fault) => return Err(fault),
+    };
     let Recovered {
-        mut save,
-        saved,
+        save,
+        saved: _,
         decls: kept,
-        mut store,
+        store,
         epoch: _,
         state,
-        catalogues: _,
-        entries: _,
+        catalogues,
+        entries,
     } = recovered;
-    let Some(saved) = saved else {
-        let (saved, decls) = settle_new(alloc, &mut save, &mut store, vault, decls)?;
-        return Ok(Settled {
-            save,
-            store,
-            saved,
-            decls,
-            state,
-        });
-    };
-    match settle_saved(&mut save, vault, saved, snap) {
-        Ok(saved) => Ok(Settled {
-            save,
-            store,
-            saved,
-            decls: kept,
-            state,
-        }),
-        Err(fault) => Err(OrMemory::Fault(fault)),
-    }
+    drop(catalogues);
+    drop(entries);
+    Ok(Settled {
+        save,
+        store,
+        saved,
+        decls: kept,
+        state,
+    })
 }

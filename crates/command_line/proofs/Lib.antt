@@ -7,3 +7,4 @@ pub mod Makes
 pub mod Shown
 pub mod Plain
 pub mod Rows
+pub mod Added

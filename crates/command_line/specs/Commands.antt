@@ -1,8 +1,10 @@
 -- The program as clap's definition.
-use Rattle.std.specs.Prelude.{[], ◌∷◌, codes, true, false, Some}
+use Rattle.std.specs.Prelude.{◌≡◌, [], ◌∷◌, codes, true, false, Some}
 use Rattle.clap.specs.Walk.{Rule, Text}
-use Rattle.clap.specs.Simple.{App, Shape, new_rule, new_shape}
+use Rattle.clap.specs.Simple.{App, Shape, app_of, new_rule, new_shape}
 use Rattle.clap.specs.declared.builder.action.ArgAction.TheVariants.{Set, SetTrue}
+use Rattle.clap.specs.declared.builder.command.Command.{Command}
+use Rattle.clap.specs.declared.builder.command.Command.TheViews.{out-Command}
 
 -- an option with one value
 abbrev pub option_rule : Text → Rule
@@ -57,3 +59,25 @@ program = record {
   };
   subs = run_shape ∷ dump_shape ∷ snaps_shape ∷ snap_shape ∷ make_shape ∷ [];
 }
+
+-- ---- how it is put together
+
+-- the command has this definition, and no argument that is for the commands below it too
+unfoldable pub HasApp : App → Command → Type 0
+HasApp app command = (app_of command ≡ app) × ((out-Command command).has_globals ≡ false)
+
+-- a command of this shape, with no command below it
+abbrev pub leaf : Shape → App
+leaf shape = record { top = shape; subs = [] }
+
+-- a command of this name, which has neither arguments nor a flag for help
+abbrev pub bare : Text → App
+bare name = leaf (record (new_shape name) { disable_help_flag = true })
+
+-- the program without its commands
+abbrev pub bare_program : App
+bare_program = leaf (record (new_shape (codes "foedus")) {
+  disable_help_flag = true;
+  disable_help_subcommand = true;
+  subcommand_required = true;
+})

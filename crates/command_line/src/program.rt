@@ -1,9 +1,8 @@
 // The program as clap's definition.
-ghost use Rattle.std.specs.Prelude.{◌≡◌, IfOk, false, codes};
-ghost use Rattle.clap.specs.Words.{app_of, rule_of};
-ghost use Rattle.clap.specs.declared.builder.command.Command.TheViews.{out-Command};
-ghost use Rattle.command_line.specs.Commands.{argument_rule, dump_shape, flag_rule, make_shape, option_rule};
-ghost use Rattle.command_line.specs.Commands.{program, run_shape, snap_shape, snaps_shape};
+ghost use Rattle.std.specs.Prelude.{◌≡◌, IfOk, false};
+ghost use Rattle.clap.specs.Words.{App, Shape, app_of, rule_of, with_rule, with_subcommand};
+ghost use Rattle.command_line.specs.Commands.{HasApp, argument_rule, bare, bare_program, flag_rule, leaf};
+ghost use Rattle.command_line.specs.Commands.{make_shape, option_rule, program, run_shape, snap_shape};
 
 use clap::{Arg, ArgAction, Command};
 use std::alloc::{AllocError, Global};
@@ -32,66 +31,105 @@ fn argument<'a>(alloc: Global, name: &'a str) -> Arg<'a>
     Arg::new(alloc, name).required(true)
 }
 
+/// A command that has neither arguments nor a flag for help.
+fn bare<'a>(alloc: Global, name: &'a str) -> Command<'a>
+    ensures { HasApp (bare name.entry.now) result }
+{
+    Command::new(alloc, name).disable_help_flag(true)
+}
+
+/// The command with one more option, if there was memory so far.
+fn with_option<'a>(
+    alloc: Global,
+    command: Result<Command<'a>, AllocError>,
+    name: &'a str,
+) -> Result<Command<'a>, AllocError>
+    ensures { (app : App) → IfOk command.entry (HasApp app)
+        → IfOk result (HasApp (with_rule app (option_rule name.entry.now))) }
+{
+    let command = command?;
+    command.arg(option(alloc, name))
+}
+
+/// The command with one more option that has no value.
+fn with_flag<'a>(
+    alloc: Global,
+    command: Result<Command<'a>, AllocError>,
+    name: &'a str,
+) -> Result<Command<'a>, AllocError>
+    ensures { (app : App) → IfOk command.entry (HasApp app)
+        → IfOk result (HasApp (with_rule app (flag_rule name.entry.now))) }
+{
+    let command = command?;
+    command.arg(flag(alloc, name))
+}
+
+/// The command with one more word that has to be given.
+fn with_argument<'a>(
+    alloc: Global,
+    command: Result<Command<'a>, AllocError>,
+    name: &'a str,
+) -> Result<Command<'a>, AllocError>
+    ensures { (app : App) → IfOk command.entry (HasApp app)
+        → IfOk result (HasApp (with_rule app (argument_rule name.entry.now))) }
+{
+    let command = command?;
+    command.arg(argument(alloc, name))
+}
+
 fn run<'a>(alloc: Global) -> Result<Command<'a>, AllocError>
-    ensures shape { IfOk result (λ c. (app_of c).top ≡ run_shape) }
-    ensures local { IfOk result (λ c. (out-Command c).has_globals ≡ false) }
+    ensures { IfOk result (HasApp (leaf run_shape)) }
 {
-    Command::new(alloc, "run")
-        .disable_help_flag(true)
-        .arg(option(alloc, "tries"))?
-        .arg(option(alloc, "slots"))?
-        .arg(option(alloc, "snap"))?
-        .arg(flag(alloc, "brief"))
-}
-
-fn dump<'a>(alloc: Global) -> Command<'a>
-    ensures shape { (app_of result).top ≡ dump_shape }
-    ensures local { (out-Command result).has_globals ≡ false }
-{
-    Command::new(alloc, "dump").disable_help_flag(true)
-}
-
-fn snaps<'a>(alloc: Global) -> Command<'a>
-    ensures shape { (app_of result).top ≡ snaps_shape }
-    ensures local { (out-Command result).has_globals ≡ false }
-{
-    Command::new(alloc, "snaps").disable_help_flag(true)
+    let with_tries = with_option(alloc, Ok(bare(alloc, "run")), "tries");
+    let with_slots = with_option(alloc, with_tries, "slots");
+    let with_snap = with_option(alloc, with_slots, "snap");
+    with_flag(alloc, with_snap, "brief")
 }
 
 fn snap<'a>(alloc: Global) -> Result<Command<'a>, AllocError>
-    ensures shape { IfOk result (λ c. (app_of c).top ≡ snap_shape) }
-    ensures local { IfOk result (λ c. (out-Command c).has_globals ≡ false) }
+    ensures { IfOk result (HasApp (leaf snap_shape)) }
 {
-    Command::new(alloc, "snap")
-        .disable_help_flag(true)
-        .arg(argument(alloc, "epoch"))
+    with_argument(alloc, Ok(bare(alloc, "snap")), "epoch")
 }
 
 fn make<'a>(alloc: Global) -> Result<Command<'a>, AllocError>
-    ensures shape { IfOk result (λ c. (app_of c).top ≡ make_shape) }
-    ensures local { IfOk result (λ c. (out-Command c).has_globals ≡ false) }
+    ensures { IfOk result (HasApp (leaf make_shape)) }
 {
-    Command::new(alloc, "make")
-        .disable_help_flag(true)
-        .arg(argument(alloc, "seed"))?
-        .arg(argument(alloc, "workers"))?
-        .arg(argument(alloc, "lines"))
+    let with_seed = with_argument(alloc, Ok(bare(alloc, "make")), "seed");
+    let with_workers = with_argument(alloc, with_seed, "workers");
+    with_argument(alloc, with_workers, "lines")
+}
+
+/// The program, which has to be told a command.
+fn bare_program<'a>(alloc: Global) -> Command<'a>
+    ensures { HasApp bare_program result }
+{
+    bare(alloc, "foedus")
+        .disable_help_subcommand(true)
+        .subcommand_required(true)
+}
+
+/// The program with one more command.
+fn with_command<'a>(
+    above: Result<Command<'a>, AllocError>,
+    command: Result<Command<'a>, AllocError>,
+) -> Result<Command<'a>, AllocError>
+    ensures { (app : App) (shape : Shape) → IfOk above.entry (HasApp app)
+        → IfOk command.entry (HasApp (leaf shape))
+        → IfOk result (HasApp (with_subcommand app shape)) }
+{
+    let command = command?;
+    let above = above?;
+    above.subcommand(command)
 }
 
 /// The program, with its commands.
 pub(crate) fn program<'a>(alloc: Global) -> Result<Command<'a>, AllocError>
     ensures { IfOk result (λ c. app_of c ≡ program) }
 {
-    let run = run(alloc)?;
-    let snap = snap(alloc)?;
-    let make = make(alloc)?;
-    Command::new(alloc, "foedus")
-        .disable_help_flag(true)
-        .disable_help_subcommand(true)
-        .subcommand_required(true)
-        .subcommand(run)?
-        .subcommand(dump(alloc))?
-        .subcommand(snaps(alloc))?
-        .subcommand(snap)?
-        .subcommand(make)
+    let with_run = with_command(Ok(bare_program(alloc)), run(alloc));
+    let with_dump = with_command(with_run, Ok(bare(alloc, "dump")));
+    let with_snaps = with_command(with_dump, Ok(bare(alloc, "snaps")));
+    let with_snap = with_command(with_snaps, snap(alloc));
+    with_command(with_snap, make(alloc))
 }

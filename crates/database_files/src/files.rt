@@ -1,5 +1,5 @@
 // The database directory: a folder with a file for each device.
-ghost use Rattle.std.specs.Prelude.{◌≡◌, IfErr, IfOk};
+ghost use Rattle.std.specs.Prelude.{◌≡◌, length, IfErr, IfOk, OnOk};
 ghost use Rattle.log_writer.specs.Vault.{IsWhole};
 ghost use Rattle.database_files.specs.Opening.{IsWithout};
 
@@ -45,16 +45,9 @@ pub fn open_vault<R: Files<File = File>>(
         access,
         made: None,
     };
-    let snaps = others.open(Device::Snaps)?;
     let mut even = Vec::new(alloc);
     let mut odd = Vec::new(alloc);
-    for worker in 0..BANKS {
-        let first = others.open(Device::Bank(2 * worker))?;
-        let second = others.open(Device::Bank(2 * worker + 1))?;
-        even.push(first)?;
-        odd.push(second)?;
-    }
-    others.stay(&save)?;
+    let snaps = others.open_all(&save, &mut even, &mut odd)?;
     Ok(Opened {
         is_new: save.is_draft,
         vault: Vault {
@@ -80,6 +73,42 @@ struct Others<'a, R: Files<File = File>> {
 }
 
 impl<'a, R: Files<File = File>> Others<'a, R> {
+    // Opens all of them, and makes what was made stay there. The lists are lent: what is owned at a `?` costs a proof.
+    fn open_all(
+        &mut self,
+        save: &SaveFile,
+        even: &mut Vec<FileDisk>,
+        odd: &mut Vec<FileDisk>,
+    ) -> Result<FileDisk, NotOpened>
+        requires even { length even.old.items ≡ 0 }
+        requires odd { length odd.old.items ≡ 0 }
+        ensures even { OnOk result (length even.new.items ≡ 8) }
+        ensures odd { OnOk result (length odd.new.items ≡ 8) }
+    {
+        let snaps = self.open(Device::Snaps)?;
+        self.open_logs(even, odd)?;
+        self.stay(save)?;
+        Ok(snaps)
+    }
+
+    // Opens the log files, one of even and one of odd number in turn.
+    fn open_logs(
+        &mut self,
+        even: &mut Vec<FileDisk>,
+        odd: &mut Vec<FileDisk>,
+    ) -> Result<(), NotOpened>
+        requires even { length even.old.items ≡ 0 }
+        requires odd { length odd.old.items ≡ 0 }
+        ensures even { OnOk result (length even.new.items ≡ 8) }
+        ensures odd { OnOk result (length odd.new.items ≡ 8) }
+    {
+        for worker in 0..BANKS {
+            even.push(self.open(Device::Bank(2 * worker))?)?;
+            odd.push(self.open(Device::Bank(2 * worker + 1))?)?;
+        }
+        Ok(())
+    }
+
     fn open(&mut self, device: Device) -> Result<FileDisk, NotOpened>
         ensures { IfErr result (IsWithout device) }
     {

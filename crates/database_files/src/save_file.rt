@@ -45,13 +45,28 @@ pub(crate) fn open_save<R: Files<File = File>>(
 {
     let path = device_path(alloc, folder, Device::Save)?;
     let draft = format!(in alloc; "{path}.new")?;
-    match open_locked(rt, path.as_str(), access) {
-        Ok(file) => Ok(SaveFile {
-            file,
-            is_draft: false,
-            path,
-            draft,
-        }),
+    let (file, is_draft) = open_or_begin(rt, alloc, folder, access, path.as_str(), draft.as_str())?;
+    Ok(SaveFile {
+        file,
+        is_draft,
+        path,
+        draft,
+    })
+}
+
+// Opens the savepoint's file, or makes one where there is none, and answers whether it was made.
+fn open_or_begin<R: Files<File = File>>(
+    rt: &R,
+    alloc: Global,
+    folder: &str,
+    access: Access,
+    path: &str,
+    draft: &str,
+) -> Result<(File, bool), NotOpened>
+    ensures { IfErr result (IsWithout Save) }
+{
+    match open_locked(rt, path, access) {
+        Ok(file) => Ok((file, false)),
         Err(why) if why.is_missing() => begin_save(rt, alloc, folder, access, path, draft),
         Err(why) => Err(NotOpened::Without(Device::Save, why)),
     }
@@ -63,15 +78,15 @@ fn open_locked<R: Files<File = File>>(rt: &R, path: &str, access: Access) -> Res
     Ok(file)
 }
 
-// Makes the savepoint's file under another name, in a folder that is made where it is missing.
+// Makes the savepoint's file under another name, in a folder that is made where it is missing, as `draft_save` does.
 fn begin_save<R: Files<File = File>>(
     rt: &R,
     alloc: Global,
     folder: &str,
     access: Access,
-    path: String,
-    draft: String,
-) -> Result<SaveFile, NotOpened>
+    path: &str,
+    draft: &str,
+) -> Result<(File, bool), NotOpened>
     ensures { IfErr result (IsWithout Save) }
 {
     let around = format!(in alloc; "{folder}/..")?;
@@ -79,13 +94,8 @@ fn begin_save<R: Files<File = File>>(
     if let Err(why) = make_folder(rt, folder, around.as_str()) {
         return Err(NotOpened::Without(Device::Save, why));
     }
-    match draft_save(rt, path.as_str(), draft.as_str(), &others, access) {
-        Ok((file, is_draft)) => Ok(SaveFile {
-            file,
-            is_draft,
-            path,
-            draft,
-        }),
+    match draft_save(rt, path, draft, &others, access) {
+        Ok(drafted) => Ok(drafted),
         Err(why) => Err(NotOpened::Without(Device::Save, why)),
     }
 }

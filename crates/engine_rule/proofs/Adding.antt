@@ -1,5 +1,5 @@
--- A record that is set behind those of a leaf, by the seat that holds its header: the place is no key's home, and nobody keeps
--- what stood there.
+-- A record that is set behind those of a leaf, by the seat that holds its header: the place is no key's home, and
+-- nobody keeps what stood there.
 use mathlib.Core.Path.{fun_ext}
 use Rattle.std.proofs.Common.{◌≡◌, ℕ, suc, ◌+◌, ◌<◌, ◌≤◌, Bool, true, false, not, true≢false, eqb, ltb, ◌&&◌, inl, inr, List, [], ◌∷◌, length, refl, sym, ap, ◌∙◌, subst, arith, Some}
 use Rattle.std.proofs.lemmas.Bool.{and_parts, and_from, cases_Bool, cond-true, cond-false, false_from_ne_true}

@@ -16,6 +16,23 @@ use Rattle.engine_rule.specs.Sound.{IsSound}
 use Rattle.engine_rule.proofs.ReadOpens.{may_begin}
 use Rattle.engine_rule.proofs.Stepping.{opened_sound}
 
+-- What was read at places is what there is at places that are the same.
+module _ {E : Type 0} (pages : List Page) (r : Result (List (ℕ × SnapPage) × ℕ × List (Span × ℕ)) E) where
+  pub snaps_at : {places others : List (Decl × PagePlace)} → places ≡ others
+      → IfOk r (λ b. b.0 ≡ snaps_of (words_of pages) places) → IfOk r (λ b. b.0 ≡ snaps_of (words_of pages) others)
+  snaps_at same is = subst (λ (x : List (Decl × PagePlace)). IfOk r (λ b. b.0 ≡ snaps_of (words_of pages) x)) same is
+
+module _ {E : Type 0} (r : Result (List (ℕ × SnapPage) × ℕ × List (Span × ℕ)) E) where
+  pub counted_at : {places others : List (Decl × PagePlace)} → places ≡ others
+      → IfOk r (λ b. b.1 ≡ length places) → IfOk r (λ b. b.1 ≡ length others)
+  counted_at same is = subst (λ (x : List (Decl × PagePlace)). IfOk r (λ b. b.1 ≡ length x)) same is
+
+  pub roots_at : {places others : List (Decl × PagePlace)} {stored kept : List Stored} → places ≡ others → stored ≡ kept
+      → IfOk r (λ b. b.2 ≡ roots_of places stored) → IfOk r (λ b. b.2 ≡ roots_of others kept)
+  roots_at {others = others} {stored = stored} same storages_are is =
+      subst (λ (y : List Stored). IfOk r (λ b. b.2 ≡ roots_of others y)) storages_are
+      (subst (λ (x : List (Decl × PagePlace)). IfOk r (λ b. b.2 ≡ roots_of x stored)) same is)
+
 module _ {E : Type 0} (pages : List Page) (decls : List Decl) (roots : List ℕ) (first : Number) (slots passes : ℕ) (r : Result JointState E) where
   abbrev ws : List (List ℕ)
   ws = words_of pages

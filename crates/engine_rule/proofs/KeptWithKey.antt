@@ -1,6 +1,10 @@
 -- What a seat keeps once it has added a key, told of the state before.
-use Rattle.std.proofs.Common.{◌≡◌, ℕ, Bool, true, false, true≢false, not, eqb, cond, ◌&&◌, ◌⊎◌, inl, inr, List, [], ◌∷◌, ◌++◌, length, refl, sym, ap, ◌∙◌}
+use Rattle.std.proofs.Common.{◌≡◌, ℕ, Bool, true, false, true≢false, not, eqb, cond, ◌&&◌, ◌⊎◌, inl, inr, List, [], ◌∷◌, ◌++◌}
+use Rattle.std.proofs.Common.{Err, length, refl, sym, ap, ◌∙◌}
+use Rattle.std.specs.Prelude.{⊤}
 use Rattle.std.proofs.lemmas.Bool.{and_from}
+use Rattle.lists.specs.declared.memory.OrMemory.{OrMemory}
+use Rattle.lists.specs.declared.memory.OrMemory.TheVariants.{Fault, Memory}
 use Rattle.serial_model.specs.declared.key.Key.{Key}
 use Rattle.homes.specs.declared.places.Spot.{Spot}
 use Rattle.homes.specs.declared.places.Move.{Move}
@@ -9,6 +13,7 @@ use Rattle.commit_core.specs.declared.part.Word.TheVariants.{Header}
 use Rattle.commit_core.specs.declared.part.Version.TheVariants.{Counted}
 use Rattle.commit_core.specs.declared.part.Part.{Part}
 use Rattle.commit_core.specs.declared.event.Act.TheVariants.{Keep}
+use Rattle.commit_core.specs.declared.event.NotAllowed.{NotAllowed}
 use Rattle.commit_core.specs.declared.seat.Stage.{Stage}
 use Rattle.commit_core.specs.declared.seat.Stage.TheVariants.{Idle, Trying, Ended, Decided}
 use Rattle.commit_core.specs.declared.seat.Seat.{Seat}
@@ -22,10 +27,10 @@ use Rattle.drop_core.specs.declared.grip.Grip.{Grip}
 use Rattle.drop_core.specs.Table.{page_of}
 use Rattle.drop_core.specs.Event.{leaf_keys, slot_span, grown, is_allowed as page_allows, effect as page_effect, moves}
 use Rattle.engine_rule.specs.declared.event.JointAct.TheVariants.{AddKey}
-use Rattle.engine_rule.specs.Answers.{IsLeft}
+use Rattle.engine_rule.specs.Answers.{Answers, IsLeft, Tells}
 use Rattle.engine_rule.specs.JointState.{header_part, keeps_header_at}
 use Rattle.engine_rule.specs.Event.{may_move, after_moves, next_spot, opening_with, and_seen, renewed, is_allowed, effect}
-use Rattle.engine_rule.specs.Renewal.{part_with_key, kept_with_key}
+use Rattle.engine_rule.specs.Renewal.{part_with_key, kept_with_key, with_kept}
 use Rattle.engine_rule.proofs.Adding.{Takes, takes}
 use Rattle.engine_rule.proofs.Renewals.{grown_page, new_home, new_place, renewed_story}
 
@@ -104,3 +109,29 @@ add_key_leaves p m s d g t k can rests may list are tale r story seat keys keys_
     ∙ ap (λ (l : List Part). cond (keeps_header_at (x.seat).kept t (length (leaf_keys (page_of d t)))) (record (x.seat) { kept = l }) x.seat) kept_is
     ∙ sym (renewed_seat p m s d t k (takes p d t k can) may) in
     (allowed, (told, keeps, table, grip))
+
+-- and what the renewal leaves
+pub renewed_from : (t : ℕ) (r x u : Seat) (keys all : List Key) (kept made : List Part)
+    → u ≡ cond (keeps_header_at r.kept t (length keys)) (record r { kept = kept }) r → r ≡ x → keys ≡ all → kept ≡ made
+    → u ≡ with_kept x t (length all) made
+renewed_from t r x u keys all kept made is seat keys_are kept_are =
+    is ∙ ap (λ (y : Seat). cond (keeps_header_at y.kept t (length keys)) (record y { kept = kept }) y) seat
+    ∙ ap (λ (l : List Key). cond (keeps_header_at x.kept t (length l)) (record x { kept = kept }) x) keys_are
+    ∙ ap (λ (l : List Part). cond (keeps_header_at x.kept t (length all)) (record x { kept = l }) x) kept_are
+
+-- moves that are allowed fail for want of memory alone, and leave all as it was
+pub memory_left : {a : Bool} {same : Type 0} (e : OrMemory NotAllowed) → a ≡ true
+    → Tells {X = ⊤} a true ⊤ same (Err e) → (e ≡ Memory) × same
+memory_left (Fault r) may told = absurd (true≢false (sym may ∙ told.0))
+memory_left Memory may told = (refl, told.2)
+
+-- adding a key wants memory where it is allowed, and leaves all as it was
+pub add_key_wants : (p : ℕ) (m : Story) (s : Seat) (d : Table) (g : Grip) (t : ℕ) (k : Key)
+    → page_allows p d g (opening_with t k) ≡ true → is_trying s.stage ≡ false
+    → may_move p m s (moves d (opening_with t k)) ≡ true → (tale : Story) (r : Seat) → tale ≡ m → r ≡ s
+    → Answers {X = ⊤} p (AddKey t k) m s d g (Err Memory) tale r d g
+add_key_wants p m s d g t k can rests may tale r story seat =
+    let allowed = and_from (page_allows p d g (opening_with t k))
+    (not (is_trying s.stage) && may_move p m s (moves d (opening_with t k))) can
+    (and_from (not (is_trying s.stage)) (may_move p m s (moves d (opening_with t k))) (ap not rests) may) in
+    (allowed, refl, (story, seat, refl, refl))

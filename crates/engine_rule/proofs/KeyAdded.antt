@@ -1,5 +1,5 @@
--- A header that is opened with a key: the key moves to the record that was set for it, and what the seat keeps of the header
--- goes on, with the new record beside it.
+-- A header that is opened with a key: the key moves to the record that was set for it, and what the seat keeps of the
+-- header goes on, with the new record beside it.
 use Rattle.std.proofs.Common.{◌≡◌, ℕ, Bool, true, false, not, true≢false, ◌&&◌, inl, inr, List, length, refl, sym, ap, ◌∙◌, subst, set, cond, Option, Some}
 use Rattle.std.proofs.lemmas.Bool.{and_parts, and_from, cases_Bool}
 use Rattle.std.specs.List.{slice_get}

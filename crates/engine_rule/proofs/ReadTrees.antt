@@ -155,9 +155,6 @@ leaf_node ws = Leaf (records_at (count_of ws) (drop 16 ws))
 node_inner : (words : List ℕ) → eqb (get_or words 0 0 / 256) 2 ≡ true → node_of words ≡ inner_node words
 node_inner words e = cond-true (eqb (get_or words 0 0 / 256) 2) (inner_node words) (leaf_node words) e
 
-node_leaf : (words : List ℕ) → eqb (get_or words 0 0 / 256) 2 ≡ false → node_of words ≡ leaf_node words
-node_leaf words e = cond-false (eqb (get_or words 0 0 / 256) 2) (inner_node words) (leaf_node words) e
-
 -- ---- children one by one
 
 in_take : (n : ℕ) (xs : List ℕ) (i : ℕ) → i < n → i < length xs → i < length (take n xs)

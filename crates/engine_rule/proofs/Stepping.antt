@@ -1,5 +1,5 @@
 -- One step of the whole state, from what the act of its seat answers.
-use Rattle.std.proofs.Common.{◌≡◌, ℕ, zero, suc, ◌<◌, ◌≤◌, get_or, false, List, [], ◌∷◌, length, arith, refl, sym, ap, ◌∙◌, subst, set, IfOk, Option, Some, None, Result, Ok, Err}
+use Rattle.std.proofs.Common.{◌≡◌, ℕ, zero, suc, ◌<◌, get_or, false, List, [], ◌∷◌, length, arith, sym, ap, ◌∙◌, subst, set, IfOk, Option, Some, Result, Ok, Err}
 use Rattle.std.specs.List.{slice_get}
 use Rattle.std.specs.Option.{option_map_or}
 use Rattle.lists.specs.declared.memory.OrMemory.{OrMemory}
@@ -57,29 +57,11 @@ module _ (c : JointState) (e : JointEvent) (s : Seat) (g : Grip) (at : slice_get
   answers_event (Err (Fault f)) n t d h a = (may_at ∙ a.0, left_is (all_of c.commits.story s c.pages.table g) n t d h a.1 ∙ same_state)
   answers_event (Err Memory) n t d h a = (may_at ∙ a.0, a.1, left_is (all_of c.commits.story s c.pages.table g) n t d h a.2 ∙ same_state)
 
-at_end : {A : Type 0} (xs : List A) (i : ℕ) → length xs ≤ i → slice_get xs i ≡ None
-at_end [] i most = refl
-at_end (x ∷ xs) zero most = absurd (omega (arith, most))
-at_end (x ∷ xs) (suc i) most = at_end xs i (omega (arith, most))
-
 -- what is read within a list is what it has there
 pub read_there : {A : Type 0} (xs : List A) (i : ℕ) (d x : A) → i < length xs → x ≡ get_or xs i d → slice_get xs i ≡ Some x
 read_there [] i d x less is = absurd (omega (arith, less))
 read_there (y ∷ xs) zero d x less is = ap Some (sym is)
 read_there (y ∷ xs) (suc i) d x less is = read_there xs i d x (omega (arith, less)) is
-
--- where there is no such seat
-pub no_seat : (c : JointState) (e : JointEvent) → length c.commits.seats ≤ e.seat → may_happen c e ≡ false
-no_seat c e most = ap (λ (o : Option Seat). option_map_or (may_with c e) o false) (at_end c.commits.seats e.seat most)
-
--- or none with a grip
-pub no_grip : (c : JointState) (e : JointEvent) → length c.pages.grips ≤ e.seat → may_happen c e ≡ false
-no_grip c e most = by_seat (slice_get c.commits.seats e.seat)
-  where
-    by_seat : (o : Option Seat) → option_map_or (may_with c e) o false ≡ false
-    by_seat None = refl
-    by_seat (Some s) =
-        ap (λ (o : Option Grip). option_map_or (λ h. is_allowed e.seat c.commits.story s c.pages.table h e.act) o false) (at_end c.pages.grips e.seat most)
 
 pub answers_sound : {X : Type 0} (keeps : EachEventKeeps) (c : JointState) (e : JointEvent) (r : Result X (OrMemory NotAllowed)) (d : JointState)
     → AnswersEvent c e r d → IsSound c → IsSound d

@@ -1,5 +1,5 @@
--- Where a word is now as it was kept, what it vouches for is so now: of a record by its number, of a pointer by its page, of a
--- header by how many records it counts.
+-- Where a word is now as it was kept, what it vouches for is so now: of a record by its number, of a pointer by its
+-- page, of a header by how many records it counts.
 use Rattle.std.proofs.Common.{◌≡◌, ℕ, Bool, true, false, not, true≢false, eqb, ◌⊎◌, inl, inr, List, refl, sym, ap, ◌∙◌, subst}
 use Rattle.std.proofs.lemmas.Bool.{and_parts}
 use Rattle.std.specs.List.{Contains}

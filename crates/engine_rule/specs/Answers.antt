@@ -12,7 +12,8 @@ use Rattle.drop_core.specs.declared.grip.Grip.{Grip}
 use Rattle.drop_core.specs.declared.event.Act.{Act as PageAct}
 use Rattle.drop_core.specs.Event.{is_allowed as page_allows, effect as page_effect, moves, takes_memory as page_takes}
 use Rattle.engine_rule.specs.declared.event.JointAct.{JointAct}
-use Rattle.engine_rule.specs.declared.event.JointAct.TheVariants.{Commit, SeePointer, CheckPointer, SeeHeader, CheckHeader, AddRecord, AddKey, FillRecord, Turn}
+use Rattle.engine_rule.specs.declared.event.JointAct.TheVariants.{Commit, SeePointer, CheckPointer, SeeHeader}
+use Rattle.engine_rule.specs.declared.event.JointAct.TheVariants.{CheckHeader, AddRecord, AddKey, FillRecord, Turn}
 use Rattle.engine_rule.specs.declared.event.JointEvent.{JointEvent}
 use Rattle.engine_rule.specs.JointState.{JointState}
 use Rattle.engine_rule.specs.Event.{Joined, joined, may_move, after_moves, is_allowed, effect, may_happen, happened}
@@ -58,13 +59,15 @@ AnswersEvent c e r d = Tells (may_happen c e) (takes_memory e.act) (d ≡ happen
 -- ---- of parts of an act
 
 -- what an act on pages answers and leaves of the pages
-abbrev pub AnswersOnPages : {X : Type 0} → ℕ → PageAct → Table → Grip → Result X (OrMemory NotAllowed) → Table → Grip → Type 0
+abbrev pub AnswersOnPages : {X : Type 0} → ℕ → PageAct → Table → Grip → Result X (OrMemory NotAllowed) → Table
+    → Grip → Type 0
 AnswersOnPages p act d g r e h =
     Tells (page_allows p d g act) (page_takes act)
     ((e ≡ (page_effect p d g act).table) × (h ≡ (page_effect p d g act).grip)) ((e ≡ d) × (h ≡ g)) r
 
 -- what moves of keys answer, and leave of the commits
-abbrev pub AnswersMoves : {X : Type 0} → ℕ → List Move → Story → Seat → Result X (OrMemory NotAllowed) → Story → Seat → Type 0
+abbrev pub AnswersMoves : {X : Type 0} → ℕ → List Move → Story → Seat → Result X (OrMemory NotAllowed) → Story
+    → Seat → Type 0
 AnswersMoves p list m s r n t =
     Tells (may_move p m s list) true
     ((n ≡ (after_moves p m s list).story) × (t ≡ (after_moves p m s list).seat)) ((n ≡ m) × (t ≡ s)) r

@@ -1,5 +1,6 @@
 -- What may happen to both machines: the condition and the effect of each act of a seat, and lists of events.
-use Rattle.std.specs.Prelude.{ℕ, ◌&&◌, ◌||◌, Bool, true, false, not, List, [], ◌∷◌, length, Option, Some, None, if◌then◌else◌, nat_lt, is_some, slice_get}
+use Rattle.std.specs.Prelude.{ℕ, ◌&&◌, ◌||◌, Bool, true, false, not, List, [], ◌∷◌, length, Option, Some, None}
+use Rattle.std.specs.Prelude.{if◌then◌else◌, nat_lt, is_some, slice_get}
 use Rattle.std.specs.List.{list_all}
 use Rattle.std.specs.Option.{option_map_or}
 use Rattle.serial_model.specs.declared.key.Key.{Key}
@@ -7,25 +8,32 @@ use Rattle.homes.specs.declared.places.Spot.{Spot}
 use Rattle.homes.specs.declared.places.Move.{Move}
 use Rattle.commit_core.specs.declared.part.Word.TheVariants.{Pointer, Header}
 use Rattle.commit_core.specs.declared.event.Act.{Act as CommitAct}
-use Rattle.commit_core.specs.declared.event.Act.TheVariants.{See, Keep, Lock, Draw, Check as Look, Confirm, Decide, Put, Open, Forget, Rehome, Advance, Mark}
+use Rattle.commit_core.specs.declared.event.Act.TheVariants.{See, Keep, Lock, Draw, Check as Look, Confirm, Decide, Put}
+use Rattle.commit_core.specs.declared.event.Act.TheVariants.{Open, Forget, Rehome, Advance, Mark}
 use Rattle.commit_core.specs.declared.seat.Seat.{Seat}
 use Rattle.commit_core.specs.declared.story.Story.{Story}
 use Rattle.commit_core.specs.CoreState.{is_in_progress, is_trying, can_begin}
 use Rattle.commit_core.specs.Keys.{nothing}
 use Rattle.commit_core.specs.Fill.{filled}
 use Rattle.commit_core.specs.Places.{stands, spot_at, holder_is}
-use Rattle.commit_core.specs.Event.{Moved, moved as unmoved, is_allowed as commit_allows, effect as commit_effect, with_moved}
+use Rattle.commit_core.specs.Event.{Moved, moved as unmoved, is_allowed as commit_allows, effect as commit_effect}
+use Rattle.commit_core.specs.Event.{with_moved}
 use Rattle.drop_core.specs.declared.event.Act.{Act as PageAct}
-use Rattle.drop_core.specs.declared.event.Act.TheVariants.{Enter, Leave, Give, Publish, Retire, FillPage, FillPointer, FillSnapshot, Extend, Install, Swing, Renew, Shut, Reopen, FillHeader, LockHeader, OpenHeader, Twin, SwingChain}
+use Rattle.drop_core.specs.declared.event.Act.TheVariants.{Enter, Leave, Give, Publish, Retire, FillPage, FillPointer}
+use Rattle.drop_core.specs.declared.event.Act.TheVariants.{FillSnapshot, Extend, Install, Swing, Renew, Shut, Reopen}
+use Rattle.drop_core.specs.declared.event.Act.TheVariants.{FillHeader, LockHeader, OpenHeader, Twin, SwingChain}
 use Rattle.drop_core.specs.declared.table.Table.{Table}
 use Rattle.drop_core.specs.declared.grip.Grip.{Grip}
 use Rattle.drop_core.specs.Table.{slot_of, page_of, pointer_of, has_slot}
-use Rattle.drop_core.specs.Event.{is_owned, leaf_keys, can_open_header, Turned, turned, is_allowed as page_allows, effect as page_effect, moves, keys_in, with_turned}
+use Rattle.drop_core.specs.Event.{is_owned, leaf_keys, can_open_header, Turned, turned, is_allowed as page_allows}
+use Rattle.drop_core.specs.Event.{effect as page_effect, moves, keys_in, with_turned}
 use Rattle.engine_rule.specs.declared.event.JointAct.{JointAct}
-use Rattle.engine_rule.specs.declared.event.JointAct.TheVariants.{Commit, SeePointer, CheckPointer, SeeHeader, CheckHeader, AddRecord, AddKey, FillRecord, Turn}
+use Rattle.engine_rule.specs.declared.event.JointAct.TheVariants.{Commit, SeePointer, CheckPointer, SeeHeader}
+use Rattle.engine_rule.specs.declared.event.JointAct.TheVariants.{CheckHeader, AddRecord, AddKey, FillRecord, Turn}
 use Rattle.engine_rule.specs.declared.event.JointEvent.{JointEvent}
 use Rattle.engine_rule.specs.Pairs.{pointer_part}
-use Rattle.engine_rule.specs.JointState.{JointState, keeps_word, holds_slot, can_see, is_so_now, can_see_header, is_header_so_now, header_part, keeps_header_at}
+use Rattle.engine_rule.specs.JointState.{JointState, keeps_word, holds_slot, can_see, is_so_now, can_see_header}
+use Rattle.engine_rule.specs.JointState.{is_header_so_now, header_part, keeps_header_at}
 
 -- ---- what pages ask of an act on commits
 
@@ -69,8 +77,8 @@ absences_are_old m keys =
     || is_before_all m (stands m.places m.homes k).content.number.epoch) keys
 
 -- Beside its own condition, and that of the moves that it is: a seat leaves no slot of which it keeps a word; it swings
--- a pointer and splits a leaf while it has no attempt and holds each record below, and where it swings, absences there are
--- old. To open a header with a key is an act of its own.
+-- a pointer and splits a leaf while it has no attempt and holds each record below, and where it swings, absences there
+-- are old. To open a header with a key is an act of its own.
 abbrev pub commit_lets : ℕ → Story → Seat → Table → PageAct → Bool
 commit_lets p m s d (Enter t) = true
 commit_lets p m s d (Leave t) = not (keeps_word s.kept t)
@@ -167,7 +175,8 @@ joined n t = record { story = n.story; seat = n.seat; table = t.table; grip = t.
 abbrev pub effect : ℕ → Story → Seat → Table → Grip → JointAct → Joined
 effect p m s d g (Commit act) = joined (commit_effect p m s act) (turned d g)
 effect p m s d g (SeePointer x) = joined (commit_effect p m s (Keep (pointer_part d x))) (turned d g)
-effect p m s d g (CheckPointer x) = joined (commit_effect p m s (Confirm (Pointer x) (is_so_now p d m s x))) (turned d g)
+effect p m s d g (CheckPointer x) =
+    joined (commit_effect p m s (Confirm (Pointer x) (is_so_now p d m s x))) (turned d g)
 effect p m s d g (SeeHeader t) = joined (commit_effect p m s (Keep (header_part d t))) (turned d g)
 effect p m s d g (CheckHeader t) =
     joined (commit_effect p m s (Confirm (Header t) (is_header_so_now d m s t))) (turned d g)

@@ -82,3 +82,20 @@ WordsVouch = (c : JointState) → IsSound c → KeptWordsVouch c
 abbrev pub HeldIsNotGiven : Type 0
 HeldIsNotGiven = (c : JointState) (q s : ℕ) (g : Grip) → IsSound c → slice_get c.pages.grips q ≡ Some g
     → has_slot g.holds s ≡ true → is_usable (slot_of c.pages.table s) ≡ false
+
+-- What holds under every list of events of both machines, about the very condition and effect that the joint machine
+-- follows: each event keeps both sound, and leaves alone what other seats rely on; machines start sound and stay so,
+-- and the history only grows; the decided attempts read serially; no slot is given while a seat holds it; acts on
+-- pages, records that are set and headers that are opened change no key's content; and a kept word vouches for what was
+-- found.
+pub record BothStaySound : Type 0 where
+  pub each_event : EachEventKeeps
+  pub each_event_leaves : EachEventLeaves
+  pub starts : StartsSound
+  pub stays : StaysSound
+  pub grows : OnlyGrows
+  pub serial : IsSerial
+  pub held : HeldIsNotGiven
+  pub turns : TurnsChangeNothing
+  pub adds : AddsChangeNothing
+  pub words : WordsVouch

@@ -1,7 +1,8 @@
--- What the machines read in the pages of a snapshot as they begin. A page is named by its number and the place for which
--- it stands, so that one page may stand for more than one: it then has a name for each. Names are counted from 1, those
--- of the pages below a page before its own.
-use Rattle.std.specs.Prelude.{◌≡◌, ℕ, zero, suc, ◌+◌, ◌-◌, ◌/◌, ◌^◌, ◌<◌, ◌≤◌, ◌==◌, ◌&&◌, Bool, List, [], ◌∷◌, ◌++◌, Option, Some, None, map, length, slice_index, nat_le, if◌then◌else◌, ⊤}
+-- What the machines read in the pages of a snapshot as they begin. A page is named by its number and the place for
+-- which it stands, so that one page may stand for more than one: it then has a name for each. Names are counted from 1,
+-- those of the pages below a page before its own.
+use Rattle.std.specs.Prelude.{◌≡◌, ℕ, zero, suc, ◌+◌, ◌-◌, ◌/◌, ◌^◌, ◌<◌, ◌≤◌, ◌==◌, ◌&&◌, Bool, List, [], ◌∷◌, ◌++◌}
+use Rattle.std.specs.Prelude.{Option, Some, None, map, length, slice_index, nat_le, if◌then◌else◌, ⊤}
 use Rattle.std.specs.List.{flat_map, AllByRecursion}
 use Rattle.serial_model.specs.declared.key.Key.{Key}
 use Rattle.serial_model.specs.declared.number.Number.{Number}
@@ -45,8 +46,8 @@ IsBoundedIn (Tree id) p = ⊤
 abbrev pub below_in : Decl → List ℕ → PagePlace → List PagePlace
 below_in decl words p = (format_of decl).below words p.low p.high
 
--- How many children a tree's page names, none where it is a leaf: each but the last has a separator, of which a page has
--- no more than room for.
+-- How many children a tree's page names, none where it is a leaf: each but the last has a separator, of which a page
+-- has no more than room for.
 abbrev pub child_count : List ℕ → ℕ
 child_count words =
     if slice_index words 0 / 256 == 2 then

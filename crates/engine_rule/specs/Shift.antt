@@ -5,7 +5,9 @@ use Rattle.homes.specs.declared.places.Home.{Home}
 use Rattle.drop_core.specs.declared.table.Table.{Table}
 use Rattle.drop_core.specs.declared.event.Twins.{Twins}
 use Rattle.drop_core.specs.declared.event.Act.{Act}
-use Rattle.drop_core.specs.declared.event.Act.TheVariants.{Enter, Leave, Give, Publish, Retire, FillPage, FillPointer, FillSnapshot, Extend, Install, Swing, Renew, Shut, Reopen, FillHeader, LockHeader, OpenHeader, Twin, SwingChain}
+use Rattle.drop_core.specs.declared.event.Act.TheVariants.{Enter, Leave, Give, Publish, Retire, FillPage, FillPointer}
+use Rattle.drop_core.specs.declared.event.Act.TheVariants.{FillSnapshot, Extend, Install, Swing, Renew, Shut, Reopen}
+use Rattle.drop_core.specs.declared.event.Act.TheVariants.{FillHeader, LockHeader, OpenHeader, Twin, SwingChain}
 use Rattle.drop_core.specs.Table.{page_of, leaf_home, snap_home}
 use Rattle.drop_core.specs.Event.{leaf_keys, twin_home, next_place, moves}
 use Rattle.engine_rule.specs.declared.shifts.Halves.{Halves}

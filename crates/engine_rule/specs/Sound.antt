@@ -1,8 +1,10 @@
 -- What holds of both machines after each event. Of the parts, `ordered_numbers`, `lock_owners`, `unlocked_homes`,
 -- `locked_homes`, `reads_stay_true`, `commits_are_checked` and `marks_are_past` are commit_core's; `one_home_each`,
--- `holds_counted` and `snapshots_fixed` are drop_core's, with these homes of the keys. Here is what needs both: that the
--- places of a page that is gone or was split are dead, that words which are kept are held, and that kept words vouch, which follows.
-use Rattle.std.specs.Prelude.{◌≡◌, ◌⊎◌, ℕ, ◌+◌, ◌<◌, ◌≤◌, ◌==◌, ◌&&◌, Bool, true, false, not, List, ◌++◌, Option, Some, None, length, slice_get, Contains, ⊤}
+-- `holds_counted` and `snapshots_fixed` are drop_core's, with these homes of the keys. Here is what needs both: that
+-- the places of a page that is gone or was split are dead, that words which are kept are held, and that kept words
+-- vouch, which follows.
+use Rattle.std.specs.Prelude.{◌≡◌, ◌⊎◌, ℕ, ◌+◌, ◌<◌, ◌≤◌, ◌==◌, ◌&&◌, Bool, true, false, not, List, ◌++◌, Option, Some}
+use Rattle.std.specs.Prelude.{None, length, slice_get, Contains, ⊤}
 use Rattle.serial_model.specs.declared.key.Key.{Key}
 use Rattle.homes.specs.declared.places.Holder.{Holder}
 use Rattle.homes.specs.declared.places.Holder.TheVariants.{Free, Held, Dead}
@@ -30,7 +32,8 @@ use Rattle.drop_core.specs.declared.table.Page.{Page}
 use Rattle.drop_core.specs.declared.table.Page.TheVariants.{Leaf, Split}
 use Rattle.drop_core.specs.declared.table.Table.{Table}
 use Rattle.drop_core.specs.declared.grip.Grip.{Grip}
-use Rattle.drop_core.specs.Table.{slot_of, page_of, pointer_of, header_of, snap_home, leaf_home, has_slot, has_pointer, is_never}
+use Rattle.drop_core.specs.Table.{slot_of, page_of, pointer_of, header_of, snap_home, leaf_home, has_slot, has_pointer}
+use Rattle.drop_core.specs.Table.{is_never}
 use Rattle.drop_core.specs.Event.{most_records}
 use Rattle.drop_core.specs.Law.{IsSplitAt}
 use Rattle.drop_core.specs.Sound.{span_at, IsSound as PagesAreSound}
@@ -89,8 +92,8 @@ HasRecords page n = (page ≡ Split) ⊎ ((keys : List Key) × (page ≡ Leaf ke
 abbrev pub HasKeys : Page → List Key → Type 0
 HasKeys page keys = (page ≡ Split) ⊎ ((more : List Key) × (page ≡ Leaf (keys ++ more)))
 
--- The part of a header leaves out the keys that the leaf had, counts them, and vouches for keys that the leaf is over: there
--- was nothing.
+-- The part of a header leaves out the keys that the leaf had, counts them, and vouches for keys that the leaf is over:
+-- there was nothing.
 pub record FitsHeader (d : Table) (s : ℕ) (part : Part) : Type 0 where
   pub version : part.version ≡ Counted (length part.less)
   pub keys : HasKeys (page_of d s) part.less

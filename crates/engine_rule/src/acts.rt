@@ -1,7 +1,9 @@
 // Each act of a seat on both machines: the conditions of both, and then the effects. What needs memory comes first, so
 // that want of memory leaves everything as it was.
-ghost use Rattle.std.specs.Prelude.{ℕ};
+ghost use Rattle.std.specs.Prelude.{◌≡◌, ℕ, true, IfErr, OnErr, OnOk};
 ghost use Rattle.engine_rule.specs.Answers.{Answers, AnswersOnPages, AnswersMoves, AnswersMoving};
+ghost use Rattle.engine_rule.specs.Event.{may_move};
+ghost use Rattle.engine_rule.specs.Renewal.{IsRenewed};
 ghost use Rattle.engine_rule.specs.Shift.{IsShift};
 
 use crate::asks::{commit_lets, has_made, page_lets};
@@ -47,7 +49,8 @@ pub fn act(
 
 /// An act on commits, if pages let it be.
 fn commit(id: u32, story: &mut Story, seat: &mut Seat, grip: &Grip, act: CommitAct) -> Answer
-    ensures { (d : Table) → Answers id (JointAct.Commit act) story.old seat.old d grip.now result story.new seat.new d grip.now }
+    ensures { (d : Table) → Answers id (JointAct.Commit act) story.old seat.old d grip.now result
+        story.new seat.new d grip.now }
 {
     if !page_lets(grip, story, &act) {
         drop(act);
@@ -67,7 +70,8 @@ fn see_pointer(
     grip: &Grip,
     at: At,
 ) -> Answer
-    ensures { Answers id (JointAct.SeePointer at) story.old seat.old table.now grip.now result story.new seat.new table.now grip.now }
+    ensures { Answers id (JointAct.SeePointer at) story.old seat.old table.now grip.now result
+        story.new seat.new table.now grip.now }
 {
     if !can_see(table, grip, at) || seat.stage.is_trying() {
         return Err(OrMemory::Fault(NotAllowed));
@@ -79,7 +83,8 @@ fn see_pointer(
 /// Looks again at a pointer that was read. Both halves are compared: one that leads to no slot, as it did when it was
 /// read, may lead to another page by now.
 fn check_pointer(id: u32, story: &mut Story, seat: &mut Seat, table: &Table, at: At) -> Answer
-    ensures { (g : Grip) → Answers id (JointAct.CheckPointer at) story.old seat.old table.now g result story.new seat.new table.now g }
+    ensures { (g : Grip) → Answers id (JointAct.CheckPointer at) story.old seat.old table.now g
+        result story.new seat.new table.now g }
 {
     let is_so = is_so_now(id, table, story, seat, at);
     commit_core::act(
@@ -99,7 +104,8 @@ fn see_header(
     grip: &Grip,
     slot: u32,
 ) -> Answer
-    ensures { Answers id (JointAct.SeeHeader slot) story.old seat.old table.now grip.now result story.new seat.new table.now grip.now }
+    ensures { Answers id (JointAct.SeeHeader slot) story.old seat.old table.now grip.now result
+        story.new seat.new table.now grip.now }
 {
     if !can_see_header(table, grip, slot) || seat.stage.is_trying() {
         return Err(OrMemory::Fault(NotAllowed));
@@ -110,7 +116,8 @@ fn see_header(
 
 /// Looks again at a header that was read: a leaf to which a key was added counts more records by now.
 fn check_header(id: u32, story: &mut Story, seat: &mut Seat, table: &Table, slot: u32) -> Answer
-    ensures { (g : Grip) → Answers id (JointAct.CheckHeader slot) story.old seat.old table.now g result story.new seat.new table.now g }
+    ensures { (g : Grip) → Answers id (JointAct.CheckHeader slot) story.old seat.old table.now g
+        result story.new seat.new table.now g }
 {
     let is_so = is_header_so_now(table, story, seat, slot);
     commit_core::act(
@@ -123,7 +130,8 @@ fn check_header(id: u32, story: &mut Story, seat: &mut Seat, table: &Table, slot
 
 /// Sets a record for the key behind those of a leaf: nobody looks there before the header is opened with it.
 fn add_record(id: u32, story: &mut Story, table: &Table, slot: u32, key: Key) -> Answer
-    ensures { (s : Seat) (g : Grip) → Answers id (JointAct.AddRecord slot key) story.old s table.now g result story.new s table.now g }
+    ensures { (s : Seat) (g : Grip) → Answers id (JointAct.AddRecord slot key) story.old s table.now
+        g result story.new s table.now g }
 {
     if !can_add(id, table, slot, key) {
         return Err(OrMemory::Fault(NotAllowed));
@@ -143,7 +151,8 @@ fn add_key(
     slot: u32,
     key: Key,
 ) -> Answer
-    ensures { Answers id (JointAct.AddKey slot key) story.old seat.old table.old grip.old result story.new seat.new table.new grip.new }
+    ensures { Answers id (JointAct.AddKey slot key) story.old seat.old table.old grip.old result
+        story.new seat.new table.new grip.new }
 {
     let opening = PageAct::OpenHeader(slot, Some(key));
     if seat.stage.is_trying() || !may_shift(id, story, seat, table, &opening) {
@@ -157,11 +166,30 @@ fn add_key(
         Err(OrMemory::Fault(_)) => return Err(OrMemory::Fault(NotAllowed)),
         Err(OrMemory::Memory) => return Err(OrMemory::Memory),
     };
+    move_and_renew(id, story, seat, table, slot, key, &swap.moves)?;
+    put(swap, table, grip);
+    Ok(())
+}
+
+/// Moves the keys, and renews what the seat keeps of the header that is to be opened with the key.
+fn move_and_renew(
+    id: u32,
+    story: &mut Story,
+    seat: &mut Seat,
+    table: &Table,
+    slot: u32,
+    key: Key,
+    moves: &Sequence<Move>,
+) -> Answer
+    requires { may_move id story.old seat.old moves.now ≡ true }
+    ensures done { OnOk result (IsRenewed id table.now slot key moves.now story.old seat.old story.new seat.new) }
+    ensures memory { IfErr result (λ e. e ≡ OrMemory.Memory) }
+    ensures same { OnErr result ((story.new ≡ story.old) × (seat.new ≡ seat.old)) }
+{
     let count = table.leaf_keys(slot).len();
     let kept = kept_with_key(story, seat, table, slot, key)?;
-    move_keys(id, story, seat, &swap.moves)?;
+    move_keys(id, story, seat, moves)?;
     renew(seat, slot, count, kept);
-    put(swap, table, grip);
     Ok(())
 }
 
@@ -173,7 +201,8 @@ fn fill_record(
     spot: Spot,
     content: Content,
 ) -> Answer
-    ensures { (p : ℕ) (s : Seat) → Answers p (JointAct.FillRecord spot content) story.old s table.now grip.now result story.new s table.now grip.now }
+    ensures { (p : ℕ) (s : Seat) → Answers p (JointAct.FillRecord spot content) story.old s
+        table.now grip.now result story.new s table.now grip.now }
 {
     if !table.slot(spot.slot).state.is_owned() || !has_made(grip, spot.slot) {
         return Err(OrMemory::Fault(NotAllowed));
@@ -191,7 +220,8 @@ fn turn(
     grip: &mut Grip,
     act: PageAct,
 ) -> Answer
-    ensures { Answers id (JointAct.Turn act) story.old seat.old table.old grip.old result story.new seat.new table.new grip.new }
+    ensures { Answers id (JointAct.Turn act) story.old seat.old table.old grip.old result story.new
+        seat.new table.new grip.new }
 {
     if !commit_lets(id, story, seat, table, &act) {
         drop(act);
@@ -227,7 +257,8 @@ fn moving(
     act: &PageAct,
 ) -> Answer
     requires { IsShift act.now }
-    ensures { AnswersMoving id act.now story.old seat.old table.old grip.old result story.new seat.new table.new grip.new }
+    ensures { AnswersMoving id act.now story.old seat.old table.old grip.old result story.new
+        seat.new table.new grip.new }
 {
     if !may_shift(id, story, seat, table, act) {
         return Err(OrMemory::Fault(NotAllowed));

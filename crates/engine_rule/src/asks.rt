@@ -5,7 +5,8 @@ ghost use Rattle.commit_core.specs.Places.{stands};
 ghost use Rattle.drop_core.specs.Table.{page_of, pointer_of, has_slot};
 ghost use Rattle.drop_core.specs.Event.{leaf_keys, keys_in};
 ghost use Rattle.engine_rule.specs.JointState.{slot_at, slot_of_word, is_slot, keeps_word, holds_slot};
-ghost use Rattle.engine_rule.specs.Event.{slot_of_spot, page_lets, holds_all, is_before_all, absences_are_old, commit_lets};
+ghost use Rattle.engine_rule.specs.Event.{slot_of_spot, page_lets, holds_all, is_before_all, absences_are_old};
+ghost use Rattle.engine_rule.specs.Event.{commit_lets};
 
 use commit_core::{Act as CommitAct, Part, Seat, Story, Word};
 use drop_core::{Act as PageAct, Grip, Table};
@@ -109,14 +110,17 @@ fn is_pointer_in(at: At, slot: u32) -> bool
 /// Whether the seat has no attempt, holds each record below the pointer, and attempts in progress are younger than the
 /// absences there.
 fn lets_swing(id: u32, story: &Story, seat: &Seat, table: &Table, at: At) -> bool
-    ensures { result ≡ (can_begin seat.now.stage && (holds_all id story.now (keys_in table.now (pointer_of table.now at).slot) && absences_are_old story.now (keys_in table.now (pointer_of table.now at).slot))) }
+    ensures { result ≡ (can_begin seat.now.stage
+        && (holds_all id story.now (keys_in table.now (pointer_of table.now at).slot)
+        && absences_are_old story.now (keys_in table.now (pointer_of table.now at).slot))) }
 {
     lets_keys_go(id, story, seat, keys_in(table, table.pointer(at).slot))
 }
 
 /// The same of these keys.
 fn lets_keys_go(id: u32, story: &Story, seat: &Seat, keys: &[Key]) -> bool
-    ensures { result ≡ (can_begin seat.now.stage && (holds_all id story.now keys.now && absences_are_old story.now keys.now)) }
+    ensures { result ≡ (can_begin seat.now.stage
+        && (holds_all id story.now keys.now && absences_are_old story.now keys.now)) }
 {
     seat.stage.can_begin() && holds_all(id, story, keys) && absences_are_old(story, keys)
 }
@@ -153,7 +157,9 @@ fn absences_are_old(story: &Story, keys: &[Key]) -> bool
 }
 
 fn is_there_or_old(story: &Story, key: Key) -> bool
-    ensures { result ≡ (is_some (stands story.now.places story.now.homes key).content.value || is_before_all story.now (stands story.now.places story.now.homes key).content.number.epoch) }
+    ensures { result ≡ (is_some (stands story.now.places story.now.homes key).content.value
+        || is_before_all story.now
+        (stands story.now.places story.now.homes key).content.number.epoch) }
 {
     let content = story.place(key).content;
     content.value.is_some() || is_before_all(story, content.number.epoch)

@@ -2,7 +2,8 @@
 ghost use Rattle.std.specs.Prelude.{◌≡◌, ◌^◌, ◌<◌, ◌≤◌, ◌++◌, IfOk, OnOk, slice_index};
 ghost use Rattle.snapshot_store.specs.ArrayPages.{array_found};
 ghost use Rattle.snapshot_store.specs.TreePages.{node_of, records_of};
-ghost use Rattle.engine_rule.specs.Reading.{IsBoundedIn, entry_of, array_entries, tree_entries, record_count, leaf_entries};
+ghost use Rattle.engine_rule.specs.Reading.{IsBoundedIn, entry_of, array_entries, tree_entries, record_count};
+ghost use Rattle.engine_rule.specs.Reading.{leaf_entries};
 
 use homes::Content;
 use lists::Sequence;

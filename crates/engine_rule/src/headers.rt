@@ -1,7 +1,8 @@
 // Headers of leaves that a seat reads, keeps and reads again, and keys that it adds.
 ghost use Rattle.std.specs.Prelude.{◌≡◌, if◌then◌else◌, IfOk};
 ghost use Rattle.drop_core.specs.Table.{page_of};
-ghost use Rattle.engine_rule.specs.JointState.{is_leaf, can_see_header, is_counted, counts_so, is_header_so, header_stays, is_header_so_now, header_part, keeps_header_at};
+ghost use Rattle.engine_rule.specs.JointState.{is_leaf, can_see_header, is_counted, counts_so, is_header_so};
+ghost use Rattle.engine_rule.specs.JointState.{header_stays, is_header_so_now, header_part, keeps_header_at};
 ghost use Rattle.engine_rule.specs.Event.{next_spot};
 ghost use Rattle.engine_rule.specs.Renewal.{part_with_key, kept_with_key};
 
@@ -134,7 +135,8 @@ pub fn kept_with_key(
 
 /// Has the seat keep this instead, if it keeps the header with so many records.
 pub fn renew(seat: &mut Seat, slot: u32, count: usize, kept: Sequence<Part>)
-    ensures { seat.new ≡ (if keeps_header_at seat.old.kept slot count then record seat.old { kept = kept } else seat.old) }
+    ensures { seat.new ≡ (if keeps_header_at seat.old.kept slot count
+        then record seat.old { kept = kept } else seat.old) }
 {
     if keeps_header_at(&seat.kept, slot, count) {
         seat.kept = kept;

@@ -10,7 +10,7 @@ use crate::acts::{Answer, act};
 use crate::event::JointEvent;
 use crate::law::both_stay_sound;
 use crate::opening::opened;
-use crate::reading::{named_places, roots_of, snaps_of, storages};
+use crate::reading::begun_parts;
 use commit_core::{NotAllowed, Seat, Story};
 use drop_core::{Grip, SnapPage, Table};
 use homes::{Content, Span};
@@ -36,7 +36,10 @@ impl Model for Joint {
 
     ghost Value = { JointState };
 
-    ghost view = { λ c. record { commits = record { opening = c.opening.items; story = c.story; seats = c.seats.items }; pages = record { table = c.table; grips = c.grips.items } } };
+    ghost view = { λ c. record {
+      commits = record { opening = c.opening.items; story = c.story; seats = c.seats.items };
+      pages = record { table = c.table; grips = c.grips.items };
+    } };
 }
 
 impl Joint {
@@ -59,17 +62,11 @@ impl Joint {
         ensures sound { IsOpening pages.now decls.now roots.now first → IfOk result IsSound }
     {
         both_stay_sound();
-        let storages = storages(alloc, decls, roots)?;
-        let places = named_places(alloc, pages, storages.as_slice())?;
-        if places.len() >= u32::MAX as usize {
-            return Err(Memory);
-        }
-        let snaps = snaps_of(alloc, pages, places.as_slice())?;
-        let spans = roots_of(alloc, places.as_slice(), storages.as_slice())?;
+        let (snaps, published, spans) = begun_parts(alloc, pages, decls, roots)?;
         opened(
             alloc,
             snaps,
-            places.len() as u32,
+            published,
             spans.as_slice(),
             first,
             slots,

@@ -3,7 +3,7 @@ ghost use Rattle.std.specs.Prelude.{◌≡◌, ◌≤◌, [], map, replicate, If
 ghost use Rattle.serial_model.specs.Numbers.{IsNumber};
 ghost use Rattle.commit_core.specs.Opening.{fresh_seat, fresh_story};
 ghost use Rattle.drop_core.specs.Table.{child_of, snap_home};
-ghost use Rattle.engine_rule.specs.Pairs.{pairs_for};
+ghost use Rattle.engine_rule.specs.Pairs.{pairs_for, snap_keys};
 ghost use Rattle.engine_rule.specs.Opening.{opening_joint};
 
 use crate::Joint;
@@ -14,6 +14,9 @@ use homes::{Content, Home, Span};
 use lists::Sequence;
 use serial_model::{Key, Memory, Number};
 use std::alloc::Global;
+
+// What the pages have for keys, the keys' homes, and the seats.
+type Parts = (Vec<(Key, Content)>, Sequence<(Key, Home)>, Vec<Seat>);
 
 /// A machine over these snapshot pages, of which those up to `published` are published, with a root over each of these
 /// spans that leads to a page of this number or to none, and with this many slots and seats.
@@ -30,13 +33,32 @@ pub fn opened(
     ensures { IfOk result (λ c. c ≡ opening_joint snaps published roots.now first room seats) }
 {
     let pages = DropCore::new(alloc, snaps, published, roots, room, seats)?;
-    let (table, grips) = pages.into_parts();
-    let keys = snap_keys(alloc, table.snaps.as_slice())?;
-    let opening = opening_pairs(alloc, &table, roots, keys.as_slice())?;
-    let homes = opening_homes(alloc, &table, roots, keys.as_slice())?;
+    let (opening, homes, seats) = first_parts(alloc, pages.table(), roots, first, seats)?;
     let story = fresh_story(alloc, homes, first);
-    let seats = fresh_seats(alloc, first, seats)?;
+    let (table, grips) = pages.into_parts();
     Ok(Joint::of_parts(opening, story, seats, table, grips))
+}
+
+/// What the pages have for each key that some snapshot page has an entry of, the homes of these keys, and so many
+/// seats that have nothing.
+fn first_parts(
+    alloc: Global,
+    table: &Table,
+    roots: &[(Span, u32)],
+    first: Number,
+    seats: u32,
+) -> Result<Parts, Memory>
+    requires { IsNumber first }
+    ensures { IfOk result (λ b.
+        (b.0.items ≡ pairs_for (λ k. snap_home table.now (child_of roots.now k) k) (snap_keys table.now.snaps))
+        × (b.1 ≡ map (λ k. (k, snap_home table.now (child_of roots.now k) k)) (snap_keys table.now.snaps))
+        × (b.2.items ≡ replicate seats (fresh_seat first))) }
+{
+    let keys = snap_keys(alloc, table.snaps.as_slice())?;
+    let opening = opening_pairs(alloc, table, roots, keys.as_slice())?;
+    let homes = opening_homes(alloc, table, roots, keys.as_slice())?;
+    let seats = fresh_seats(alloc, first, seats)?;
+    Ok((opening, homes, seats))
 }
 
 /// The key's home by the pages below its root.

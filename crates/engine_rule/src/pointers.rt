@@ -34,7 +34,8 @@ pub fn is_so_now(id: u32, table: &Table, story: &Story, seat: &Seat, at: At) -> 
 }
 
 fn stays(id: u32, pointer: Pointer, at: At, attempt: &Attempt) -> bool
-    ensures { result ≡ list_all (λ part. not (same_word part.word (words.Pointer at)) || is_pointer_so id pointer part.version) attempt.now.parts }
+    ensures { result ≡ list_all (λ part. not (same_word part.word (words.Pointer at))
+        || is_pointer_so id pointer part.version) attempt.now.parts }
 {
     let word = Word::Pointer(at);
     let mut parts = attempt.parts.as_slice().iter();

@@ -3,7 +3,9 @@ ghost use Rattle.std.specs.Prelude.{◌≡◌, ℕ, ◌^◌, ◌<◌, ◌≤◌,
 ghost use Rattle.std.specs.List.{flat_map, AllByRecursion};
 ghost use Rattle.snapshot_store.specs.Places.{page};
 ghost use Rattle.snapshot_store.specs.Content.{words_of, root_place};
-ghost use Rattle.engine_rule.specs.Reading.{IsBoundedIn, IsThere, below_in, span_of, page_in, led_places, storages, named_places, is_same, is_place, name_from, name_of, children_at, page_from, page_at, snaps_from, snaps_of, roots_of};
+ghost use Rattle.engine_rule.specs.Reading.{IsBoundedIn, IsThere, below_in, span_of, page_in, led_places, storages};
+ghost use Rattle.engine_rule.specs.Reading.{named_places, is_same, is_place, name_from, name_of, children_at};
+ghost use Rattle.engine_rule.specs.Reading.{page_from, page_at, snaps_from, snaps_of, roots_of};
 
 use crate::below::below_in;
 use crate::entries::leaf_entries;
@@ -101,7 +103,7 @@ fn root_of(stored: &Stored) -> PagePlace
 }
 
 /// The places of all pages that the roots lead to, in the order of their names.
-pub fn named_places(
+fn named_places(
     alloc: Global,
     pages: &[Page],
     storages: &[Stored],
@@ -204,7 +206,7 @@ fn page_at(
 }
 
 /// All pages at these places, by their names.
-pub fn snaps_of(
+fn snaps_of(
     alloc: Global,
     pages: &[Page],
     places: &[(Decl, PagePlace)],
@@ -224,7 +226,7 @@ pub fn snaps_of(
 }
 
 /// The roots, each over the keys of its storage.
-pub fn roots_of(
+fn roots_of(
     alloc: Global,
     places: &[(Decl, PagePlace)],
     storages: &[Stored],
@@ -243,8 +245,53 @@ pub fn roots_of(
     Ok(roots)
 }
 
+// The pages of a snapshot by their names, how many names there are, and the roots.
+type Begun = (Sequence<(u32, SnapPage)>, u32, Sequence<(Span, u32)>);
+
+/// What the machines begin with, of places that are there.
+fn parts_at(
+    alloc: Global,
+    pages: &[Page],
+    places: &[(Decl, PagePlace)],
+    storages: &[Stored],
+) -> Result<Begun, Memory>
+    requires few { length pages.now ≤ 65536 }
+    requires there { AllByRecursion (IsThere (length pages.now)) places.now }
+    ensures snaps { IfOk result (λ b. b.0 ≡ snaps_of (words_of pages.now) places.now) }
+    ensures count { IfOk result (λ b. b.1 ≡ length places.now) }
+    ensures roots { IfOk result (λ b. b.2 ≡ roots_of places.now storages.now) }
+{
+    if places.len() >= u32::MAX as usize {
+        return Err(Memory);
+    }
+    let snaps = snaps_of(alloc, pages, places)?;
+    let roots = roots_of(alloc, places, storages)?;
+    Ok((snaps, places.len() as u32, roots))
+}
+
+/// What the machines begin with over the pages of a snapshot: the pages that the roots lead to, each by its name, how
+/// many names there are, and the roots. More names than 32 bits have are refused like want of memory.
+pub fn begun_parts(
+    alloc: Global,
+    pages: &[Page],
+    decls: &[Decl],
+    roots: &[u32],
+) -> Result<Begun, Memory>
+    requires { length pages.now ≤ 65536 }
+    ensures snaps { IfOk result (λ b. b.0 ≡ snaps_of (words_of pages.now)
+        (named_places (words_of pages.now) (storages decls.now roots.now))) }
+    ensures count { IfOk result (λ b. b.1 ≡ length
+        (named_places (words_of pages.now) (storages decls.now roots.now))) }
+    ensures roots { IfOk result (λ b. b.2 ≡ roots_of
+        (named_places (words_of pages.now) (storages decls.now roots.now)) (storages decls.now roots.now)) }
+{
+    let stored = storages(alloc, decls, roots)?;
+    let places = named_places(alloc, pages, stored.as_slice())?;
+    parts_at(alloc, pages, places.as_slice(), stored.as_slice())
+}
+
 /// The storages with these roots.
-pub fn storages(alloc: Global, decls: &[Decl], roots: &[u32]) -> Result<Sequence<Stored>, Memory>
+fn storages(alloc: Global, decls: &[Decl], roots: &[u32]) -> Result<Sequence<Stored>, Memory>
     ensures { IfOk result (λ list. list ≡ storages decls.now roots.now) }
 {
     let mut list = Sequence::new(alloc);

@@ -132,7 +132,8 @@ fn may_go(id: u32, begins: bool, story: &Story, table: &Table, shift: Shift, key
 
 /// The leaves of a split.
 fn halves_of(table: &Table, twins: &Twins) -> Halves
-    ensures { (k : Key) → shift_home table.now (Shift.Apart result) k ≡ twin_home table.now (slot_span table.now twins.now.slot) twins.now k }
+    ensures { (k : Key) → shift_home table.now (Shift.Apart result) k
+        ≡ twin_home table.now (slot_span table.now twins.now.slot) twins.now k }
 {
     Halves {
         span: table.slot_span(twins.slot),
@@ -205,7 +206,9 @@ fn are_apart(table: &Table, shift: Shift, keys: &[Key]) -> bool
 }
 
 fn is_apart(table: &Table, shift: Shift, key: Key, more: &[Key]) -> bool
-    ensures { result ≡ (not (moves_key (moves_to (shift_home table.now shift) more.now) key) && not (moves_to_spot (moves_to (shift_home table.now shift) more.now) (spot_of (shift_home table.now shift key)))) }
+    ensures { result ≡ (not (moves_key (moves_to (shift_home table.now shift) more.now) key)
+        && not (moves_to_spot (moves_to (shift_home table.now shift) more.now)
+        (spot_of (shift_home table.now shift key)))) }
 {
     !moves_key(table, shift, more, key)
         && !is_target(table, shift, more, spot_of(home_by(table, shift, key)))

@@ -2,3 +2,5 @@ pub mod Appending
 pub mod HalfLaws
 pub mod InTurn
 pub mod Placed
+pub mod Exits
+pub mod MappedFile

@@ -1,5 +1,4 @@
 -- What a write and its sync leave of a log file.
-use Rattle.std.specs.Prelude.{◌↔◌}
 use Rattle.std.proofs.Common.{◌≡◌, ◌∙◌, sym, ap, subst, refl, ◌≤◌, ◌+◌, ℕ, List, [], ◌++◌, length, take, drop, true, is_some, Option, Some, None, Result, Ok, Err, OnOk, OnErr, arith, length-append}
 use Rattle.std.proofs.lemmas.List.{append-nil, take_at}
 use Rattle.std.proofs.lemmas.Option.{same_Some}
@@ -9,7 +8,7 @@ use Rattle.outside.specs.Faults.{Rose}
 use Rattle.outside.specs.Ranges.{length-written, torn_written}
 use Rattle.outside.specs.Fronts.{keeps_torn}
 use Rattle.log_writer.specs.declared.journal.LogFault.{LogFault}
-use Rattle.log_writer.specs.declared.journal.LogFault.TheVariants.{Device, Down}
+use Rattle.log_writer.specs.declared.journal.LogFault.TheVariants.{Device}
 use Rattle.log_writer.specs.Flushes.{WritesThrough, Flushes}
 use Rattle.log_writer.specs.Journal.{JournalState, end_of, Reaches, IsKept, DurableGrows}
 
@@ -150,36 +149,6 @@ module _ {D : Type 0} {tells : D → Option (List ℕ)} {clock : D → ℕ} {ima
           untouched = λ other. absurd (other refl);
         };
       }
-
-  -- A call that writes nothing.
-  pub flushes_nothing : {T : Type 0} {journal : JournalState} {bank : D} (result : Result T LogFault) → Reaches tells bank journal
-      → (result ≡ Err Device → ⊥) → ((count : ℕ) → (result ≡ Err (Down count)) ↔ (journal.down ≡ Some count))
-      → Flushes tells clock image_at faults journal journal bank bank result
-  flushes_nothing {journal = journal} {bank = bank} result reaches other down = record {
-    reaches = reaches;
-    through = record {
-      told = refl;
-      moments = record {
-        later = omega arith;
-        kept = λ m c within left. left;
-        no_new = λ m c within left. left;
-        from = λ m c after come left. absurd (omega arith);
-      };
-      each = record { each = λ m d c after come was step. absurd (omega arith) };
-      unsettled = on_err result (record { each = λ m d c after come was step. absurd (omega arith) });
-    };
-    durable = on_ok result (λ file told was is. (was, is, refl));
-    stays = λ since is within begun keeps. keeps;
-    kept = on_err result (record { limit = refl; durable = refl; lines = refl });
-    refused = record {
-      later = omega arith;
-      quiet = on_ok result refl;
-      device = λ is. absurd (other is);
-      goes_down = λ is. absurd (other is);
-      down = down;
-      untouched = λ same. on_err result (refl, refl);
-    };
-  }
 
   -- What such a call does it does, whatever it gives where it answers `Ok`.
   pub flushes_ok : {T U : Type 0} {old new : JournalState} {before now : D} (value : T) (given : U)

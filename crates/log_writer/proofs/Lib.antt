@@ -2,3 +2,4 @@ mod Flushes
 mod Places
 mod Stores
 mod Stages
+mod Closing

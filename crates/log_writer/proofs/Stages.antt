@@ -43,7 +43,7 @@ pub closed_shut : (at : ℕ) (file : List ℕ) → get_or file at 0 ≢ valid_by
 closed_shut at file shut = grind (arith, nat_tests)
 
 -- an open one is
-closed_open : (at : ℕ) (file : List ℕ) → get_or file at 0 ≡ valid_byte → closed at file ≡ written at (0 ∷ []) file
+pub closed_open : (at : ℕ) (file : List ℕ) → get_or file at 0 ≡ valid_byte → closed at file ≡ written at (0 ∷ []) file
 closed_open at file byte = grind (arith, nat_tests)
 
 module _ (place other : ℕ) (places : Pair place other) (newest : Option Savepoint) where

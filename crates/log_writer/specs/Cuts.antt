@@ -1,11 +1,11 @@
 -- What a cut of a device of a vault did, as laws for those who use one.
 use Rattle.std.specs.Prelude.{◌≡◌, ◌≢◌, ◌<◌, ◌≤◌, ℕ, ◌+◌, ◌*◌, ◌/◌, ◌%◌, ◌==◌, Bool, true, false, if◌then◌else◌, List, [], length, Option, Some, None, IsSome, is_some, slice_get, Result, refl}
-use Rattle.std.proofs.Common.{inl, inr, sym, ◌∙◌, ap, subst, arith}
+use Rattle.std.proofs.Common.{inl, inr, sym, ◌∙◌, ap, arith}
 use Rattle.std.proofs.lemmas.Option.{same_Some, slice_get_cases, slice_get_past}
 use Rattle.outside.specs.declared.device.Device.{Device}
 use Rattle.outside.specs.declared.device.Device.TheVariants.{Snaps, Bank}
 use Rattle.log_writer.specs.declared.vault.Vault.{Vault}
-use Rattle.log_writer.specs.Vault.{disk_in, IsWhole, Cuts, CutsIn}
+use Rattle.log_writer.specs.Vault.{disk_in, IsWhole, CutsIn}
 
 -- a list has an item at each index within it
 some_within : {A : Type 0} (xs : List A) (i : ℕ) → i < length xs → IsSome (slice_get xs i)
@@ -54,14 +54,6 @@ disk_in-odd vault w =
     rw (rest, half) refl
 
 module _ {D T E : Type 0} {tells : D → Option (List ℕ)} {clock : D → ℕ} {image_at : D → ℕ → List ℕ → Type 0} {faults : D → ℕ} {device : Device} {old new : Vault D} {result : Result T E} where
-  -- the device's disk, known before and after, was cut
-  pub cuts_disk : {was now : D} → CutsIn tells clock image_at faults device old new result
-      → disk_in old device ≡ Some was → disk_in new device ≡ Some now
-      → Cuts tells clock image_at faults 0 was now result
-  cuts_disk {was = was} {now = now} cut before after =
-      let there = cut.cut was before in
-      subst (λ d. Cuts tells clock image_at faults 0 was d result) (same_Some _ _ (sym there.1 ∙ after)) there.2
-
   -- another device's disk is the one that it was
   pub keeps_disk : {was now : D} → CutsIn tells clock image_at faults device old new result
       → (other : Device) → other ≢ device
@@ -77,10 +69,6 @@ whole_cut cut whole = record { even = cut.even ∙ whole.even; odd = cut.odd ∙
 snaps_not_bank : (n : ℕ) → Snaps ≢ Bank n
 snaps_not_bank n same = cc
 
--- the same, told of the bank
-bank_not_snaps : (n : ℕ) → Bank n ≢ Snaps
-bank_not_snaps n same = cc
-
 -- banks of two numbers are two
 banks_differ : (m n : ℕ) → m ≢ n → Bank m ≢ Bank n
 banks_differ m n differ same = differ cc
@@ -94,8 +82,3 @@ module _ {D T E : Type 0} {tells : D → Option (List ℕ)} {clock : D → ℕ} 
   pub bank_keeps_bank : (m n : ℕ) → m ≢ n → CutsIn tells clock image_at faults (Bank n) old new result
       → disk_in new (Bank m) ≡ disk_in old (Bank m)
   bank_keeps_bank m n differ cut = cut.others (Bank m) (banks_differ m n differ)
-
-  -- each bank stays where the snapshots are cut
-  pub snaps_keep_bank : (m : ℕ) → CutsIn tells clock image_at faults Snaps old new result
-      → disk_in new (Bank m) ≡ disk_in old (Bank m)
-  snaps_keep_bank m cut = cut.others (Bank m) (bank_not_snaps m)

@@ -1,8 +1,9 @@
 // The store of savepoints: two places, of which one is written while the other counts.
-ghost use Rattle.std.specs.Prelude.{◌≡◌, ◌≢◌, ◌↔◌, ℕ, ◌+◌, ◌-◌, ◌*◌, ◌%◌, ◌^◌, ◌<◌, ◌≤◌, Option, Ok, Some, None, Err, is_some, length, IfOk, IfSome, OnOk, OnErr};
+ghost use Rattle.std.specs.Prelude.{◌≡◌, ◌≢◌, ◌↔◌, ℕ, ◌+◌, ◌-◌, ◌*◌, ◌%◌, ◌^◌, ◌<◌, ◌≤◌, ◌==◌, Option, Ok, Some, None};
+ghost use Rattle.std.specs.Prelude.{Err, is_some, length, slice_index, IfOk, IfSome, OnOk, OnErr};
 ghost use Rattle.wire_form.specs.declared.savepoint.Savepoint.{Savepoint};
 ghost use Rattle.outside.specs.Disk.{IfTold, Same, Goes, Only, Runs};
-ghost use Rattle.wire_form.specs.Savepoint.{IsSavepoint};
+ghost use Rattle.wire_form.specs.Savepoint.{IsSavepoint, valid_byte};
 ghost use Rattle.log_writer.specs.Points.{IsSaved, sequence_of};
 ghost use Rattle.outside.specs.Faults.{HasCause};
 ghost use Rattle.log_writer.specs.Save.{place_in, HasPoint, newer, IsBroken, IsDamaged, IsStored, NamesOldOrNew, closed, ClosedOrTorn};
@@ -55,7 +56,7 @@ pub struct Save {
 
 impl Model for Save {
     ghost use Rattle.std.specs.Prelude.{IfSome};
-    ghost use Rattle.wire_form.specs.Savepoint.{IsSavepoint};
+    ghost use Rattle.wire_form.specs.Savepoint.{IsSavepoint, valid_byte};
     ghost use Rattle.log_writer.specs.Points.{SaveState};
 
     ghost Value = { SaveState };
@@ -125,13 +126,25 @@ fn close<D: Disk>(disk: &mut D, at: u64) -> Result<(), Failed>
         → Runs D.clock D.image_at disk.old disk.new (ClosedOrTorn at file)) }
     ensures cause { HasCause (D.faults disk.old) (D.faults disk.new) result }
 {
+    let found = is_open(disk, at)?;
+    if found {
+        return write_and_sync(disk, at, &[0]);
+    }
+    disk.sync()
+}
+
+// Whether the place is open that begins at this byte.
+fn is_open<D: Disk>(disk: &mut D, at: u64) -> Result<bool, Failed>
+    requires { IfTold (D.tells disk.old) (λ file. at < length file) }
+    ensures is { IfOk result (λ found. IfTold (D.tells disk.old) (λ file.
+        found ≡ (slice_index file at == valid_byte))) }
+    ensures told { D.tells disk.new ≡ D.tells disk.old }
+    ensures moments { Goes D.clock D.image_at Same disk.old disk.new }
+    ensures cause { HasCause (D.faults disk.old) (D.faults disk.new) result }
+{
     let mut valid = [0];
     disk.read(at, &mut valid)?;
-    if valid[0] == VALID {
-        write_and_sync(disk, at, &[0])
-    } else {
-        disk.sync()
-    }
+    Ok(valid[0] == VALID)
 }
 
 impl Save {

@@ -15,3 +15,4 @@ pub mod EntriesDevices
 pub mod EntriesFit
 pub mod EntriesInOrder
 pub mod OlderSnapshots
+pub mod Exits

@@ -1,5 +1,5 @@
 // The pages that a savepoint counts are read.
-ghost use Rattle.std.specs.Prelude.{◌≡◌, ◌<◌, ◌≤◌, ◌*◌, ◌^◌, ℕ, Err, true, length, IfOk};
+ghost use Rattle.std.specs.Prelude.{◌≡◌, ◌<◌, ◌≤◌, ◌*◌, ◌^◌, ◌⊎◌, ℕ, Err, true, length, IfOk};
 ghost use Rattle.std.specs.List.{AllByRecursion};
 ghost use Rattle.outside.specs.Disk.{IfTold};
 ghost use Rattle.snapshot_store.specs.Content.{words_of};
@@ -45,22 +45,34 @@ pub(crate) fn load_pages<D: Disk>(
     ensures devices { ReadsDevices D.tells D.clock D.image_at D.faults vault.old vault.new result }
     ensures save { vault.new.save ≡ vault.old.save }
 {
-    let device = Device::Snaps;
     match SnapStore::load(alloc, &mut vault.snaps, count) {
         Ok(store) => {
             pages_fit(&store);
             Ok(store)
         }
-        Err(OrMemory::Memory) => Err(OrMemory::Memory),
-        Err(OrMemory::Fault(StoreFault::Device)) => {
-            Err(OrMemory::Fault(RecoverFault::Device(device)))
+        Err(fault) => Err(fault_of(fault)),
+    }
+}
+
+// What a fault of the pages is. No more are asked for than there are numbers.
+fn fault_of(fault: OrMemory<StoreFault>) -> OrMemory<RecoverFault>
+    ensures damaged { (device : Device) (at : ℕ) → result ≡ OrMemory.Fault (RecoverFault.Damaged device at)
+        → (device ≡ Device.Snaps) × ((fault ≡ OrMemory.Fault (StoreFault.Short at))
+        ⊎ (fault ≡ OrMemory.Fault (StoreFault.Limit at))) }
+    ensures device { (device : Device) → result ≡ OrMemory.Fault (RecoverFault.Device device)
+        → (device ≡ Device.Snaps) × (fault ≡ OrMemory.Fault StoreFault.Device) }
+    ensures failed { fault ≡ OrMemory.Fault StoreFault.Device
+        → result ≡ OrMemory.Fault (RecoverFault.Device Device.Snaps) }
+{
+    let device = Device::Snaps;
+    match fault {
+        OrMemory::Memory => OrMemory::Memory,
+        OrMemory::Fault(StoreFault::Device) => OrMemory::Fault(RecoverFault::Device(device)),
+        OrMemory::Fault(StoreFault::Short { at }) => {
+            OrMemory::Fault(RecoverFault::Damaged { device, at })
         }
-        Err(OrMemory::Fault(StoreFault::Short { at })) => {
-            Err(OrMemory::Fault(RecoverFault::Damaged { device, at }))
-        }
-        // There are no more pages than numbers.
-        Err(OrMemory::Fault(StoreFault::Limit { count: at })) => {
-            Err(OrMemory::Fault(RecoverFault::Damaged { device, at }))
+        OrMemory::Fault(StoreFault::Limit { count: at }) => {
+            OrMemory::Fault(RecoverFault::Damaged { device, at })
         }
     }
 }

@@ -16,7 +16,10 @@ use Rattle.root_composer.specs.declared.last.Last.{Last}
 use Rattle.root_composer.specs.Composer.{Made, with_one}
 use Rattle.root_composer.specs.ArrayCode.{ArrayStands, array_one, Adds}
 use Rattle.lists.specs.Each.{all_weaker, all_push}
+use Rattle.lists.specs.declared.memory.OrMemory.{OrMemory}
+use Rattle.lists.specs.declared.memory.OrMemory.TheVariants.{Fault}
 use Rattle.root_composer.specs.declared.fault.ComposeFault.{ComposeFault}
+use Rattle.root_composer.specs.declared.fault.ComposeFault.TheVariants.{Limit}
 use Rattle.root_composer.specs.TreeCode.{TreeStands, tree_one, AddsWithin, WouldBeDeep, LeavesRest}
 use Rattle.root_composer.specs.Storages.{part_of, FitStorage, IsReady, IsWithin, made_for, compose_one, compose_storages, with_roots, StoragesMade, StoragesDeep}
 use Rattle.root_composer.proofs.StoragesLaw.{array_within}
@@ -89,6 +92,22 @@ pub tree_keys : (run : List Entry) (s : Stored) (id : ℕ) (part : List Last) �
 tree_keys run s id part is same all =
     subst (λ (d : Decl). AllByRecursion (λ e. e.key ≤ (root_place d s.root).high) (part_of (id_of d) run)) (sym is)
     (subst (λ (l : List Last). AllByRecursion (λ e. e.key ≤ 2 ^ 64 - 1) l) same (all_weaker (λ e. e.key < 2 ^ 64) (λ e. e.key ≤ 2 ^ 64 - 1) (λ e h. omega (arith, h)) part all))
+
+-- what was done is no fault
+pub not_fault : {X E : Type 0} (x : X) (e : E) → ◌≡◌ {A = Result X E} (Ok x) (Err e) → ⊥
+not_fault x e bad = cc
+
+-- a fault that is handed on is that which was told
+pub fault_of_part : {X Y E : Type 0} (r : Result X E) (e y x : E) → r ≡ Err y → y ≡ e → r ≡ Err x
+    → ◌≡◌ {A = Result Y E} (Err e) (Err x)
+fault_of_part r e y x is same told = cc
+
+-- the limit that is told
+pub same_limit : {X : Type 0} (have new room other more most : ℕ)
+    → ◌≡◌ {A = Result X (OrMemory ComposeFault)} (Err (Fault (Limit have new room)))
+    (Err (Fault (Limit other more most)))
+    → (have ≡ other) × (new ≡ more) × (room ≡ most)
+same_limit have new room other more most is = (cc, cc, cc)
 
 -- what holds anyhow holds after an Ok
 pub if_any : {X E : Type 0} {P : Type 0} (r : Result X E) → P → OnOk r P

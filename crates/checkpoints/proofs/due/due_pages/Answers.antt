@@ -1,6 +1,7 @@
 use Rattle.std.proofs.Common.{◌≡◌, ◌∙◌, arith}
 use Rattle.root_composer.specs.declared.fault.ComposeFault.TheVariants.{Deep, Limit}
 use Rattle.checkpoints.proofs.DueLemmas.{can_compose, own_keys, pages_counted}
+use Rattle.checkpoints.proofs.Exits.{memory_is_no_fault, not_err}
 use Rattle.checkpoints.proofs.due.due_pages.Goals as goal
 
 pub compose-requires-clause-can : goal.compose-requires-clause-can
@@ -78,3 +79,50 @@ returns-clause-limit c have new room same =
         more = omega (arith, limit.0, limit.2, counted);
       },
     )
+
+-- ---- nothing is promised of what was refused
+
+pub returns-in-Err-Memory-clause-composed : goal.returns-in-Err-Memory-clause-composed
+returns-in-Err-Memory-clause-composed c = tt
+
+pub returns-in-Err-Memory-clause-few : goal.returns-in-Err-Memory-clause-few
+returns-in-Err-Memory-clause-few c = tt
+
+pub returns-in-Err-Memory-clause-numbered : goal.returns-in-Err-Memory-clause-numbered
+returns-in-Err-Memory-clause-numbered c = tt
+
+pub returns-in-Err-Memory-clause-some : goal.returns-in-Err-Memory-clause-some
+returns-in-Err-Memory-clause-some c = tt
+
+pub returns-in-Err-Memory-clause-within : goal.returns-in-Err-Memory-clause-within
+returns-in-Err-Memory-clause-within c = tt
+
+pub returns-clause-composed : goal.returns-clause-composed
+returns-clause-composed c = tt
+
+pub returns-clause-few : goal.returns-clause-few
+returns-clause-few c = tt
+
+pub returns-clause-numbered : goal.returns-clause-numbered
+returns-clause-numbered c = tt
+
+pub returns-clause-some : goal.returns-clause-some
+returns-clause-some c = tt
+
+pub returns-clause-within : goal.returns-clause-within
+returns-clause-within c = tt
+
+pub returns-in-Err-Memory-clause-deep : goal.returns-in-Err-Memory-clause-deep
+returns-in-Err-Memory-clause-deep c is = absurd (memory_is_no_fault _ is)
+
+pub returns-in-Err-Memory-clause-limit : goal.returns-in-Err-Memory-clause-limit
+returns-in-Err-Memory-clause-limit c have new room is = absurd (memory_is_no_fault _ is)
+
+pub returns-in-Ok-clause-deep : goal.returns-in-Ok-clause-deep
+returns-in-Ok-clause-deep c is = absurd (not_err _ _ is)
+
+pub returns-in-Ok-clause-limit : goal.returns-in-Ok-clause-limit
+returns-in-Ok-clause-limit c have new room is = absurd (not_err _ _ is)
+
+pub returns-in-Ok-clause-refusal : goal.returns-in-Ok-clause-refusal
+returns-in-Ok-clause-refusal c fault is = absurd (not_err _ _ is)

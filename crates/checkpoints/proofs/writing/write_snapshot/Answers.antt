@@ -186,3 +186,50 @@ returns-in-Err-clause-leaves g c = record {
 pub store_and_cut-requires-clause-counted : goal.store_and_cut-requires-clause-counted
 store_and_cut-requires-clause-counted g c always n bank there =
     nothing_counted (replicate 16 0) (λ k. zero_at k 16) n bank
+
+-- ---- nothing is promised of what failed
+
+pub returns-in-Err-Fault-clause-durable : goal.returns-in-Err-Fault-clause-durable
+returns-in-Err-Fault-clause-durable g c = tt
+
+pub returns-in-Err-Fault-clause-goes_on : goal.returns-in-Err-Fault-clause-goes_on
+returns-in-Err-Fault-clause-goes_on g c = tt
+
+pub returns-in-Err-Fault-clause-pages : goal.returns-in-Err-Fault-clause-pages
+returns-in-Err-Fault-clause-pages g c = tt
+
+pub returns-in-Err-Fault-clause-says : goal.returns-in-Err-Fault-clause-says
+returns-in-Err-Fault-clause-says g c = tt
+
+pub returns-in-Err-Fault-clause-stands : goal.returns-in-Err-Fault-clause-stands
+returns-in-Err-Fault-clause-stands g c = tt
+
+pub returns-in-Err-Memory-clause-durable : goal.returns-in-Err-Memory-clause-durable
+returns-in-Err-Memory-clause-durable g c = tt
+
+pub returns-in-Err-Memory-clause-goes_on : goal.returns-in-Err-Memory-clause-goes_on
+returns-in-Err-Memory-clause-goes_on g c = tt
+
+pub returns-in-Err-Memory-clause-pages : goal.returns-in-Err-Memory-clause-pages
+returns-in-Err-Memory-clause-pages g c = tt
+
+pub returns-in-Err-Memory-clause-says : goal.returns-in-Err-Memory-clause-says
+returns-in-Err-Memory-clause-says g c = tt
+
+pub returns-in-Err-Memory-clause-stands : goal.returns-in-Err-Memory-clause-stands
+returns-in-Err-Memory-clause-stands g c = tt
+
+pub returns-in-Err-clause-durable : goal.returns-in-Err-clause-durable
+returns-in-Err-clause-durable g c = tt
+
+pub returns-in-Err-clause-goes_on : goal.returns-in-Err-clause-goes_on
+returns-in-Err-clause-goes_on g c = tt
+
+pub returns-in-Err-clause-pages : goal.returns-in-Err-clause-pages
+returns-in-Err-clause-pages g c = tt
+
+pub returns-in-Err-clause-says : goal.returns-in-Err-clause-says
+returns-in-Err-clause-says g c = tt
+
+pub returns-in-Err-clause-stands : goal.returns-in-Err-clause-stands
+returns-in-Err-clause-stands g c = tt

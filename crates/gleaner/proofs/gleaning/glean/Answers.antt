@@ -1,4 +1,6 @@
-use Rattle.std.proofs.Common.{◌≡◌, ◌∙◌, [], ℕ, List, append-nil, ap, refl, rules, subst, sym, Err}
+use Rattle.std.proofs.Common.{◌≡◌, ◌∙◌, [], ℕ, List, Err, append-nil, ap, refl, rules, subst, sym}
+use Rattle.std.proofs.lemmas.Option.{same_Some}
+use Rattle.outside.specs.Reads.{OnlyReads}
 use Rattle.lists.specs.declared.memory.OrMemory.TheVariants as or
 use Rattle.std.proofs.lemmas.Result.{on_ok_weaker}
 use Rattle.outside.specs.declared.device.Device.{Device}
@@ -7,6 +9,8 @@ use Rattle.bucket_queues.specs.ThreadLaws.{gathered_last}
 use Rattle.gleaner.specs.Glean.{DeviceFailed, HasFailed}
 use Rattle.gleaner.specs.declared.closed.Closed.{Closed}
 use Rattle.gleaner.specs.declared.gleaning.GleanFault.TheVariants as faults
+use Rattle.gleaner.proofs.Exits.{none_beside, not_err, not_ok, not_snap, not_true, same_err}
+use Rattle.gleaner.proofs.InTurn.{reads_none}
 use Rattle.gleaner.proofs.Placed.{may_reduce}
 use Rattle.gleaner.proofs.gleaning.glean.Goals as goal
 
@@ -23,10 +27,12 @@ of_file count closed snaps_was snaps old new (Bank number) failed = failed
 
 pub add-requires-clause-can : goal.add-requires-clause-can
 add-requires-clause-can g c =
-    let can = c.requires.can (λ none. absurd (let no = sym c.if-count_nothing.false ∙ c.count_nothing.ensures ∙ none in cc)) in
+    let can = c.requires.can (λ none. absurd (not_true (sym c.if-count_nothing.false ∙ c.count_nothing.ensures
+    ∙ none))) in
     let mapped = c.in-Ok.ensures.mapped in (
       can.0,
-      (may_reduce c.args.files.now mapped.0 can.1 c.requires.workers mapped.1).can c.in-Ok.run' (gathered_last mapped.0 c.in-Ok.run' mapped.2),
+      (may_reduce c.args.files.now mapped.0 can.1 c.requires.workers mapped.1).can c.in-Ok.run'
+          (gathered_last mapped.0 c.in-Ok.run' mapped.2),
     )
 
 pub returns-in-Ok-clause-gleaned : goal.returns-in-Ok-clause-gleaned
@@ -73,7 +79,7 @@ returns-in-Ok-clause-refused g c =
               many = l.3 mapped.0 (gathered_last mapped.0 c.in-Ok.run' mapped.2);
             },
           );
-      also = λ device is. absurd (let no = sym c.alone-in-Ok.ensures.beside ∙ is in cc);
+      also = λ device is. absurd (none_beside _ device c.alone-in-Ok.ensures.beside is);
     }
 
 pub returns-in-Ok-clause-pages : goal.returns-in-Ok-clause-pages
@@ -90,14 +96,11 @@ returns-in-Ok-clause-files g c = record {
 pub returns-in-Err-clause-refused : goal.returns-in-Err-clause-refused
 returns-in-Err-clause-refused g c =
     let why = c.in-Err.ensures.refused in record {
-      damaged = λ device at is. why.damaged device at (cc is);
+      damaged = λ device at is. why.damaged device at (same_err _ _ is);
       device = λ device is. of_file g.D.Disk.faults c.args.closed.now c.args.snaps.now c.args.snaps.now
-          c.args.files.now c.run_of_closed.new.files device (why.device device (cc is));
-      deep = λ is.
-          let same : c.in-Err.field-0.fault ≡ or.Fault faults.Deep = cc is in absurd (why.only faults.Deep same);
-      limit = λ have new most is.
-          let same : c.in-Err.field-0.fault ≡ or.Fault (faults.Limit have new most) = cc is in
-          absurd (why.only (faults.Limit have new most) same);
+          c.args.files.now c.run_of_closed.new.files device (why.device device (same_err _ _ is));
+      deep = λ is. absurd (why.only faults.Deep (same_err _ _ is));
+      limit = λ have new most is. absurd (why.only (faults.Limit have new most) (same_err _ _ is));
       also = λ device is. why.beside_failed device is;
     }
 
@@ -109,10 +112,8 @@ returns-in-Err-clause-pages g c = record {
   sound = tt;
   holds = tt;
   kept = λ other. (refl, refl);
-  unsound = λ is.
-      let same : c.in-Err.field-0.fault ≡ or.Fault (faults.Device Snaps) = cc is in
-      absurd (no_snaps g.D.Disk.faults c.args.closed.now c.args.files.now c.run_of_closed.new.files
-      (c.in-Err.ensures.refused.device Snaps same));
+  unsound = λ is. absurd (no_snaps g.D.Disk.faults c.args.closed.now c.args.files.now c.run_of_closed.new.files
+      (c.in-Err.ensures.refused.device Snaps (same_err _ _ is)));
   quiet = λ fine. refl;
 }
 
@@ -127,9 +128,75 @@ returns-in-Err-clause-files g c = record {
 pub returns-then-count_nothing-clause-refused : goal.returns-then-count_nothing-clause-refused
 returns-then-count_nothing-clause-refused g c =
     let told = sym c.alone.ensures.answer in record {
-      damaged = λ device at is. absurd (let no = told ∙ is in cc);
-      device = λ device is. absurd (let no = told ∙ is in cc);
-      deep = λ is. absurd (let no = told ∙ is in cc);
-      limit = λ have new most is. absurd (let no = told ∙ is in cc);
-      also = λ device is. absurd (let no = sym c.alone.ensures.beside ∙ is in cc);
+      damaged = λ device at is. absurd (not_err _ _ (told ∙ is));
+      device = λ device is. absurd (not_err _ _ (told ∙ is));
+      deep = λ is. absurd (not_err _ _ (told ∙ is));
+      limit = λ have new most is. absurd (not_err _ _ (told ∙ is));
+      also = λ device is. absurd (none_beside _ device c.alone.ensures.beside is);
     }
+
+-- ---- what is told of no bytes that count
+
+pub returns-then-count_nothing-clause-none : goal.returns-then-count_nothing-clause-none
+returns-then-count_nothing-clause-none g c = (
+  λ is. sym c.count_nothing.ensures ∙ c.if-count_nothing.true,
+  λ none. c.alone.ensures.answer,
+)
+
+pub returns-then-count_nothing-clause-untouched : goal.returns-then-count_nothing-clause-untouched
+returns-then-count_nothing-clause-untouched g c none = (refl, refl, refl)
+
+pub returns-then-count_nothing-clause-gleaned : goal.returns-then-count_nothing-clause-gleaned
+returns-then-count_nothing-clause-gleaned g c epoch new is = absurd (not_snap epoch new (sym c.alone.ensures.answer
+    ∙ is))
+
+pub returns-then-count_nothing-clause-durable : goal.returns-then-count_nothing-clause-durable
+returns-then-count_nothing-clause-durable g c = rw c.alone.ensures.answer
+    (λ bytes told some. absurd (some (sym c.count_nothing.ensures ∙ c.if-count_nothing.true)))
+
+pub returns-then-count_nothing-clause-pages : goal.returns-then-count_nothing-clause-pages
+returns-then-count_nothing-clause-pages g c = rw c.alone.ensures.answer (record {
+  grows = ([], sym (append-nil c.args.store.now.pages));
+  front = search rules;
+  told = refl;
+  sound = c.requires.sound;
+  holds = c.requires.holds;
+  kept = tt;
+  unsound = λ is. absurd (not_err _ _ is);
+  quiet = λ fine. refl;
+})
+
+pub returns-then-count_nothing-clause-files : goal.returns-then-count_nothing-clause-files
+returns-then-count_nothing-clause-files g c = record {
+  many = refl;
+  reads = λ worker was is at there. subst
+      (OnlyReads g.D.Disk.tells g.D.Disk.clock g.D.Disk.image_at g.D.Disk.faults was)
+      (same_Some was is (sym at ∙ there)) (reads_none was);
+  quiet = λ worker was is at there fine alone. sym (ap g.D.Disk.faults (same_Some was is (sym at ∙ there)));
+}
+
+pub returns-in-Ok-clause-none : goal.returns-in-Ok-clause-none
+returns-in-Ok-clause-none g c = (
+  λ is. absurd (c.add.ensures.some (sym c.alone-in-Ok.ensures.answer ∙ is)),
+  λ none. absurd (not_true (sym c.if-count_nothing.false ∙ c.count_nothing.ensures ∙ none)),
+)
+
+pub returns-in-Ok-clause-untouched : goal.returns-in-Ok-clause-untouched
+returns-in-Ok-clause-untouched g c none = absurd (not_true (sym c.if-count_nothing.false ∙ c.count_nothing.ensures
+    ∙ none))
+
+pub returns-in-Err-clause-none : goal.returns-in-Err-clause-none
+returns-in-Err-clause-none g c = (
+  λ is. absurd (not_ok _ _ is),
+  λ none. absurd (not_true (sym c.if-count_nothing.false ∙ c.count_nothing.ensures ∙ none)),
+)
+
+pub returns-in-Err-clause-untouched : goal.returns-in-Err-clause-untouched
+returns-in-Err-clause-untouched g c none = absurd (not_true (sym c.if-count_nothing.false ∙ c.count_nothing.ensures
+    ∙ none))
+
+pub returns-in-Err-clause-gleaned : goal.returns-in-Err-clause-gleaned
+returns-in-Err-clause-gleaned g c epoch new is = absurd (not_ok _ _ is)
+
+pub returns-in-Err-clause-durable : goal.returns-in-Err-clause-durable
+returns-in-Err-clause-durable g c = tt

@@ -8,6 +8,7 @@ use Rattle.recovery_core.proofs.EntriesDevices.{maps_reads, maps_damaged, maps_r
 use Rattle.recovery_core.proofs.EntriesFit.{none_last, more_last, mapped_count, all_may_count}
 use Rattle.recovery_core.proofs.EntriesFiles.{CountedSoFar, none_counted, counted_more, counted_all}
 use Rattle.recovery_core.proofs.EntriesFiles.{breaks_next, reads_next}
+use Rattle.recovery_core.proofs.Exits.{memory_told, not_err, same_err}
 use Rattle.recovery_core.proofs.entries.read_entries.Goals as goal
 
 pub loop-bank-init : goal.loop-bank-init
@@ -22,7 +23,7 @@ pub returns-in-Err-clause-damaged : goal.returns-in-Err-clause-damaged
 returns-in-Err-clause-damaged g c device at is found told p same =
     let n = c.loop-bank.bank in
     let below : n < 16 = omega arith in
-    let cause = c.fault_of.ensures.damaged device at (cc) in
+    let cause = c.fault_of.ensures.damaged device at (same_err _ _ is) in
     let inv = c.loop-bank.invariant in (
       n,
       cause.0,
@@ -36,7 +37,7 @@ pub returns-in-Err-clause-before : goal.returns-in-Err-clause-before
 returns-in-Err-clause-before g c device is found told p same =
     let n = c.loop-bank.bank in
     let below : n < 16 = omega arith in
-    let cause = c.fault_of.ensures.device device (cc) in
+    let cause = c.fault_of.ensures.device device (same_err _ _ is) in
     (n, cause.0, reads_next n c.loop-bank.last (c.loop-bank.invariant.so_far found told p same) below)
 
 pub loop-bank-preserved : goal.loop-bank-preserved
@@ -84,12 +85,12 @@ returns-in-Err-clause-devices g c =
     record {
       reads = vault_reads_then inv.reads (maps_reads c.map_in.ensures.maps);
       device = λ device is.
-          let cause = c.fault_of.ensures.device device (cc) in
+          let cause = c.fault_of.ensures.device device (same_err _ _ is) in
           subst (λ d. RoseIn g.D.Disk.faults d c.args.vault.now c.map_in.new.vault) (sym cause.0)
           (maps_rose c.args.vault.now c.map_in.ensures.maps c.requires.whole inv.reads below
           (c.in-Err.is ∙ ap Err cause.1));
       spared = λ not. quiet_then c.map_in.new.vault inv.reads inv.quiet (maps_spared c.map_in.ensures.maps (λ is.
-          not (Bank n) (ap Err (c.fault_of.ensures.failed (cc (is, c.in-Err.is))))));
+          not (Bank n) (ap Err (c.fault_of.ensures.failed (same_err _ _ (sym c.in-Err.is ∙ is))))));
     }
 
 pub returns-in_err-take_in_buckets-clause-devices : goal.returns-in_err-take_in_buckets-clause-devices
@@ -98,13 +99,13 @@ returns-in_err-take_in_buckets-clause-devices g c =
     let inv = c.loop-bank.invariant in
     record {
       reads = vault_reads_then inv.reads (maps_reads c.map_in.ensures.maps);
-      device = λ device is. absurd (let no = is in cc (no, p.1, p.2));
+      device = λ device is. absurd (memory_told _ _ _ p.1 p.2 is);
       spared = λ not. quiet_then c.map_in.new.vault inv.reads inv.quiet (maps_quiet c.in-Ok.ensures.maps);
     }
 
 pub returns-clause-devices : goal.returns-clause-devices
 returns-clause-devices g c = record {
   reads = c.loop-bank.invariant.reads;
-  device = λ device is. absurd (let no = is in cc);
+  device = λ device is. absurd (not_err _ _ is);
   spared = λ not. c.loop-bank.invariant.quiet;
 }

@@ -1,17 +1,20 @@
 use Rattle.std.proofs.Common.{◌≡◌, ℕ, List, Option, None, sym, subst, ◌∙◌}
-use Rattle.std.specs.Prelude.{Result, IfOk}
+use Rattle.std.specs.Prelude.{Result, IfOk, IfSome}
 use Rattle.std.proofs.lemmas.Result.{IfOk-weaker, err_from_is_err_and}
 use Rattle.outside.specs.Disk.{IfTold, Only}
 use Rattle.log_writer.specs.declared.vault.Vault.{Vault}
-use Rattle.log_writer.specs.Points.{SaveState}
+use Rattle.log_writer.specs.declared.saved.Saved.{Saved}
+use Rattle.log_writer.specs.Points.{IsSaved, SaveState}
 use Rattle.log_writer.specs.Save.{Names, IsStored}
 use Rattle.joint_crashes.specs.Images.{Images}
 use Rattle.joint_crashes.specs.JointCrash.{parts_of}
 use Rattle.recovery_core.specs.Recovered.{Recovers}
 use Rattle.joint_crashes.specs.Resting.{AreTold}
 use Rattle.recovery_core.specs.declared.recovered.Recovered.{Recovered}
-use Rattle.joint_crashes.specs.VaultReads.{VaultOnlyReads, told_read, stored_read}
-use Rattle.recovery_core.specs.ReadsDevices.{reads_as, devices_then}
+use Rattle.joint_crashes.specs.VaultReads.{VaultOnlyReads, stored_read, told_read, whole_read}
+use Rattle.recovery_core.specs.Damage.{IsDamagedIn}
+use Rattle.recovery_core.specs.ReadsDevices.{devices_then}
+use Rattle.recovery_core.proofs.Exits.{handed_on, not_err, reads_handed_on}
 use Rattle.recovery_core.proofs.Recovering.{says_none, before_save, before_snaps}
 use Rattle.recovery_core.proofs.recovery.recover.Goals as goal
 
@@ -81,18 +84,59 @@ returns-in-Some-clause-before g c device same found told =
 pub returns-in_err-save-clause-before : goal.returns-in_err-save-clause-before
 returns-in_err-save-clause-before g c device same found told =
     let p = err_from_is_err_and c.from_residual.result c.from_residual.ensures.1 in
-    before_save found device (c.in_err-save.ensures.only device (cc (same, p.1, p.2)))
+    before_save found device (c.in_err-save.ensures.only device (handed_on _ _ _ p.0 p.1 p.2 same))
+
+pub returns-in_err-save-clause-damaged : goal.returns-in_err-save-clause-damaged
+returns-in_err-save-clause-damaged g c device at same found told =
+    let p = err_from_is_err_and c.from_residual.result c.from_residual.ensures.1 in
+    let broken = c.in_err-save.ensures.damaged device at (handed_on _ _ _ p.0 p.1 p.2 same) in
+    subst (λ d. IsDamagedIn found d at) (sym broken.0) (broken.1 found.save told.save)
 
 pub returns-in_err-save-clause-devices : goal.returns-in_err-save-clause-devices
 returns-in_err-save-clause-devices g c =
     let p = err_from_is_err_and c.from_residual.result c.from_residual.ensures.1 in
-    reads_as c.from_residual.result (λ device is. cc (is, p.1, p.2)) (λ device is. cc (is, p.1, p.2))
-    c.in_err-save.ensures.devices
+    reads_handed_on c.from_residual.result _ p.0 p.1 p.2 c.in_err-save.ensures.devices
 
 pub returns-in-None-clause-devices : goal.returns-in-None-clause-devices
-returns-in-None-clause-devices g c = devices_then c.requires.whole (λ device is. let no = is in cc)
+returns-in-None-clause-devices g c = devices_then c.requires.whole (λ device is. not_err _ _ is)
     c.in_ok-save.ensures.devices c.recover_fresh.ensures.devices
 
 pub returns-in-Some-clause-devices : goal.returns-in-Some-clause-devices
-returns-in-Some-clause-devices g c = devices_then c.requires.whole (λ device is. let no = is in cc)
+returns-in-Some-clause-devices g c = devices_then c.requires.whole (λ device is. not_err _ _ is)
     c.in_ok-save.ensures.devices c.recover_saved.ensures.devices
+
+-- ---- what the calls ask
+
+pub recover_fresh-requires-clause-fresh : goal.recover_fresh-requires-clause-fresh
+recover_fresh-requires-clause-fresh g c =
+    says_none c.in_ok-save.save.newest (sym c.in-None.is ∙ c.in_ok-save.ensures.found.says)
+
+pub recover_fresh-requires-clause-up : goal.recover_fresh-requires-clause-up
+recover_fresh-requires-clause-up g c = c.in_ok-save.ensures.found.up
+
+pub recover_saved-requires-clause-whole : goal.recover_saved-requires-clause-whole
+recover_saved-requires-clause-whole g c = whole_read c.load_save.ensures.devices.reads c.requires.whole
+
+pub recover_saved-requires-clause-says : goal.recover_saved-requires-clause-says
+recover_saved-requires-clause-says g c = sym c.in-Some.is ∙ c.in_ok-save.ensures.found.says
+
+pub recover_saved-requires-clause-saved : goal.recover_saved-requires-clause-saved
+recover_saved-requires-clause-saved g c =
+    subst (λ (o : Option Saved). IfSome o IsSaved) c.in-Some.is c.in_ok-save.ensures.found.ranges
+
+pub recover_saved-requires-clause-up : goal.recover_saved-requires-clause-up
+recover_saved-requires-clause-up g c = c.in_ok-save.ensures.found.up
+
+-- ---- what the calls answer
+
+pub returns-in-None-clause-up : goal.returns-in-None-clause-up
+returns-in-None-clause-up g c = c.recover_fresh.ensures.up
+
+pub returns-in-None-clause-holds : goal.returns-in-None-clause-holds
+returns-in-None-clause-holds g c = c.recover_fresh.ensures.holds
+
+pub returns-in-Some-clause-up : goal.returns-in-Some-clause-up
+returns-in-Some-clause-up g c = c.recover_saved.ensures.up
+
+pub returns-in-Some-clause-holds : goal.returns-in-Some-clause-holds
+returns-in-Some-clause-holds g c = c.recover_saved.ensures.holds

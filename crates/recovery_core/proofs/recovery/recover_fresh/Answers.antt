@@ -1,4 +1,4 @@
-use Rattle.std.proofs.Common.{◌<◌, List, map, refl, sym, ap, subst, ◌∙◌, arith}
+use Rattle.std.proofs.Common.{◌<◌, List, map, refl, sym, ap, subst, ◌∙◌}
 use Rattle.std.specs.FinMap.{get, get-empty}
 use Rattle.std.specs.Option.{option_map}
 use Rattle.std.proofs.lemmas.Result.{err_from_is_err_and}
@@ -8,16 +8,15 @@ use Rattle.serial_model.specs.declared.decl.Decl.{Decl}
 use Rattle.wire_form.specs.Items.{Rises}
 use Rattle.log_writer.specs.Points.{saved_of}
 use Rattle.recovery_core.specs.EntriesLast.{EntryMap}
-use Rattle.recovery_core.specs.ReadsDevices.{reads_as}
+use Rattle.recovery_core.proofs.Exits.{handed_on, none_before, reads_handed_on, reads_well}
 use Rattle.recovery_core.proofs.Recovering.{fresh_recovers}
 use Rattle.recovery_core.proofs.recovery.recover_fresh.Goals as goal
 
 pub returns-in_err-store-clause-damaged : goal.returns-in_err-store-clause-damaged
 returns-in_err-store-clause-damaged g c device at same file told =
     let p = err_from_is_err_and c.from_residual.result c.from_residual.ensures.1 in
-    let short = c.in_err-store.ensures.damaged device at (cc (same, p.1, p.2)) in
-    let none = (short.1 file told).0 in
-    omega (arith, none)
+    let short = c.in_err-store.ensures.damaged device at (handed_on _ _ _ p.0 p.1 p.2 same) in
+    none_before _ (short.1 file told).0
 
 pub returns-clause-recovers : goal.returns-clause-recovers
 returns-clause-recovers g c found names =
@@ -43,9 +42,7 @@ returns-clause-up g c = record {
 pub returns-in_err-store-clause-devices : goal.returns-in_err-store-clause-devices
 returns-in_err-store-clause-devices g c =
     let p = err_from_is_err_and c.from_residual.result c.from_residual.ensures.1 in
-    reads_as c.from_residual.result (λ device is. cc (is, p.1, p.2)) (λ device is. cc (is, p.1, p.2))
-    c.in_err-store.ensures.devices
+    reads_handed_on c.from_residual.result _ p.0 p.1 p.2 c.in_err-store.ensures.devices
 
 pub returns-clause-devices : goal.returns-clause-devices
-returns-clause-devices g c = reads_as _ (λ device is. absurd (let no = is in cc))
-    (λ device is. absurd (let no = is in cc)) c.in_ok-store.ensures.devices
+returns-clause-devices g c = reads_well _ _ c.in_ok-store.ensures.devices

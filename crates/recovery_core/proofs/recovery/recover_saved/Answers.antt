@@ -1,4 +1,4 @@
-use Rattle.std.proofs.Common.{◌≡◌, ◌+◌, ◌<◌, None, List, map, refl, sym, ap, subst, ◌∙◌}
+use Rattle.std.proofs.Common.{◌≡◌, ◌+◌, ◌<◌, None, Err, List, map, refl, sym, ap, subst, ◌∙◌}
 use Rattle.std.proofs.lemmas.Result.{err_from_is_err_and}
 use Rattle.std.specs.FinMap.{get}
 use Rattle.serial_model.specs.Keys.{id_of}
@@ -11,7 +11,8 @@ use Rattle.recovery_core.specs.EntriesRun.{AllMayCount}
 use Rattle.recovery_core.specs.LogEntries.{AreCounted}
 use Rattle.recovery_core.specs.Recoverable.{value_over}
 use Rattle.joint_crashes.specs.VaultReads.{told_read, holds_read}
-use Rattle.recovery_core.specs.ReadsDevices.{reads_as, devices_then}
+use Rattle.recovery_core.specs.ReadsDevices.{devices_then}
+use Rattle.recovery_core.proofs.Exits.{handed_on, not_err, reads_forgotten, reads_handed_on, reads_well}
 use Rattle.recovery_core.proofs.Recovering.{says_some, reads_pages, ids_rise, damaged_snaps, damaged_file}
 use Rattle.recovery_core.proofs.Recovering.{saved_recovers, before_snaps, before_file}
 use Rattle.recovery_core.proofs.recovery.recover_saved.Goals as goal
@@ -20,14 +21,15 @@ pub returns-in_err-snapshot-clause-damaged : goal.returns-in_err-snapshot-clause
 returns-in_err-snapshot-clause-damaged g c device at same found told names =
     let p = err_from_is_err_and c.from_residual.result c.from_residual.ensures.1 in
     let point = says_some c.args.save.newest c.args.saved c.requires.says in
-    let broken = c.in_err-snapshot.ensures.damaged device at (cc (same, p.1, p.2)) in
+    let broken = c.in_err-snapshot.ensures.damaged device at (handed_on _ _ _ p.0 p.1 p.2 same) in
     damaged_snaps found c.args.save.newest point.0 device at point.1 broken.0 names
     (broken.1 found.snaps told.snaps point.0 point.2)
 
 pub returns-in_err-snapshot-clause-before : goal.returns-in_err-snapshot-clause-before
 returns-in_err-snapshot-clause-before g c device same found told names =
     let p = err_from_is_err_and c.from_residual.result c.from_residual.ensures.1 in
-    before_snaps found c.args.save.newest device (c.in_err-snapshot.ensures.only device (cc (same, p.1, p.2))) names
+    before_snaps found c.args.save.newest device (c.in_err-snapshot.ensures.only device
+    (handed_on _ _ _ p.0 p.1 p.2 same)) names
 
 pub read_entries-requires-clause-rising : goal.read_entries-requires-clause-rising
 read_entries-requires-clause-rising g c =
@@ -43,7 +45,7 @@ returns-in_err-entries-clause-damaged g c device at same found told names =
     let snapshot = c.in_ok-snapshot.ensures.snapshot in
     let pages = reads_pages found.snaps c.args.saved point.0 snapshot.0 c.in_ok-snapshot.snapshot point.2 snapshot.1
     (c.in_ok-snapshot.ensures.pages found.snaps told.snaps) in
-    let broken = c.in_err-entries.ensures.damaged device at (cc (same, p.1, p.2)) found
+    let broken = c.in_err-entries.ensures.damaged device at (handed_on _ _ _ p.0 p.1 p.2 same) found
     (told_read c.load_snapshot.ensures.devices.reads c.requires.whole told) point.0
     (sym (ap (λ (x : Saved). x.lengths) point.2)) in
     damaged_file found c.args.save.newest point.0 device broken.0 at
@@ -57,7 +59,7 @@ returns-in_err-entries-clause-before g c device same found told names =
     let snapshot = c.in_ok-snapshot.ensures.snapshot in
     let pages = reads_pages found.snaps c.args.saved point.0 snapshot.0 c.in_ok-snapshot.snapshot point.2 snapshot.1
     (c.in_ok-snapshot.ensures.pages found.snaps told.snaps) in
-    let before = c.in_err-entries.ensures.before device (cc (same, p.1, p.2)) found
+    let before = c.in_err-entries.ensures.before device (handed_on _ _ _ p.0 p.1 p.2 same) found
     (told_read c.load_snapshot.ensures.devices.reads c.requires.whole told) point.0
     (sym (ap (λ (x : Saved). x.lengths) point.2)) in
     before_file found c.args.save.newest point.0 device before.0
@@ -117,24 +119,20 @@ returns-clause-up g c =
 pub returns-in_err-snapshot-clause-devices : goal.returns-in_err-snapshot-clause-devices
 returns-in_err-snapshot-clause-devices g c =
     let p = err_from_is_err_and c.from_residual.result c.from_residual.ensures.1 in
-    reads_as c.from_residual.result (λ device is. cc (is, p.1, p.2)) (λ device is. cc (is, p.1, p.2))
-    c.in_err-snapshot.ensures.devices
+    reads_handed_on c.from_residual.result _ p.0 p.1 p.2 c.in_err-snapshot.ensures.devices
 
 pub returns-in_err-entries-clause-devices : goal.returns-in_err-entries-clause-devices
 returns-in_err-entries-clause-devices g c =
     let p = err_from_is_err_and c.from_residual-in_err-entries.result c.from_residual-in_err-entries.ensures.1 in
-    devices_then c.requires.whole (λ device is. let no = is in cc) c.in_ok-snapshot.ensures.devices
-    (reads_as c.from_residual-in_err-entries.result (λ device is. cc (is, p.1, p.2)) (λ device is. cc (is, p.1, p.2))
-    c.in_err-entries.ensures.devices)
+    devices_then c.requires.whole (λ device is. not_err _ _ is) c.in_ok-snapshot.ensures.devices
+    (reads_handed_on c.from_residual-in_err-entries.result _ p.0 p.1 p.2 c.in_err-entries.ensures.devices)
 
 pub returns-in_err-put_over-clause-devices : goal.returns-in_err-put_over-clause-devices
 returns-in_err-put_over-clause-devices g c =
     let p = err_from_is_err_and c.from_residual-in_err-put_over.result c.from_residual-in_err-put_over.ensures.1 in
-    devices_then c.requires.whole (λ device is. let no = is in cc) c.in_ok-snapshot.ensures.devices
-    (reads_as c.from_residual-in_err-put_over.result (λ device is. absurd (let no = is in cc (no, p.1, p.2)))
-    (λ device is. absurd (let no = is in cc)) c.in_ok-entries.ensures.devices)
+    devices_then c.requires.whole (λ device is. not_err _ _ is) c.in_ok-snapshot.ensures.devices
+    (reads_forgotten _ c.from_residual-in_err-put_over.result (p.1 ∙ ap Err p.2) c.in_ok-entries.ensures.devices)
 
 pub returns-clause-devices : goal.returns-clause-devices
-returns-clause-devices g c = devices_then c.requires.whole (λ device is. let no = is in cc)
-    c.in_ok-snapshot.ensures.devices (reads_as _ (λ device is. absurd (let no = is in cc))
-    (λ device is. absurd (let no = is in cc)) c.in_ok-entries.ensures.devices)
+returns-clause-devices g c = devices_then c.requires.whole (λ device is. not_err _ _ is)
+    c.in_ok-snapshot.ensures.devices (reads_well _ _ c.in_ok-entries.ensures.devices)

@@ -1,6 +1,7 @@
 use Rattle.std.proofs.Common.{◌≡◌, ◌<◌, ℕ, ◌+◌, ◌^◌, List, ◌∷◌, ◌++◌, [], length, sym, ap, subst, ◌∙◌, arith}
 use Rattle.std.specs.List.{AllByRecursion}
 use Rattle.std.proofs.lemmas.Result.{err_from_is_err_and}
+use Rattle.lists.specs.declared.memory.OrMemory.TheVariants.{Fault}
 use Rattle.root_composer.specs.declared.fault.ComposeFault.TheVariants.{Deep}
 use Rattle.serial_model.specs.Numbers.{IsNumber}
 use Rattle.wire_form.specs.declared.bucket.Entry.{Entry}
@@ -12,6 +13,7 @@ use Rattle.root_composer.specs.Composition.{IsComposed, next_contents}
 use Rattle.root_composer.proofs.RunLemmas.{all_numbers}
 use Rattle.root_composer.proofs.Compositions.{snapshot_made, snapshot_deep}
 use Rattle.root_composer.proofs.ReadyLemmas.{ready}
+use Rattle.root_composer.proofs.StorageSteps.{fault_of_part, same_limit}
 use Rattle.root_composer.proofs.ComposeSteps.{catalogue_read, read_and_made, deep_of, roots_fit, small_roots, few_pages, rooted, few_rooted, would_compose, counted}
 use Rattle.root_composer.proofs.composing.compose.Goals as goal
 
@@ -33,9 +35,10 @@ compose_storages-requires-clause-numbers c =
 
 pub returns-then-from-new-clause-limit : goal.returns-then-from-new-clause-limit
 returns-then-from-new-clause-limit c have new most e =
-    let had : c.count-have.result ≡ have = cc in
-    let count : c.len.result + 1 ≡ new = cc in
-    let room : c.args.room ≡ most = cc in (
+    let so = same_limit c.count-have.result (c.len.result + 1) c.args.room have new most e in
+    let had : c.count-have.result ≡ have = so.0 in
+    let count : c.len.result + 1 ≡ new = so.1 in
+    let room : c.args.room ≡ most = so.2 in (
       sym had ∙ c.count-have.ensures.count,
       sym room,
       omega (arith, had, count, c.if-from-new.true, c.from.ensures, c.from-2.ensures),
@@ -83,7 +86,7 @@ returns-clause-composed c contents can =
 pub returns-in_err-roots-clause-deep : goal.returns-in_err-roots-clause-deep
 returns-in_err-roots-clause-deep c e contents can =
     let p = err_from_is_err_and c.from_residual-in_err-roots.result c.from_residual-in_err-roots.ensures.1 in
-    let deep = c.in_err-roots.ensures.deep Deep (cc (e, p.1, p.2)) in
+    let deep = c.in_err-roots.ensures.deep Deep (fault_of_part _ _ p.0 (Fault Deep) p.1 p.2 e) in
     let all = deep_of c.args.store.now.pages c.args.catalogue contents c.args.run.now c.as_slice.result.now c.args.epoch c.page.result.now c.in_ok-storages.storages.items c.deref.result.now Deep can c.page.ensures.page c.as_slice.ensures c.deref.ensures.value c.in_ok-storages.ensures deep in
     snapshot_deep (words_of c.args.store.now.pages) c.args.catalogue contents c.args.run.now c.args.epoch can all.levels
 

@@ -11,10 +11,18 @@ pub(crate) fn fault_lines(
     front: &[u8],
     is_whole: bool,
 ) -> Result<String, AllocError> {
+    match first_fault(alloc, front)? {
+        Some(fault) => line_told(alloc, front, fault),
+        None if is_whole => String::from_str(alloc, SHAPE),
+        None => String::from_str(alloc, BEYOND),
+    }
+}
+
+// The first faulty line, and its kind of fault; none where the bytes are a script.
+fn first_fault(alloc: Global, front: &[u8]) -> Result<Option<ScriptFault>, AllocError> {
     match read_script(alloc, front) {
-        Err(OrMemory::Fault(fault)) => line_told(alloc, front, fault),
-        Ok(_) if is_whole => String::from_str(alloc, SHAPE),
-        Ok(_) => String::from_str(alloc, BEYOND),
+        Ok(_) => Ok(None),
+        Err(OrMemory::Fault(fault)) => Ok(Some(fault)),
         Err(OrMemory::Memory) => Err(AllocError),
     }
 }
@@ -24,10 +32,17 @@ fn line_told(alloc: Global, front: &[u8], fault: ScriptFault) -> Result<String, 
     let text = shown(alloc, line)?;
     let number = fault.line;
     let meaning = meaning(fault.kind);
+    let returns = returns_told(line);
+    format!(in alloc; "foedus: line {number} is: {text}\nfoedus: {meaning}\n{returns}")
+}
+
+// What is told besides of a line that ends with a carriage return.
+fn returns_told(line: &[u8]) -> &'static str {
     if line.last() == Some(&b'\r') {
-        return format!(in alloc; "foedus: line {number} is: {text}\nfoedus: {meaning}\n{RETURNS}");
+        RETURNS
+    } else {
+        ""
     }
-    format!(in alloc; "foedus: line {number} is: {text}\nfoedus: {meaning}\n")
 }
 
 // The line of that number, from 1 on.

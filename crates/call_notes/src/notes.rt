@@ -72,16 +72,23 @@ fn cause(alloc: Global, folder: &str, device: Device, why: &Why) -> Result<Strin
     let path = device_path(alloc, folder, device)?;
     match why {
         Why::System(error) => system_cause(alloc, path.as_str(), *error),
-        Why::Locked => format!(in alloc; "foedus: {path}: another process has the database open\n"),
-        Why::Lost => format!(in alloc;
-            "foedus: {path} is missing, and other files of the database have bytes: put \
-            back a copy of the folder whose files are all of one moment, or remove it\n"
-        ),
-        Why::Closed => format!(in alloc;
-            "foedus: {path}: a standard stream is closed, and the file would take its \
-            place\n"
-        ),
+        Why::Locked => told_of(alloc, path.as_str(), LOCKED),
+        Why::Lost => told_of(alloc, path.as_str(), LOST),
+        Why::Closed => told_of(alloc, path.as_str(), CLOSED),
     }
+}
+
+// What is told behind the file's name.
+const LOCKED: &str = ": another process has the database open";
+
+const LOST: &str =
+    " is missing, and other files of the database have bytes: put back a copy of the folder whose \
+    files are all of one moment, or remove it";
+
+const CLOSED: &str = ": a standard stream is closed, and the file would take its place";
+
+fn told_of(alloc: Global, path: &str, told: &str) -> Result<String, AllocError> {
+    format!(in alloc; "foedus: {path}{told}\n")
 }
 
 fn system_cause(alloc: Global, path: &str, error: io::Error) -> Result<String, AllocError> {
@@ -92,11 +99,20 @@ fn system_cause(alloc: Global, path: &str, error: io::Error) -> Result<String, A
 pub fn tell_causes<N: Sink>(alloc: Global, notes: &mut N, folder: &str, vault: &Vault<FileDisk>) {
     tell_cause(alloc, notes, folder, Device::Save, &vault.save);
     tell_cause(alloc, notes, folder, Device::Snaps, &vault.snaps);
-    for (worker, disk) in vault.even.iter().enumerate() {
-        tell_cause(alloc, notes, folder, log_of(worker, 0), disk);
-    }
-    for (worker, disk) in vault.odd.iter().enumerate() {
-        tell_cause(alloc, notes, folder, log_of(worker, 1), disk);
+    tell_log_causes(alloc, notes, folder, 0, vault.even.as_slice());
+    tell_log_causes(alloc, notes, folder, 1, vault.odd.as_slice());
+}
+
+// Of the log files of one side.
+fn tell_log_causes<N: Sink>(
+    alloc: Global,
+    notes: &mut N,
+    folder: &str,
+    side: u8,
+    disks: &[FileDisk],
+) {
+    for (worker, disk) in disks.iter().enumerate() {
+        tell_cause(alloc, notes, folder, log_of(worker, side), disk);
     }
 }
 

@@ -24,7 +24,7 @@ pub trait Counts {
     fn printed(&self) -> Printed;
 }
 
-// The front of the line whose end wasn't handed over yet, how many bytes it has, and what those before it tell.
+// The front of the line whose end wasn't handed over yet, how many of its bytes are kept, and what those before tell.
 #[derive(Drop)]
 struct LineCounter {
     front: [u8; MOST_KEPT],
@@ -45,20 +45,28 @@ impl LineCounter {
         }
     }
 
-    // Takes bytes that go on where those before them ended.
+    // Takes bytes that go on where those before them ended. All that is printed passes here, on one thread, so of a
+    // line no more is looked at than its end and what is kept.
     fn take(&mut self, bytes: &[u8]) {
-        for byte in bytes {
-            self.take_byte(*byte);
+        for (index, part) in bytes.split(|byte| *byte == b'\n').enumerate() {
+            if index > 0 {
+                self.end_line();
+            }
+            self.take_part(part);
         }
     }
 
-    fn take_byte(&mut self, byte: u8) {
-        if byte == b'\n' {
-            self.end_line();
-        } else {
-            if self.length < MOST_KEPT {
-                self.front[self.length] = byte;
+    // Takes bytes of one line. One that is longer than those that are counted isn't looked at.
+    fn take_part(&mut self, bytes: &[u8]) {
+        if bytes.len() >= MOST_KEPT.saturating_sub(self.length) {
+            self.length = MOST_KEPT;
+            return;
+        }
+        for byte in bytes {
+            if self.length >= MOST_KEPT {
+                return;
             }
+            self.front[self.length] = *byte;
             self.length = self.length.saturating_add(1);
         }
     }

@@ -172,18 +172,36 @@ fn reason_of_option(alloc: Global, before: &[&str], words: &[&str]) -> Result<St
     };
     let name = name_of(word);
     if before.iter().any(|other| name_of(other) == name) {
-        return format!(in alloc; "`{name}` stands there twice");
+        return no_second(alloc, name);
     }
     if *word == "--brief" {
         return Ok(String::new(alloc));
     }
-    let Some(wanted) = OPTIONS.iter().find(|option| option.name == name) else {
-        return no_option(alloc, word);
-    };
-    match number_of_option(words) {
-        Some(number) if is_number(number, *wanted) => Ok(String::new(alloc)),
-        Some(number) => no_number(alloc, number, *wanted),
-        None => missing(alloc, *wanted),
+    match option_named(name) {
+        Some(wanted) => reason_of_value(alloc, number_of_option(words), wanted),
+        None => no_option(alloc, word),
+    }
+}
+
+fn no_second(alloc: Global, name: &str) -> Result<String, AllocError> {
+    format!(in alloc; "`{name}` stands there twice")
+}
+
+// The option of that name which has a number.
+fn option_named(name: &str) -> Option<Wanted> {
+    OPTIONS.iter().find(|option| option.name == name).copied()
+}
+
+// Of an option's number, where it has one.
+fn reason_of_value(
+    alloc: Global,
+    number: Option<&str>,
+    wanted: Wanted,
+) -> Result<String, AllocError> {
+    match number {
+        Some(number) if is_number(number, wanted) => Ok(String::new(alloc)),
+        Some(number) => no_number(alloc, number, wanted),
+        None => missing(alloc, wanted),
     }
 }
 

@@ -47,15 +47,27 @@ struct LineStarts {
 impl LineStarts {
     // With bytes that go on where those before them ended.
     fn with(self, bytes: &[u8]) -> Self {
-        let mut lines = self;
-        for byte in bytes {
-            if lines.is_start && byte.is_ascii_digit() {
-                lines.count = lines.count.saturating_add(1);
-            }
-            lines.is_start = *byte == b'\n';
+        let Some(first) = bytes.first() else {
+            return self;
+        };
+        let begins = self.is_start && first.is_ascii_digit();
+        let more = u64::from(begins).wrapping_add(u64::from(starts_in(bytes)));
+        LineStarts {
+            count: self.count.saturating_add(more),
+            is_start: bytes.ends_with(b"\n"),
         }
-        lines
     }
+}
+
+// How many of the bytes behind the first are digits that begin a line. All of a script passes here, on one thread, so
+// it is a sum without a branch.
+fn starts_in(bytes: &[u8]) -> u32 {
+    let mut count: u32 = 0;
+    for at in 1..bytes.len() {
+        let begins = (bytes[at - 1] == b'\n') & bytes[at].is_ascii_digit();
+        count = count.wrapping_add(u32::from(begins));
+    }
+    count
 }
 
 impl<S: Source + Drop> ScriptSource<S> {

@@ -24,3 +24,4 @@ pub mod FrontNumbers
 pub mod FrontOps
 pub mod FrontLines
 pub mod Limits
+pub mod ReplyLaws

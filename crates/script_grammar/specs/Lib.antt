@@ -5,3 +5,4 @@ pub mod Faults
 pub mod Lines
 pub mod FlatOps
 pub mod Front
+pub mod ReplyRoom

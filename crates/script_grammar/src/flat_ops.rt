@@ -1,7 +1,8 @@
 // Operations in memory: 20 bytes for each, where an `Op` takes 32, and room for those of a line as they are.
-ghost use Rattle.std.specs.Prelude.{◌≡◌, ℕ, ◌+◌, ◌<◌, ◌≤◌, [], ◌∷◌, ◌++◌, length, take, drop, OnOk, OnErr};
+ghost use Rattle.std.specs.Prelude.{◌≡◌, ℕ, ◌+◌, ◌<◌, ◌≤◌, [], ◌∷◌, ◌++◌, length, map, take, drop, OnOk, OnErr};
 ghost use Rattle.script_grammar.specs.FlatOps.{wide, op_of, op_of_kind};
 ghost use Rattle.script_grammar.specs.Front.{MayTakeOps};
+ghost use Rattle.script_grammar.specs.ReplyRoom.{most_words, words_for};
 
 use crate::front_op::ops_from;
 use crate::read_op::MOST_OPS;
@@ -80,6 +81,18 @@ impl FlatOp {
             value: Halves::new(value),
             storage: key.storage,
             kind,
+        }
+    }
+
+    /// How many words its reply takes at most: two of a value, and 34 of a scan's 16 rows.
+    fn reply_words(&self) -> u32
+        ensures is { result ≡ words_for (op_of self.now) }
+        ensures few { result ≤ 34 }
+    {
+        match self.kind {
+            OpKind::Read => 2,
+            OpKind::Scan => 34,
+            OpKind::Write | OpKind::Remove | OpKind::Add | OpKind::Take => 0,
         }
     }
 
@@ -171,6 +184,17 @@ impl FlatOps {
         Ok(ops_from(bytes, start, storages, &mut self.list))
     }
 
+    /// How many words the replies of the operations from this one on, so many, take at most.
+    pub(crate) fn reply_words(&self, start: usize, count: usize) -> u32
+        requires within { start + count ≤ length self.now }
+        requires few { count ≤ 16 }
+        ensures is { result ≡ most_words (take count (drop start self.now)) }
+        ensures few { result ≤ 544 }
+    {
+        let flats = &self.list.as_slice()[start..start + count];
+        words_of(flats)
+    }
+
     /// Puts the operations from this one on, so many, into the room.
     pub(crate) fn fill(&self, start: usize, count: usize, room: &mut LineOps)
         requires within { start + count ≤ length self.now }
@@ -183,6 +207,19 @@ impl FlatOps {
             room.push(flat.op());
         }
     }
+}
+
+// How many words the replies of these operations take at most.
+fn words_of(flats: &[FlatOp]) -> u32
+    requires { length flats.now ≤ 16 }
+    ensures is { result ≡ most_words (map op_of flats.now) }
+    ensures few { result ≤ 544 }
+{
+    let mut words = 0;
+    for flat in flats {
+        words += flat.reply_words();
+    }
+    words
 }
 
 /// Room for the operations of one line, at most 16.

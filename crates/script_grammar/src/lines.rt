@@ -1,8 +1,10 @@
 // Lines in memory: one list of operations for all, and a span of it for each, so that a line takes no list of its own.
 ghost use Rattle.std.specs.Prelude.{◌≡◌, ◌<◌, ◌≤◌, [], ◌∷◌, ◌++◌, length, slice_get, Some, OnOk, OnErr, option_map};
+ghost use Rattle.std.specs.Prelude.{IfSome};
 ghost use Rattle.script_grammar.specs.Script.{Keeper, Worker, keeper_line_of, worker_of};
 ghost use Rattle.script_grammar.specs.Lines.{line_lent};
 ghost use Rattle.script_grammar.specs.Front.{MayTakeLine};
+ghost use Rattle.script_grammar.specs.ReplyRoom.{words_asked};
 
 use crate::flat_ops::{FlatOps, LineOps};
 use crate::front_number::digit_at;
@@ -155,6 +157,25 @@ impl Lines {
     {
         match self.spans[index] {
             Span::Worker { worker, .. } => Some(worker),
+            Span::Keeper(_) => None,
+        }
+    }
+
+    /// The worker whose line it is, if it is one's, and how many words its replies take at most.
+    pub(crate) fn reply_words(&self, index: usize) -> Option<(u8, u32)>
+        requires { index < length self.now }
+        ensures is { option_map words_asked (slice_get self.now index) ≡ Some result }
+        ensures few { IfSome result (λ x. x.1 ≤ 544) }
+    {
+        match self.spans[index] {
+            Span::Worker {
+                worker,
+                count,
+                start,
+            } => {
+                let words = self.ops.reply_words(start as usize, usize::from(count));
+                Some((worker, words))
+            }
             Span::Keeper(_) => None,
         }
     }

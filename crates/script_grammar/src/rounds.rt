@@ -1,8 +1,10 @@
 // Rounds in memory: all their lines, and a stretch of these for each, so that a round takes no list of its own.
 ghost use Rattle.std.specs.Prelude.{◌≡◌, ◌<◌, ◌≤◌, [], ◌∷◌, ◌++◌, length, slice_get, option_map, Some, OnOk, OnErr};
+ghost use Rattle.std.specs.Prelude.{IfSome};
 ghost use Rattle.script_grammar.specs.Script.{Keeper, Worker, keeper_line_of, last_round, worker_of};
 ghost use Rattle.script_grammar.specs.Lines.{line_lent};
 ghost use Rattle.script_grammar.specs.Front.{MayTakeLine};
+ghost use Rattle.script_grammar.specs.ReplyRoom.{words_asked};
 
 use crate::flat_ops::LineOps;
 use crate::lines::{KeeperLine, Line, Lines};
@@ -173,6 +175,17 @@ impl Round<'_> {
     {
         prove!(index < self.end - self.start);
         self.lines.worker(self.start + index)
+    }
+
+    /// The worker whose line this is, by its index from 0 in the order of the script, if it is one's, and how many words
+    /// its replies take at most.
+    pub fn reply_words(&self, index: usize) -> Option<(u8, u32)>
+        requires { index < length self.now.lines }
+        ensures is { option_map words_asked (slice_get self.now.lines index) ≡ Some result }
+        ensures few { IfSome result (λ x. x.1 ≤ 544) }
+    {
+        prove!(index < self.end - self.start);
+        self.lines.reply_words(self.start + index)
     }
 
     /// What this line asks for, by its index from 0 in the order of the script, if it is one of the maintenance thread.

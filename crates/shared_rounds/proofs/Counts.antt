@@ -5,12 +5,12 @@ use Rattle.std.specs.Prelude.{◌==◌, filter_map, slice_get}
 use Rattle.std.specs.List.{AllByRecursion}
 use Rattle.std.specs.Option.{option_map}
 use Rattle.std.proofs.lemmas.Option.{same_Some}
-use Rattle.lists.specs.Each.{all_at}
 use Rattle.script_grammar.specs.Script.{Keeper, Line, Round, Worker, ops_of_worker, worker_of}
 use Rattle.serial_model.specs.declared.decl.Decl.{Decl}
 use Rattle.serial_model.specs.declared.op.Op.{Op}
-use Rattle.serial_model.specs.declared.op.Op.TheVariants.{Read, Write, Remove, Add, Take, Scan}
-use Rattle.tx_script.specs.Room.{RoomState, all_words, most_words, words_for}
+use Rattle.script_grammar.specs.ReplyRoom.{most_words, words_asked}
+use Rattle.script_grammar.proofs.ReplyLaws.{most_by}
+use Rattle.tx_script.specs.Room.{RoomState, all_words}
 use Rattle.tx_script.specs.Run.{CanRun, CanRunLine}
 use Rattle.shared_rounds.specs.Rooms.{AreRooms, counts_for, spaces_for}
 
@@ -85,7 +85,7 @@ counts_next worker i lines owner is =
 -- ---- words of their replies
 
 one_words : (worker : ℕ) (line : Line)
-    → all_words (lines_in worker (line ∷ [])) ≡ spaces_for line worker
+    → all_words (lines_in worker (line ∷ [])) ≡ spaces_for (words_asked line) worker
 one_words worker (Worker other ops) = by_test (other == worker) refl
   where
     by_test : (b : Bool) → (other == worker) ≡ b
@@ -104,62 +104,30 @@ more_words worker line lines = by_line (ops_of_worker worker line) refl
     by_line None is = rw is (omega arith)
     by_line (Some ops) is = rw is (omega arith)
 
-words_more : (worker i : ℕ) (lines : List Line) (line : Line) → slice_get lines i ≡ Some line
+words_more : (worker i : ℕ) (lines : List Line) (asked : Option (ℕ × ℕ))
+    → option_map words_asked (slice_get lines i) ≡ Some asked
     → all_words (lines_in worker (take (suc i) lines))
-    ≡ all_words (lines_in worker (take i lines)) + spaces_for line worker
-words_more worker i [] line is = absurd cc
-words_more worker zero (x ∷ lines) line is =
-    let same : x ≡ line = same_Some x line is in
-    one_words worker x ∙ ap (λ (l : Line). spaces_for l worker) same ∙ omega arith
-words_more worker (suc i) (x ∷ lines) line is =
+    ≡ all_words (lines_in worker (take i lines)) + spaces_for asked worker
+words_more worker i [] asked is = absurd cc
+words_more worker zero (x ∷ lines) asked is =
+    let same : words_asked x ≡ asked = same_Some (words_asked x) asked is in
+    one_words worker x ∙ ap (λ (o : Option (ℕ × ℕ)). spaces_for o worker) same ∙ omega arith
+words_more worker (suc i) (x ∷ lines) asked is =
     omega (
       arith,
       more_words worker x (take (suc i) lines),
       more_words worker x (take i lines),
-      words_more worker i lines line is,
+      words_more worker i lines asked is,
     )
 
 -- one line more
-pub words_next : (worker i : ℕ) (lines : List Line) (line : Line) → slice_get lines i ≡ Some line
+pub words_next : (worker i : ℕ) (lines : List Line) (asked : Option (ℕ × ℕ))
+    → option_map words_asked (slice_get lines i) ≡ Some asked
     → all_words (lines_in worker (take (i + 1) lines))
-    ≡ all_words (lines_in worker (take i lines)) + spaces_for line worker
-words_next worker i lines line is =
+    ≡ all_words (lines_in worker (take i lines)) + spaces_for asked worker
+words_next worker i lines asked is =
     let next : i + 1 ≡ suc i = omega arith in
-    ap (λ n. all_words (lines_in worker (take n lines))) next ∙ words_more worker i lines line is
-
-most_one : (op : Op) → words_for op ≤ 34
-most_one (Read k) = omega arith
-most_one (Write k v) = omega arith
-most_one (Remove k) = omega arith
-most_one (Add k v) = omega arith
-most_one (Take k v) = omega arith
-most_one (Scan storage low high) = omega arith
-
-most_by : (ops : List Op) → most_words ops ≤ 34 * length ops
-most_by [] = omega arith
-most_by (op ∷ ops) = omega (arith, most_one op, most_by ops)
-
-most_more : (ops : List Op) (i : ℕ) (other : Op) → i < length ops
-    → most_words (take (suc i) ops) ≡ most_words (take i ops) + words_for (get_or ops i other)
-most_more [] i other less = absurd (omega (arith, less))
-most_more (op ∷ ops) zero other less = omega arith
-most_more (op ∷ ops) (suc i) other less = omega (arith, most_more ops i other (omega (arith, less)))
-
--- one operation more
-pub most_next : (ops : List Op) (i : ℕ) (other : Op) → i < length ops
-    → most_words (take (i + 1) ops) ≡ most_words (take i ops) + words_for (get_or ops i other)
-most_next ops i other less =
-    let next : i + 1 ≡ suc i = omega arith in
-    ap (λ n. most_words (take n ops)) next ∙ most_more ops i other less
-
-most_front : (ops : List Op) (i : ℕ) → most_words (take i ops) ≤ most_words ops
-most_front ops zero = omega arith
-most_front [] (suc i) = omega arith
-most_front (op ∷ ops) (suc i) = omega (arith, most_front ops i)
-
--- the words of the first operations of a line are few
-pub most_few : (ops : List Op) (i : ℕ) → length ops ≤ 16 → most_words (take i ops) ≤ 544
-most_few ops i few = omega (arith, most_front ops i, most_by ops, few)
+    ap (λ n. all_words (lines_in worker (take n lines))) next ∙ words_more worker i lines asked is
 
 -- lines of 16 operations at most have 544 words each at most
 pub words_upto : (decls : List Decl) (worker : ℕ) (lines : List Line) → AllByRecursion (CanRunLine decls) lines
@@ -170,18 +138,14 @@ words_upto decls worker (line ∷ lines) all =
     let one = line_words decls worker line all.0 in
     omega (arith, rest, one, more_words worker line lines, one_words worker line)
   where
-    line_words : (decls : List Decl) (worker : ℕ) (line : Line) → CanRunLine decls line → spaces_for line worker ≤ 544
+    line_words : (decls : List Decl) (worker : ℕ) (line : Line) → CanRunLine decls line
+        → spaces_for (words_asked line) worker ≤ 544
     line_words decls worker (Worker other ops) can = by_test (other == worker)
       where
         by_test : (b : Bool) → cond b (most_words ops) 0 ≤ 544
         by_test true = let most = most_by ops in let few = can.few in omega (arith, most, few)
         by_test false = omega arith
     line_words decls worker (Keeper line) can = omega arith
-
--- a line of a round that can be run can be run
-pub line_of_round : (decls : List Decl) (round : Round) (i : ℕ) (line : Line) → CanRun decls round
-    → slice_get round.lines i ≡ Some line → CanRunLine decls line
-line_of_round decls round i line can at = all_at (CanRunLine decls) round.lines i line can.lines at
 
 take_can : (decls : List Decl) (i : ℕ) (lines : List Line) → AllByRecursion (CanRunLine decls) lines
     → AllByRecursion (CanRunLine decls) (take i lines)

@@ -1,8 +1,8 @@
 -- Room for what comes of the workers' lines.
 use Rattle.std.specs.Prelude.{◌≡◌, ◌==◌, ◌<◌, ◌≤◌, ℕ, List, [], Option, None, Some, cond, get_or, length, slice_get}
 use Rattle.std.specs.Prelude.{vec_capacity, vec_len}
-use Rattle.script_grammar.specs.Script.{Keeper, Line, Round, Worker, lines_of_worker}
-use Rattle.tx_script.specs.Room.{RoomState, all_words, most_words}
+use Rattle.script_grammar.specs.Script.{Round, lines_of_worker}
+use Rattle.tx_script.specs.Room.{RoomState, all_words}
 use Rattle.shared_rounds.specs.declared.rooms.Rooms.{Rooms}
 
 -- what a line of this worker, if it is one's, adds to the lines of the other
@@ -15,10 +15,10 @@ pub record AreCounts (round : Round) (counts : List ℕ) : Type 0 where
   pub workers : length counts ≡ 8
   pub each : (worker : ℕ) → worker < 8 → get_or counts worker 0 ≡ length (lines_of_worker round worker)
 
--- what a line adds to the words that the replies of a worker's lines take at most
-abbrev pub spaces_for : Line → ℕ → ℕ
-spaces_for (Worker worker ops) other = cond (worker == other) (most_words ops) 0
-spaces_for (Keeper line) other = 0
+-- what a line with so many words of replies of this worker, if it is one's, adds to the words of the other's
+abbrev pub spaces_for : Option (ℕ × ℕ) → ℕ → ℕ
+spaces_for None other = 0
+spaces_for (Some asked) other = cond (asked.0 == other) asked.1 0
 
 -- these are the most words of the replies of the workers' lines
 pub record AreSpaces (round : Round) (spaces : List ℕ) : Type 0 where

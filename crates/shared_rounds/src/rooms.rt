@@ -1,15 +1,14 @@
 // Room for what comes of the workers' lines of a round, made before the first worker is seated.
-ghost use Rattle.std.specs.Prelude.{◌≡◌, ◌==◌, ◌*◌, ◌+◌, ◌<◌, ◌≤◌, ℕ, IfOk, List, cond, get_or, length, vec_len};
+ghost use Rattle.std.specs.Prelude.{◌≡◌, ◌==◌, ◌*◌, ◌+◌, ◌<◌, ◌≤◌, ℕ, IfOk, IfSome, List, cond, get_or, length};
+ghost use Rattle.std.specs.Prelude.{vec_len};
 ghost use Rattle.serial_model.specs.declared.decl.Decl.{Decl};
-ghost use Rattle.script_grammar.specs.Lines.{line_lent};
-ghost use Rattle.tx_script.specs.Room.{most_words, words_for};
-ghost use Rattle.tx_script.specs.Run.{CanRun, CanRunLine};
+ghost use Rattle.tx_script.specs.Run.{CanRun};
 ghost use Rattle.shared_rounds.specs.Rooms.{AreCounts, AreRooms, AreSpaces, IsRoomOf, counts_for, spaces_for};
 
 use outside::Disk;
-use serial_model::{Memory, Op, WORKERS};
+use serial_model::{Memory, WORKERS};
 use std::alloc::Global;
-use tx_script::{Line, LineOps, OutcomeRoom, Outcomes, Round};
+use tx_script::{OutcomeRoom, Outcomes, Round};
 use worker_cells::Cell;
 
 /// All memory that the workers' lines of a round take.
@@ -82,27 +81,26 @@ fn count_words(round: &Round<'_>) -> [u32; WORKERS]
     requires { (decls : List Decl) × CanRun decls round.now }
     ensures { AreSpaces round.now result }
 {
-    let mut room = LineOps::new();
     let mut spaces = [0; WORKERS];
     for index in 0..round.len() {
-        add_words(&mut spaces, round.line(index, &mut room));
+        add_words(&mut spaces, round.reply_words(index));
     }
     spaces
 }
 
 // Adds the words of one line more, if it is a worker's.
-fn add_words(spaces: &mut [u32; WORKERS], line: Line<'_>)
+fn add_words(spaces: &mut [u32; WORKERS], asked: Option<(u8, u32)>)
     requires workers { length spaces.old ≡ 8 }
-    requires line { (decls : List Decl) × CanRunLine decls (line_lent line) }
+    requires words { IfSome asked (λ x. x.1 ≤ 544) }
     requires few { (other : ℕ) → other < 8 → get_or spaces.old other 0 ≤ 544 * 65536 }
     ensures workers { length spaces.new ≡ 8 }
     ensures words { (other : ℕ) → other < 8
-        → get_or spaces.new other 0 ≡ get_or spaces.old other 0 + spaces_for (line_lent line.entry) other }
+        → get_or spaces.new other 0 ≡ get_or spaces.old other 0 + spaces_for asked other }
 {
-    let Line::Worker { worker, ops } = line else {
+    let Some((worker, words)) = asked else {
         return;
     };
-    add_for(spaces, worker, words_of(ops));
+    add_for(spaces, worker, words);
 }
 
 // Adds so many words for a line of this worker.
@@ -119,31 +117,6 @@ fn add_for(spaces: &mut [u32; WORKERS], worker: u8, words: u32)
         return;
     }
     spaces[index] += words;
-}
-
-// How many words the replies of a line have at most.
-fn words_of(ops: &[Op]) -> u32
-    requires { length ops.now ≤ 16 }
-    ensures is { result ≡ most_words ops.now }
-    ensures few { result ≤ 544 }
-{
-    let mut words = 0;
-    for op in ops {
-        words += words_of_one(op);
-    }
-    words
-}
-
-// How many words an operation's reply has at most: two of a value, and 34 of a scan's 16 rows.
-fn words_of_one(op: &Op) -> u32
-    ensures is { result ≡ words_for op.now }
-    ensures few { result ≤ 34 }
-{
-    match op {
-        Op::Read(_) => 2,
-        Op::Scan { .. } => 34,
-        Op::Write(_, _) | Op::Remove(_) | Op::Add(_, _) | Op::Take(_, _) => 0,
-    }
 }
 
 // Room for so many lines of each worker, with so many words of replies.

@@ -108,16 +108,3 @@ adds_as {old = old} {new = new} same one = subst (λ t. Adds old new t) same one
 -- the same where the sink failed
 pub breaks_as : {old new : Output} {text other : Bytes} → text ≡ other → Breaks old new text → Breaks old new other
 breaks_as {old = old} {new = new} same one = subst (λ t. Breaks old new t) same one
-
--- what a sink holds that failed while nothing waited before the text
-pub prefix_of_text : {T E : Type 0} (old new : Output) (text : Bytes) (r : Result T E) → old.waiting ≡ []
-    → Prints old new text r → OnErr r (TakesPrefix old.held new.held text)
-prefix_of_text old new text (Ok x) empty one = tt
-prefix_of_text old new text (Err e) empty one =
-    let p = one.prefix in (p.0, p.1, ap (λ w. w ++ text) (sym empty) ∙ p.2, p.3)
-
--- the same, where the text was added before and what waits is written
-pub prefix_of_flushed : {T E : Type 0} {old mid : Output} {text : Bytes} (new : Output) (r : Result T E) → old.waiting ≡ []
-    → Adds old mid text → Prints mid new [] r → OnErr r (TakesPrefix old.held new.held text)
-prefix_of_flushed {old = old} {text = text} new r empty one two =
-    subst (λ t. OnErr r (TakesPrefix old.held new.held t)) (append-nil text) (prefix_of_text old new (text ++ []) r empty (prints_then new [] r one two))

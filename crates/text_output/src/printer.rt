@@ -1,5 +1,5 @@
 // A printer: a sink that is lent to it, and a buffer. Lines are gathered, so that many of them take one write.
-ghost use Rattle.std.specs.Prelude.{◌≡◌, ◌++◌, [], OnOk, MatchBool, decimal};
+ghost use Rattle.std.specs.Prelude.{◌≡◌, ◌<◌, ◌++◌, [], OnOk, MatchBool, decimal};
 ghost use Rattle.text_output.specs.Output.{Prints};
 
 use arrayvec::ArrayVec;
@@ -47,18 +47,49 @@ impl<'a, K: Sink> Printer<'a, K> {
     }
 
     /// Adds bytes. What waits is written where there is no room for them, and they are then written by themselves.
+    #[inline(always)]
     pub fn put(&mut self, bytes: &[u8]) -> Result<(), Failed>
         ensures { Prints self.old self.new bytes.now result }
     {
         if self.gather(bytes) {
             return Ok(());
         }
+        self.write_past(bytes)
+    }
+
+    // Writes what waits, and then the bytes by themselves.
+    #[inline(never)]
+    fn write_past(&mut self, bytes: &[u8]) -> Result<(), Failed>
+        ensures { Prints self.old self.new bytes.now result }
+    {
         self.flush()?;
         self.sink.write(bytes)
     }
 
-    /// Adds a number in decimal.
+    /// Adds a number in decimal. Most are workers, epochs and values of one digit.
+    #[inline(always)]
     pub fn put_number(&mut self, n: u64) -> Result<(), Failed>
+        ensures { Prints self.old self.new (decimal n) result }
+    {
+        if n < 10 {
+            return self.put_digit(n);
+        }
+        self.put_digits(n)
+    }
+
+    // A number of one digit.
+    #[inline(always)]
+    fn put_digit(&mut self, n: u64) -> Result<(), Failed>
+        requires { n < 10 }
+        ensures { Prints self.old self.new (decimal n) result }
+    {
+        let digit = [b'0' + n as u8];
+        self.put(&digit)
+    }
+
+    // A number of any length.
+    #[inline(never)]
+    fn put_digits(&mut self, n: u64) -> Result<(), Failed>
         ensures { Prints self.old self.new (decimal n) result }
     {
         let mut digits = [0; 20];
@@ -87,6 +118,7 @@ impl<'a, K: Sink> Printer<'a, K> {
     }
 
     /// Adds bytes where there is room for all of them, and answers whether there was.
+    #[inline(always)]
     fn gather(&mut self, bytes: &[u8]) -> bool
         ensures { MatchBool result (self.new ≡ record self.old { waiting = self.old.waiting ++ bytes.now })
             (self.new ≡ self.old) }

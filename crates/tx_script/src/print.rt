@@ -200,6 +200,7 @@ fn put_replies<K: Sink>(
     Ok(())
 }
 
+#[inline(always)]
 fn put_reply<K: Sink>(printer: &mut Printer<'_, K>, reply: LentReply<'_>) -> Result<(), Failed>
     ensures { Prints printer.old printer.new (reply_text (reply_lent reply.entry)) result }
 {

@@ -1,0 +1,6 @@
+-- Its digit is its text.
+use Rattle.std.proofs.lemmas.Fmt.{decimal_digit}
+use Rattle.text_output.proofs.printer.Printer.put_digit.Goals as goal
+
+pub returns : goal.returns
+returns g c = rw (decimal_digit c.args.n c.requires) c.put.ensures

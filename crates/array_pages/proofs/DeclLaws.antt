@@ -1,12 +1,14 @@
 -- The declared storages: an array by its id.
 use Rattle.std.proofs.Common.{◌≡◌, ◌≢◌, ℕ, suc, ◌<◌, ◌≤◌, Bool, true, false, true≢false, cond, eqb, eq-eqb, eqb-true}
 use Rattle.std.proofs.Common.{ne_eqb}
-use Rattle.std.proofs.Common.{List, [], ◌∷◌, length, map, refl, sym, ap, ◌∙◌, subst, arith, inl, inr, Option, Some}
-use Rattle.std.specs.Prelude.{nat_lt}
-use Rattle.std.specs.List.{AllByRecursion, Contains}
+use Rattle.std.proofs.Common.{List, [], ◌∷◌, length, map, refl, sym, ap, ◌∙◌, subst, arith, inl, inr, Option}
+use Rattle.std.proofs.Common.{Some, None}
+use Rattle.std.specs.Prelude.{◌==◌, nat_lt}
+use Rattle.std.specs.List.{AllByRecursion, Contains, slice_get}
 use Rattle.std.specs.Option.{option_map_or}
 use Rattle.std.proofs.lemmas.Bool.{and_parts}
 use Rattle.std.proofs.lemmas.Bool.Decides.{nat_tests}
+use Rattle.std.proofs.lemmas.List.Folds.{find_at}
 use Rattle.lists.specs.Each.{AreDistinct, all_at}
 use Rattle.lists.specs.Elements.{any_is, at_below, at_in, in_cases, in_none}
 use Rattle.serial_model.specs.declared.decl.Decl.{Decl}
@@ -19,10 +21,11 @@ use Rattle.drop_core.specs.Table.{no_span}
 use Rattle.snapshot_store.specs.Content.{deepest, format_of, last_index, root_place, IsPageOf}
 use Rattle.snapshot_store.specs.Places.{StandsTo}
 use Rattle.engine_rule.specs.Reading.{span_of}
+use Rattle.engine_pages.specs.Indexes.{index_of}
 use Rattle.engine_pages.specs.Pages.{decl_of, is_array, is_array_kind, root_span}
 use Rattle.engine_pages.specs.Pointers.{StandsFor}
 use Rattle.engine_pages.specs.Resident.{place_for}
-use Rattle.array_pages.specs.Spans.{HasArray, IsArrayAt, IsArrayKey}
+use Rattle.array_pages.specs.Spans.{HasArray, IsArrayAt, IsArrayKey, IsSizeAt}
 
 all_of : (P : ℕ → Type 0) (xs : List Decl) (d : Decl) → AllByRecursion P (map id_of xs) → Contains xs d → P (id_of d)
 all_of P [] d all has = absurd (in_none d has)
@@ -108,6 +111,61 @@ array_there (d ∷ ds) id is = by_test (eqb (id_of d) id) refl (λ more. array_t
     by_test false e rest =
         let more = rest (subst (λ (b : Bool). is_array_kind (cond b (Some d) (decl_of ds id)) ≡ true) e is) in
         (suc more.0, more.1, record { there = more.2.there })
+
+-- a storage that is found by an id has it
+pub found_id : (decls : List Decl) (id : ℕ) (d : Decl) → decl_of decls id ≡ Some d → id_of d ≡ id
+found_id [] id d is = cc
+found_id (x ∷ xs) id d is = by_test (eqb (id_of x) id) refl is (λ later. found_id xs id d later)
+  where
+    by_test : (b : Bool) → eqb (id_of x) id ≡ b
+        → (let o : Option Decl = cond b (Some x) (decl_of xs id) in o ≡ Some d)
+        → (decl_of xs id ≡ Some d → id_of d ≡ id) → id_of d ≡ id
+    by_test true hit is rest = let same : x ≡ d = cc in ap id_of (sym same) ∙ eqb-true (id_of x) id hit
+    by_test false miss is rest = rest is
+
+-- the first storage with the id is the one that is found by it
+pub at_index : (decls : List Decl) (id : ℕ) → decl_of decls id ≡ slice_get decls (index_of decls id)
+at_index decls id = find_at (λ (d : Decl). id_of d == id) decls
+
+-- the first storage with an array's id is the array
+pub array_first : (decls : List Decl) (id : ℕ) → is_array decls id ≡ true
+    → (size : ℕ) × IsArrayAt decls id (index_of decls id) size
+array_first decls id is = by_found (decl_of decls id) refl is
+  where
+    by_found : (o : Option Decl) → decl_of decls id ≡ o → is_array_kind o ≡ true
+        → (size : ℕ) × IsArrayAt decls id (index_of decls id) size
+    by_found None found kind = absurd (true≢false (sym kind))
+    by_found (Some (Array i n)) found kind =
+        let same : i ≡ id = found_id decls id (Array i n) found in
+        (n, record { there = sym (at_index decls id) ∙ (found ∙ ap (λ (j : ℕ). Some (Array j n)) same) })
+    by_found (Some (Tree i)) found kind = absurd (true≢false (sym kind))
+
+-- the same of the index that was found
+pub array_found : (decls : List Decl) (id root : ℕ) → is_array decls id ≡ true → root ≡ index_of decls id
+    → (size : ℕ) × IsArrayAt decls id root size
+array_found decls id root is found =
+    subst (λ (r : ℕ). (size : ℕ) × IsArrayAt decls id r size) (sym found) (array_first decls id is)
+
+-- it is the index of a storage
+pub index_within : (decls : List Decl) (id root : ℕ) → is_array decls id ≡ true → root ≡ index_of decls id
+    → root < length decls
+index_within decls id root is found =
+    let at = array_found decls id root is found in within_at decls id root at.0 at.1
+
+-- the size that stands there is the array's
+pub size_found : (decls : List Decl) (id root n : ℕ) → is_array decls id ≡ true → root ≡ index_of decls id
+    → IsSizeAt decls root (Some n) → IsArrayAt decls id root n
+size_found decls id root n is found here =
+    let at = array_found decls id root is found in
+    let same : Some (Array here.0 n) ≡ Some (Array id at.0) = sym here.1 ∙ at.1.there in
+    let size : at.0 ≡ n = cc in subst (λ (m : ℕ). IsArrayAt decls id root m) size at.1
+
+-- no tree stands there
+pub no_tree_found : (decls : List Decl) (id root : ℕ) → is_array decls id ≡ true → root ≡ index_of decls id
+    → IsSizeAt decls root None → ⊥
+no_tree_found decls id root is found here =
+    let at = array_found decls id root is found in
+    let same : Some (Tree here.0) ≡ Some (Array id at.0) = sym here.1 ∙ at.1.there in cc
 
 -- a page that stands for keys of it stands as a page of an array of its size
 pub record StandsIn (pages : List (List ℕ)) (id size : ℕ) (span : Span) (n : ℕ) : Type 0 where

@@ -191,6 +191,8 @@ module _ (slots : List ℕ) (place : At) (span : Span) (at word t : ℕ) (v c d 
   can_install leaf array kind =
       let height = by_kind leaf kind in record {
         place = any_pointer d place span at place_held;
+        held = ap (λ (l : List ℕ). has_slot l t) holds_held
+            ∙ or_left (eqb t t) (has_slot v.grip.holds t) (self t);
         free = bare.bare;
         page = inl record {
           copied = subst (λ (z : View). Contains z.copies (copy_of t span (page_half word))) (sym is_held)

@@ -1,7 +1,7 @@
 -- Which keys the pages are over that lead to the record of a key.
-use Rattle.std.specs.Prelude.{◌≡◌, ℕ, ◌+◌, ◌*◌, ◌<◌, ◌≤◌, List, true, Some, slice_get}
+use Rattle.std.specs.Prelude.{◌≡◌, ℕ, ◌+◌, ◌*◌, ◌<◌, ◌≤◌, List, true, Option, Some, None, slice_get}
 use Rattle.serial_model.specs.declared.decl.Decl.{Decl}
-use Rattle.serial_model.specs.declared.decl.Decl.TheVariants.{Array}
+use Rattle.serial_model.specs.declared.decl.Decl.TheVariants.{Array, Tree}
 use Rattle.serial_model.specs.declared.key.Key.{Key}
 use Rattle.serial_model.specs.Keys.{has_key}
 use Rattle.homes.specs.declared.places.Span.{Span}
@@ -20,6 +20,11 @@ pub record IsArrayAt (decls : List Decl) (id root size : ℕ) : Type 0 where
 -- an array with this id is declared
 abbrev pub HasArray : List Decl → ℕ → Type 0
 HasArray decls id = (root : ℕ) × (size : ℕ) × IsArrayAt decls id root size
+
+-- the storage with this index is an array of this size, or else a tree
+abbrev pub IsSizeAt : List Decl → ℕ → Option ℕ → Type 0
+IsSizeAt decls root None = (id : ℕ) × (slice_get decls root ≡ Some (Tree id))
+IsSizeAt decls root (Some size) = (id : ℕ) × (slice_get decls root ≡ Some (Array id size))
 
 -- the keys of a page so many levels above the leaves, from this one on, in the storage of the key
 abbrev pub keys_above : Key → ℕ → ℕ → Span

@@ -1,7 +1,8 @@
 // The storages of an engine, and where words of its table stand.
-ghost use Rattle.std.specs.Prelude.{◌≡◌, ◌+◌, ◌-◌, ◌<◌, ◌≤◌};
-ghost use Rattle.array_pages.specs.Spans.{HasArray, IsArrayAt};
+ghost use Rattle.std.specs.Prelude.{◌≡◌, ◌+◌, ◌-◌, ◌<◌, ◌≤◌, true, length};
+ghost use Rattle.array_pages.specs.Spans.{IsArrayAt, IsSizeAt};
 ghost use Rattle.engine_pages.specs.Layout.{page_at};
+ghost use Rattle.engine_pages.specs.Pages.{is_array};
 
 use engine_pages::Engine;
 use homes::Span;
@@ -10,18 +11,26 @@ use serial_model::{Decl, Key};
 /// The index of an array among the storages, and its size.
 #[inline(always)]
 pub(crate) fn array_of(engine: &Engine, storage: u8) -> (usize, u64)
-    requires { HasArray engine.now.table.shared.key.decls storage }
+    requires { is_array engine.now.table.shared.key.decls storage ≡ true }
     ensures { IsArrayAt engine.now.table.shared.key.decls storage result.0 result.1 }
 {
-    let decls = engine.decls();
-    for i in 0..decls.len() {
-        if let Decl::Array { id, size } = decls[i] {
-            if id == storage {
-                return (i, u64::from(size));
-            }
-        }
+    let root = engine.index_of(storage);
+    match array_size(engine, root) {
+        Some(size) => (root, u64::from(size)),
+        None => (root, 0),
     }
-    (0, 0)
+}
+
+// The size of the storage with this index, if it is an array.
+#[inline(always)]
+fn array_size(engine: &Engine, root: usize) -> Option<u32>
+    requires { root < length engine.now.table.shared.key.decls }
+    ensures { IsSizeAt engine.now.table.shared.key.decls root result }
+{
+    match engine.decls()[root] {
+        Decl::Array { id: _, size } => Some(size),
+        Decl::Tree { .. } => None,
+    }
 }
 
 /// The place of a word of the page in a slot.

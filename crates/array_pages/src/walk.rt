@@ -9,16 +9,10 @@ ghost use Rattle.engine_pages.specs.Passes.{view, IsPassOf};
 ghost use Rattle.engine_pages.specs.Pointers.{IsArrayPointerAt};
 ghost use Rattle.engine_pages.specs.declared.view.RefusalCause.TheVariants as causes;
 
-use dual_pointer::see_pointer;
+use dual_pointer::{SHUT, SLOT, see_pointer};
 use engine_pages::{Engine, Pass, RefusalCause, SetName, enter, follow};
 use homes::{At, Span};
 use tx_sets::{Holds, PointerSet};
-
-/// The shut bit of a pointer's word.
-pub(crate) const SHUT: u64 = 1 << 60;
-
-/// A pointer's word has a slot above these bits, and the number of a snapshot page in them.
-pub(crate) const SLOT: u64 = 1 << 32;
 
 /// Where a pointer leads.
 pub(crate) enum Reached {

@@ -59,10 +59,12 @@ pub record IsInnerFor (v : View) (sp : Span) (t n : ℕ) : Type 0 where
   pub has : Contains v.new_inners (record { slot = t; span = sp; page = n })
   pub tree : is_tree v.layout.decls sp.storage ≡ true
 
--- The pass has published the slot as the page that the pointer's word names, for the keys of the pointer; the word is
--- that of an open pointer which leads to no slot. The pass is a worker's, between transactions or before their commit.
+-- The pass holds the slot, and has published it as the page that the pointer's word names, for the keys of the pointer;
+-- the word is that of an open pointer which leads to no slot. The pass is a worker's, between transactions or before
+-- their commit.
 pub record CanInstall (v : View) (x : At) (sp : Span) (at t expected : ℕ) : Type 0 where
   pub place : IsPointerAt v x sp at
+  pub held : has_slot v.grip.holds t ≡ true
   pub free : expected < 2 ^ 32
   pub page : IsCopyFor v sp t (page_half expected)
       ⊎ (IsLeafFor v sp t (page_half expected) ⊎ IsInnerFor v sp t (page_half expected))

@@ -7,15 +7,14 @@ ghost use Rattle.engine_pages.specs.Views.{IsActive};
 
 use crate::law::{Installing, Led};
 use crate::laws::laws;
+use crate::pointer_word::SLOT;
 use engine_pages::{Engine, Pass};
 use homes::{At, Span};
 use std::marker::Brand;
 
-const SLOT: u64 = 1 << 32;
-
-/// Leads the pointer that stands at this place over these keys, and whose word is here, to the slot, where its word is
-/// the expected one: it leads to no slot, is open, and names the page that the slot has a copy of. Answers the word that
-/// it found.
+/// Leads the pointer that stands at this place over these keys, and whose word is here, to the slot, which the pass
+/// holds, where its word is the expected one: it leads to no slot, is open, and names the page that the slot has a copy
+/// of. Answers the word that it found.
 pub fn install(
     engine: &Engine,
     pass: &mut Pass,

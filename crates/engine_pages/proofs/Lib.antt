@@ -33,3 +33,4 @@ pub mod PointerLaws
 pub mod WayLaws
 pub mod Agreeing
 pub mod Following
+pub mod IndexLaws

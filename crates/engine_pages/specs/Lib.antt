@@ -16,3 +16,4 @@ pub mod Loads
 pub mod Agreement
 pub mod Pointers
 pub mod Passes
+pub mod Indexes

@@ -1,7 +1,9 @@
 // The table of an engine.
 ghost use Rattle.std.specs.Prelude.{◌≡◌, ◌<◌, ◌≤◌};
+ghost use Rattle.engine_pages.specs.Indexes.{index_of};
 ghost use Rattle.engine_pages.specs.Layout.{words_of};
 
+use crate::storages::Storages;
 use crate::{Law, Start, View};
 use atomic_table::{Seat, Table};
 use serial_model::{Decl, Decls};
@@ -14,7 +16,7 @@ pub struct Engine {
     pub table: Table<(), View, Start, Law, Global>,
     /// How many slots there are, at least one.
     pub(crate) slots: u32,
-    decls: Decls,
+    decls: Storages,
     ghost long: { table.shared.table_id.words ≡ words_of table.shared.key },
     ghost room: { slots ≡ table.shared.key.slots },
     ghost some: { 0 < slots },
@@ -32,10 +34,11 @@ impl Engine {
         requires decls { decls ≡ table.shared.key.decls }
         ensures { result.table ≡ table }
     {
+        let storages = Storages::new(decls);
         Engine {
             table,
             slots,
-            decls,
+            decls: storages,
         }
     }
 
@@ -53,6 +56,14 @@ impl Engine {
         ensures { result.now ≡ self.now.table.shared.key.decls }
     {
         self.decls.as_slice()
+    }
+
+    /// The index of the first storage with this id, or how many storages there are, where none has it.
+    #[inline(always)]
+    pub fn index_of(&self, id: u8) -> usize
+        ensures { result ≡ index_of self.now.table.shared.key.decls id }
+    {
+        self.decls.index_of(id)
     }
 }
 

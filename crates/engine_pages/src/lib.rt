@@ -13,15 +13,15 @@
 //! (`look`), it is given (`take`), filled (`fill`), published (`publish_copy`, `publish_blank`), given up (`retire`). A
 //! pointer is loaded, and what it leads to is known (`follow`); so is a word of a published snapshot page
 //! (`load_resident`). A published page becomes a page of the machine in one step: its layout and all its records.
-//! Layout: specs/Layout.antt, which word is which; specs/Pages.antt, how pages of slots are laid out;
-//! specs/Resident.antt, what snapshot pages say as words; specs/Words.antt, what the words show; specs/Views.antt, one
-//! view by itself; specs/Records.antt, where a pass finds the record of a key; specs/Touches.antt, who took locks of
-//! which keys; specs/Rule.antt, the rule; specs/Stays.antt, what a step leaves of trees; specs/Steps.antt, Slots,
-//! Pointers and Loads, what steps tell; specs/Times.antt, what a load of the clock does; specs/BeginningLaws.antt, that
-//! the rule holds as an engine begins. In proofs/ `Turns` makes the rule after a step of what the step changed
-//! (`Stride`), `SlotSteps` a stride of an act on a slot's word, `CommitSteps` one of an act on commits, `Looks` one of
-//! a load, `Copying` one of a slot that is published; `Facing` has what steps leave of who is in the way, `Dealing`
-//! what an own step does.
+//! Layout: specs/Layout.antt, which word is which; specs/Indexes.antt, which storage is which; specs/Pages.antt, how
+//! pages of slots are laid out; specs/Resident.antt, what snapshot pages say as words; specs/Words.antt, what the
+//! words show; specs/Views.antt, one view by itself; specs/Records.antt, where a pass finds the record of a key;
+//! specs/Touches.antt, who took locks of which keys; specs/Rule.antt, the rule; specs/Stays.antt, what a step leaves
+//! of trees; specs/Steps.antt, Slots, Pointers and Loads, what steps tell; specs/Times.antt, what a load of the clock
+//! does; specs/BeginningLaws.antt, that the rule holds as an engine begins. In proofs/ `Turns` makes the rule after a
+//! step of what the step changed (`Stride`), `SlotSteps` a stride of an act on a slot's word, `CommitSteps` one of an
+//! act on commits, `Looks` one of a load, `Copying` one of a slot that is published; `Facing` has what steps leave of
+//! who is in the way, `Dealing` what an own step does, `IndexLaws` the storages by their ids.
 //! Design: docs/PAGES.md and docs/COMMIT.md.
 #![tactic(auto)]
 
@@ -33,6 +33,7 @@ mod loading;
 mod pointers;
 mod slots;
 mod start;
+mod storages;
 mod view;
 
 pub use engine::{Engine, Pass};

@@ -105,6 +105,9 @@ pub enum KeptWhy {
     Locked,
     /// The word, or its value, is unlike the newest snapshot's.
     Unlike,
+    /// What stands at this key of a tree is unlike the newest snapshot's, or one of both has nothing there: by the word
+    /// of its record, or its value, or of the header of a leaf that has no record of it.
+    UnlikeAt { key: Key },
     /// The pointer leads to a slot.
     Under,
     /// The word was this one right before.

@@ -6,11 +6,10 @@ ghost use Rattle.pointer_swings.specs.Renewals.{CanRenew, HasRenewed};
 
 use crate::law::{Renewing, Targeted};
 use crate::laws::laws;
+use dual_pointer::SLOT;
 use engine_pages::{Engine, Pass};
 use homes::{At, Span};
 use std::marker::Brand;
-
-const SLOT: u64 = 1 << 32;
 
 /// Lets the pointer that stands at this place over these keys, and whose word is here, name this snapshot page, where
 /// its word is the expected one, which leads to a slot: it does so still. Answers the word that it found.

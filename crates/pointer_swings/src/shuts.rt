@@ -6,12 +6,10 @@ ghost use Rattle.pointer_swings.specs.Shuts.{reopened, CanReopen, CanShut, HasSh
 
 use crate::law::{Placed, Reopening, Shutting};
 use crate::laws::laws;
+use dual_pointer::SHUT;
 use engine_pages::{Engine, Pass};
 use homes::{At, Span};
 use std::marker::Brand;
-
-/// The bit of a pointer's word that says that it is shut.
-const SHUT: u64 = 1 << 60;
 
 /// Shuts the pointer that stands at this place over these keys, and whose word is here, where that is the expected one,
 /// which is that of an open pointer: nobody puts a page in there until it is opened again. Answers the word that it

@@ -1,8 +1,9 @@
-use Rattle.std.proofs.Common.{◌+◌, length, sym, subst, arith}
+use Rattle.std.proofs.Common.{◌≡◌, ◌+◌, true, length, sym, subst, arith}
 use Rattle.engine_pages.specs.declared.layout.Layout.{Layout}
+use Rattle.engine_pages.specs.Pages.{is_array}
 use Rattle.engine_pages.specs.Passes.{view}
-use Rattle.array_pages.specs.Spans.{keys_above, HasArray, IsArrayAt}
-use Rattle.array_pages.proofs.DeclLaws.{array_there, few_at, key_at, size_at, within_at}
+use Rattle.array_pages.specs.Spans.{keys_above, IsArrayAt}
+use Rattle.array_pages.proofs.DeclLaws.{few_at, key_at, size_at, within_at}
 use Rattle.array_pages.proofs.FindLaws.{finds_within}
 use Rattle.array_pages.proofs.SpanLaws.{over_large}
 use Rattle.array_pages.proofs.SpanLaws.{over_in, root_on}
@@ -12,8 +13,7 @@ use Rattle.array_pages.proofs.finding.find.Goals as goal
 
 pub array_of-root-requires : goal.array_of-root-requires
 array_of-root-requires c =
-    subst (λ (l : Layout). HasArray l.decls c.args.key.storage) c.requires.of.layout
-    (array_there (view c.args.pass.now).layout.decls c.args.key.storage c.requires.fits.array)
+    subst (λ (l : Layout). is_array l.decls c.args.key.storage ≡ true) c.requires.of.layout c.requires.fits.array
 
 pub find_in_leaf-requires-clause-place : goal.find_in_leaf-requires-clause-place
 find_in_leaf-requires-clause-place c =

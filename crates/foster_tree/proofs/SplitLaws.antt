@@ -24,17 +24,18 @@ use Rattle.engine_pages.specs.Agreement.{KnownAgree, TreesAgree}
 use Rattle.engine_pages.specs.Layout.{page_at}
 use Rattle.engine_pages.specs.Pages.{is_tree}
 use Rattle.engine_pages.specs.Slots.{other_heads}
-use Rattle.engine_pages.specs.Steps.{read_at}
+use Rattle.engine_pages.specs.Steps.{kept_at, read_at, seen_at}
 use Rattle.engine_pages.specs.Views.{seat_number, IsActive}
 use Rattle.tree_heads.specs.Headers.{open_word}
 use Rattle.tree_heads.specs.Heads.{head_locked, head_opened, lock_bit, CanOpenHeader, HasHead}
 use Rattle.array_pages.specs.Walks.{HoldsAre}
+use Rattle.array_pages.proofs.ReadLaws.{seen_same}
 use Rattle.foster_tree.specs.declared.entries.Entry.{Entry}
 use Rattle.foster_tree.specs.Causes.{IsLeafWordChanged}
-use Rattle.foster_tree.specs.Locking.{with_touches, HasTakenFirst, KnowsFull, RefusesOne, RefusesRecord, WorkedIn}
+use Rattle.foster_tree.specs.Locking.{with_touches, HasTakenFirst, KnowsFull, RefusesOne, WorkedIn}
 use Rattle.foster_tree.specs.Splitting.{as_split, as_split_locked, as_tried, as_tried_locked, half_of, lower_of, separator_of}
 use Rattle.foster_tree.specs.Splitting.{upper_of, CanSplitLeaf, CanSplitLocked, GaveNone, HasNotSplit, HasNotSplitLocked}
-use Rattle.foster_tree.specs.Splitting.{HasSplitLeaf, HasSplitLocked, RefusesHalf, RefusesSplit}
+use Rattle.foster_tree.specs.Splitting.{HasSplitLeaf, HasSplitLocked, RefusesHalf, RefusesOpened, RefusesSplit}
 use Rattle.foster_tree.proofs.AddLaws.{header_changed, locked_one, same_keys}
 use Rattle.foster_tree.proofs.AfterTurn.{half_high, half_low, high_from, low_less}
 use Rattle.foster_tree.proofs.LockLaws.{met_first, worked_read, worked_then}
@@ -151,12 +152,13 @@ refused_opened t i at word (causes.Wide set) v u s w since header is worked h = 
 refused_opened t i at word (causes.NumberLimit clock) v u s w since header is worked h = absurd h
 
 cause_of : (slots : List ℕ) (t word : ℕ) (why : RefusalCause) (v w : View)
-    → RefusesRecord t why v w ⊎ RefusesHalf t why v w → RefusesSplit slots t word why v w
+    → RefusesOpened t word why v w ⊎ RefusesHalf t why v w → RefusesSplit slots t word why v w
 cause_of slots t word (causes.Conflict at expected seen) v w h = inr h
-cause_of slots t word (causes.Full held) v w h = elim h [ inl changed ↦ absurd changed.2 | inr gave ↦ gave ]
-cause_of slots t word (causes.Wide set) v w h = elim h [ inl changed ↦ absurd changed.2 | inr gave ↦ absurd gave.0.missed ]
+cause_of slots t word (causes.Full held) v w h = elim h [ inl changed ↦ absurd changed.missed.2 | inr gave ↦ gave ]
+cause_of slots t word (causes.Wide set) v w h =
+    elim h [ inl changed ↦ absurd changed.missed.2 | inr gave ↦ absurd gave.0.missed ]
 cause_of slots t word (causes.NumberLimit clock) v w h =
-    elim h [ inl changed ↦ absurd changed.2 | inr gave ↦ absurd gave.0.missed ]
+    elim h [ inl changed ↦ absurd changed.missed.2 | inr gave ↦ absurd gave.0.missed ]
 
 -- no more locks were taken
 taken_then : (t m : ℕ) (u s w : View) → HasTakenFirst t m u s → w.touched ≡ s.touched → HasTakenFirst t m u w
@@ -336,6 +338,9 @@ module _ (slots : List ℕ) (t at word n : ℕ) (sp : Span) (k : Key) (v u : Vie
         worked_read t 0 at word s w (met_first 0 (omega arith)) here (omega (arith, steps)) (ap (λ (z : View). z.reads) is)
         (λ x has. subst (λ (z : View). Contains z.versions x) (sym is) has) (ap (λ (z : View). z.role) is)
         (ap (λ (z : View). z.touched) is) in
+        let seen : seen_at w.reads (page_at v.layout.slots t 0) ≡ Some word =
+        ap (seen_at w.reads) (sym header)
+        ∙ (ap (λ (z : View). seen_at z.reads at) is ∙ seen_same s.reads at word (kept_at s.reads at)) in
         let end : View = head_opened t at word (as_tried_locked (head_locked t h.keys h.words at n v) s) in
         let four : w ≡ as_tried v (headed v.heads end) =
         is
@@ -364,12 +369,15 @@ module _ (slots : List ℕ) (t at word n : ℕ) (sp : Span) (k : Key) (v u : Vie
           is = subst (λ (y : View). y ≡ as_tried v y) (sym four) refl;
           cause = cause_of slots t word why v w (elim none.cause [
             | inl changed ↦
-                inl (
-                  changed.0,
-                  changed.1,
-                  refused_opened t changed.0 at word why v u s w locked_since here is worked changed.2,
-                  taken_since changed.0 w (taken_then t changed.0 u s w changed.3 (ap (λ (z : View). z.touched) is)),
-                )
+                inl record {
+                  header = seen;
+                  missed = (
+                    changed.0,
+                    changed.1,
+                    refused_opened t changed.0 at word why v u s w locked_since here is worked changed.2,
+                    taken_since changed.0 w (taken_then t changed.0 u s w changed.3 (ap (λ (z : View). z.touched) is)),
+                  );
+                }
             | inr gave ↦ inr (
               gave_then why v u s w locked_since layout_is (ap (λ (z : View). z.last) is)
                   (ap (λ (z : View). z.looked) is) gave.0,

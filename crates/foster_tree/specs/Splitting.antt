@@ -19,6 +19,7 @@ use Rattle.engine_pages.specs.Agreement.{TreesAgree}
 use Rattle.engine_pages.specs.Layout.{page_at}
 use Rattle.engine_pages.specs.Pointers.{WaysAgree}
 use Rattle.engine_pages.specs.Records.{IsTreeRecordAt}
+use Rattle.engine_pages.specs.Steps.{seen_at}
 use Rattle.engine_pages.specs.Words.{spot}
 use Rattle.engine_pages.specs.Views.{IsActive}
 use Rattle.tree_heads.specs.Headers.{open_word, AreLeafKeys, IsTreeAt}
@@ -86,13 +87,19 @@ as_tried v w = record v {
 abbrev pub RefusesHalf : ℕ → RefusalCause → View → View → Type 0
 RefusesHalf t why v w = GaveNone why v w × HasTakenFirst t tree_leaf.room v w
 
+-- So it was for a record of the leaf, and the header was opened again as it had been seen.
+pub record RefusesOpened (t word : ℕ) (why : RefusalCause) (v w : View) : Type 0 where
+  pub header : seen_at w.reads (page_at v.layout.slots t 0) ≡ Some word
+  pub missed : RefusesRecord t why v w
+
 -- The leaf wasn't split: the header, which was last seen as this word, or a record had changed, no slot was given, or the
 -- holds are full, of which the call looked before any step. No lock of a record is taken but of those before the one that
 -- had changed, in their order, and of all for a slot that was not given.
 abbrev pub RefusesSplit : List ℕ → ℕ → ℕ → RefusalCause → View → View → Type 0
 RefusesSplit slots t word (causes.Conflict at expected seen) v w =
     ((expected ≡ word) × IsLeafWordChanged t 0 at expected seen v w × (w.touched ≡ v.touched))
-    ⊎ (RefusesRecord t (causes.Conflict at expected seen) v w ⊎ RefusesHalf t (causes.Conflict at expected seen) v w)
+    ⊎ (RefusesOpened t word (causes.Conflict at expected seen) v w
+    ⊎ RefusesHalf t (causes.Conflict at expected seen) v w)
 RefusesSplit slots t word (causes.Full held) v w = RefusesHalf t (causes.Full held) v w
 RefusesSplit slots t word (causes.Wide set) v w = (set ≡ Holds) × (length slots ≡ 128) × (w ≡ v)
 RefusesSplit slots t word (causes.NumberLimit clock) v w = ⊥

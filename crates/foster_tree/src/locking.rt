@@ -185,22 +185,33 @@ fn held_value(engine: &Engine, pass: &mut Pass, key: Key, spot: Spot, at: u32, w
     load_held(engine, pass, key, spot, at, word)
 }
 
-/// The conflict at the first record of a leaf that the pass knows to be split, which is locked for good. Its word is
-/// loaded twice: so what is expected there is what the step before saw.
-pub fn moved_record(engine: &Engine, pass: &mut Pass, slot: u32, span: Span) -> RefusalCause
+/// The conflict at the record with this index, which is below 16, of a leaf that the pass knows to be split: it is locked
+/// for good. Its word is loaded twice: so what is expected there is what the step before saw.
+pub fn moved_record(
+    engine: &Engine,
+    pass: &mut Pass,
+    slot: u32,
+    span: Span,
+    index: u32,
+) -> RefusalCause
     requires of { IsPassOf engine.now pass.old }
     requires can { (keys : List Key) × KnowsFull (view pass.old) slot span keys }
     requires moved { (x : Moved) × Contains (view pass.old).moved x × (x.slot ≡ slot) }
+    requires index { index < 16 }
     ensures of { IsPassOf engine.now pass.new }
-    ensures missed { HasNotLockedOne slot 0 result (view pass.old) (view pass.new) }
+    ensures missed { HasNotLockedOne slot index result (view pass.old) (view pass.new) }
 {
-    let place = word_at(engine, slot, FIRST_RECORD);
-    let number = load_word(engine, pass, slot, FIRST_RECORD, place);
+    let first = FIRST_RECORD + RECORD * index;
+    let place = word_at(engine, slot, first);
+    let number = load_word(engine, pass, slot, first, place);
     let key = Key {
         storage: span.storage,
         key: number,
     };
-    let spot = Spot { slot, index: 0 };
+    let spot = Spot {
+        slot,
+        index: index as usize,
+    };
     meet_moved(engine, pass, key, spot, place + 1)
 }
 

@@ -37,4 +37,5 @@ pub mod AddedLaws
 pub mod RenewLaws
 pub mod GrownStay
 pub mod HeaderLaws
+pub mod UnsplitLaws
 pub mod HeadChecks

@@ -1,12 +1,12 @@
 // Where the words of records stand, and in which slots.
-ghost use Rattle.std.specs.Prelude.{◌≡◌, ◌-◌, ◌+◌};
+ghost use Rattle.std.specs.Prelude.{◌≡◌, ◌-◌, ◌+◌, slice_get};
 ghost use Rattle.page_commit.specs.Live.{read_word};
 ghost use Rattle.engine_pages.specs.Pages.{decl_of, is_array as is_of_array};
 ghost use Rattle.page_commit.specs.Places.{slot_of as slot_at, spot_at};
 
 use engine_pages::Engine;
 use homes::Spot;
-use serial_model::{Decl, id_of};
+use serial_model::Decl;
 use tx_sets::ReadEntry;
 
 /// The place of the record whose word stands here.
@@ -21,6 +21,7 @@ pub(crate) fn spot_of(engine: &Engine, at: u32) -> Spot
 }
 
 /// Whether the storage is an array.
+#[inline(always)]
 pub fn is_array(engine: &Engine, storage: u8) -> bool
     ensures { result ≡ is_of_array engine.now.table.shared.key.decls storage }
 {
@@ -28,14 +29,22 @@ pub fn is_array(engine: &Engine, storage: u8) -> bool
 }
 
 // The storage with this id, as it was declared.
+#[inline(always)]
 fn decl_for(engine: &Engine, storage: u8) -> Option<Decl>
     ensures { result ≡ decl_of engine.now.table.shared.key.decls storage }
 {
-    engine
-        .decls()
-        .iter()
-        .copied()
-        .find(|decl| id_of(decl) == storage)
+    decl_at(engine.decls(), engine.index_of(storage))
+}
+
+// The declaration with this index, if there is one.
+#[inline(always)]
+fn decl_at(decls: &[Decl], index: usize) -> Option<Decl>
+    ensures { result ≡ slice_get decls.now index }
+{
+    if index < decls.len() {
+        return Some(decls[index]);
+    }
+    None
 }
 
 /// The slot in whose page the word with this place stands.

@@ -1,23 +1,19 @@
 -- The whole cause of a read of a key of a tree that was refused, and that no key is told.
-use Rattle.std.proofs.Common.{◌≡◌, ◌⊎◌, true≢false, inl, inr, ℕ, ◌+◌, ◌/◌, ◌%◌, ◌^◌, ◌<◌, ◌≤◌, Bool, true, false}
+use Rattle.std.proofs.Common.{◌≡◌, ◌⊎◌, true≢false, inl, inr, ℕ, ◌+◌, ◌^◌, ◌<◌, ◌≤◌, Bool, true, false}
 use Rattle.std.proofs.Common.{List, [], length, refl, sym, ap, ◌∙◌, subst, arith, ltb, Option, Some, None}
 use Rattle.std.proofs.lemmas.Bool.Decides.{nat_tests}
-use Rattle.std.specs.Prelude.{not, Contains}
+use Rattle.std.specs.Prelude.{not}
 use Rattle.std.proofs.lemmas.Bool.{and_parts}
-use Rattle.lists.specs.Elements.{any_in}
 use Rattle.serial_model.specs.declared.key.Key.{Key}
 use Rattle.homes.specs.declared.places.Content.{Content}
 use Rattle.homes.specs.declared.places.Span.{Span}
-use Rattle.homes.specs.Homes.{in_span, same_key}
-use Rattle.homes.specs.Laws.{same_key-self}
+use Rattle.homes.specs.Homes.{in_span}
 use Rattle.wire_form.specs.Leaves.{tree_leaf}
 use Rattle.wire_form.specs.Words.{absent_field, number_word}
-use Rattle.tx_sets.specs.declared.reads.ReadEntry.{ReadEntry}
 use Rattle.tx_sets.specs.declared.seen.Seen.{Seen}
 use Rattle.tx_sets.specs.declared.sets.Sets.{Sets}
 use Rattle.tx_sets.specs.Entries.{has_read, has_word, has_write, word_at}
 use Rattle.tx_sets.specs.Gathered.{has_read_room}
-use Rattle.engine_pages.specs.declared.layout.Layout.{Layout}
 use Rattle.engine_pages.specs.declared.view.RefusalCause.{RefusalCause}
 use Rattle.engine_pages.specs.declared.view.RefusalCause.TheVariants as refusals
 use Rattle.engine_pages.specs.declared.view.SetName.{SetName}
@@ -25,27 +21,26 @@ use Rattle.engine_pages.specs.declared.view.SetName.TheVariants.{Reads, Writes, 
 use Rattle.engine_pages.specs.declared.view.Touch.{Touch}
 use Rattle.engine_pages.specs.declared.view.View.{View}
 use Rattle.engine_pages.specs.declared.view.Way.{Way}
-use Rattle.engine_pages.specs.Layout.{page_at}
 use Rattle.engine_pages.specs.Steps.{seen_at}
 use Rattle.engine_pages.specs.Words.{IsSmall}
 use Rattle.page_records.specs.Locks.{IsOpenWord}
 use Rattle.tree_heads.specs.Headers.{open_word}
 use Rattle.tree_walks.specs.declared.finding.Found.{Found}
 use Rattle.tree_walks.specs.declared.finding.Found.TheVariants as places
+use Rattle.tree_walks.specs.Finding as finding
 use Rattle.tree_walks.specs.Finding.{IsAbsentIn, IsFindWide, IsFound, IsFoundIn, RefusesFind}
+use Rattle.tree_walks.specs.Walks.{HasWalked}
 use Rattle.tree_walks.specs.Ways.{NeedsHalf, NeedsHold}
-use Rattle.page_commit.specs.Places.{ground, IsAnyKeyIn, IsTreeKeyIn}
+use Rattle.page_commit.specs.Needs.{NeedsHeader, NeedsRecord}
+use Rattle.page_commit.specs.Places.{ground, IsTreeKeyIn}
 use Rattle.page_commit.specs.Refusing.{TellsOnly}
 use Rattle.page_commit.specs.Steps.{HasGivenUp, TellsOf}
-use Rattle.page_commit.proofs.AnyPlaces.{any_one_key, tree_key_here}
+use Rattle.page_commit.proofs.AnyPlaces.{tree_key_here}
 use Rattle.page_commit.proofs.CommitLaws.{kept_others}
-use Rattle.page_commit.proofs.DueLaws.{given_layout, seen_in}
 use Rattle.page_commit.proofs.FoundLaws.{no_word}
-use Rattle.page_commit.proofs.GrowLaws.{any_grown, none_read}
-use Rattle.tree_calls.specs.Causes.{IsNewEntry, IsNewHeader, IsNewRecord, IsWordConflict, NeedsEntry, NeedsPointer}
-use Rattle.tree_calls.specs.Causes.{NeedsSlot, RefusesTreeRead, WasLong}
+use Rattle.tree_calls.specs.Causes.{IsWordConflict, NeedsEntry, NeedsPointer, NeedsSlot, RefusesTreeRead, WasLong}
 use Rattle.tree_calls.specs.Keeping.{lacks_entry}
-use Rattle.tree_calls.proofs.DueLaws.{draws_same, header_cause, header_told, more_of, pointer_cause, pointer_place, record_cause}
+use Rattle.tree_calls.proofs.DueLaws.{draws_same, header_cause, header_told, pointer_cause, pointer_place, record_cause}
 use Rattle.tree_calls.proofs.DueLaws.{record_told, touches_same, TreeWalked}
 use Rattle.tree_calls.proofs.TreeWalkLaws.{tree_walked}
 
@@ -79,27 +74,25 @@ needs_slot sets late slots k v w x h g needs = record {
   needs = needs;
 }
 
+-- a pointer more was to be kept
+pub needs_pointer : (sets : Sets) (k : Key) (v w x : View) → HasWalked v w → HasGivenUp [] (refusals.Wide Pointers) w x
+    → finding.NeedsPointer k sets.pointers w → NeedsPointer k sets v x
+needs_pointer sets k v w x walk g needs = record {
+  then = w;
+  walked = tree_walked v w walk;
+  met = λ r has. kept_others [] (refusals.Wide Pointers) w x g r has refl;
+  needs = needs;
+}
+
 find_wide : (set : SetName) (sets new : Sets) (slots : List ℕ) (k : Key) (v w x : View) → TreeWalked sets slots v w
     → HasGivenUp [] (refusals.Wide set) w x → IsFindWide k sets.pointers new.holds set w
-    → ((set ≡ Reads) × (256 ≤ length sets.reads + length sets.headers) × NeedsEntry sets x)
+    → ((set ≡ Reads) × (256 ≤ length sets.reads + length sets.headers) × NeedsEntry k sets v x)
     ⊎ (((set ≡ Holds) × (((length new.holds ≡ 128) × NeedsSlot k new.holds v x) ⊎ WasLong k v))
-    ⊎ ((set ≡ Pointers) × (length sets.pointers ≡ 128) × NeedsPointer sets x))
+    ⊎ ((set ≡ Pointers) × (length sets.pointers ≡ 128) × NeedsPointer k sets v x))
 find_wide Reads sets new slots k v w x h g n = absurd n
 find_wide Writes sets new slots k v w x h g n = absurd n
 find_wide Pointers sets new slots k v w x h g n =
-    let r = seen_in w.reads ((n.bare).pointer).at ((n.bare).pointer).word (n.on).met in
-    inr (inr (
-      refl,
-      n.full,
-      record {
-        read = r.0;
-        met = kept_others [] (refusals.Wide Pointers) w x g r.0 r.1 refl;
-        bare = subst (λ (i : ℕ). i < 2 ^ 32) (sym r.3) (n.on).bare;
-        apart = λ t same. (n.on).apart t (sym r.2 ∙ (same
-            ∙ ap (λ (l : Layout). page_at l.slots t 0) (given_layout (refusals.Wide Pointers) w x g)));
-        absent = subst (λ (a : ℕ). word_at a sets.pointers ≡ None) (sym r.2) n.absent;
-      },
-    ))
+    inr (inr (refl, n.full, needs_pointer sets k v w x h.walk g n))
 find_wide Holds sets new slots k v w x h g (inl full) =
     inr (inl (refl, inl (full.0, needs_slot sets new.holds slots k v w x h g full.1)))
 find_wide Holds sets new slots k v w x h g (inr long) =
@@ -154,18 +147,6 @@ found_place sets slots k at word value v w h f =
     let same = ((h.can).trees).spans way (f.place).way (f.on).way (f.place).has (sym ((f.place).slot ∙ f.stands)) (f.on).tree in
     tree_key_here w k f.spot at f.place (subst (λ (s : Span). in_span s k ≡ true) same (f.on).over)
 
--- no entry has the word of a record whose key wasn't read
-no_entry_there : (sets : Sets) (slots : List ℕ) (k : Key) (at : ℕ) (v w : View) → TreeWalked sets slots v w
-    → IsTreeKeyIn (ground w) k at → has_read k sets.reads ≡ false → (e : ReadEntry) → Contains sets.reads e → e.at ≡ at
-    → ⊥
-no_entry_there sets slots k at v w h place none e has same =
-    let there = any_grown v w e.key e.at (more_of sets slots v w h) (((h.live).parts).reads e has).2.place in
-    let key : e.key ≡ k =
-    any_one_key (ground w) e.key k at (h.can).agree ((h.can).trees).known
-    (subst (λ (n : ℕ). IsAnyKeyIn (ground w) e.key n) same there) (inr place) in
-    true≢false (sym (any_in (λ (z : ReadEntry). same_key z.key k) sets.reads e has
-    (ap (λ (q : Key). same_key q k) key ∙ same_key-self k)) ∙ none)
-
 -- the word of a content isn't locked
 open_content : (c : Content) (word : ℕ) → IsSmall c.number
     → number_word c.number + absent_field tree_leaf c.value ≡ word → IsOpenWord word
@@ -182,71 +163,73 @@ open_content c word small shown = by_value c.value shown
     by_value (Some i) shown = let less = low in inl (omega (arith, shown, less))
 
 -- a record that was found is one more
-pub new_record : (sets : Sets) (slots : List ℕ) (k : Key) (at word value : ℕ) (v w : View) → TreeWalked sets slots v w
-    → IsFoundIn k at word value v w → has_read k sets.reads ≡ false → IsNewRecord sets.reads w.layout.slots at word
+new_record : (sets : Sets) (slots : List ℕ) (k : Key) (at word value : ℕ) (v w : View) → TreeWalked sets slots v w
+    → IsFoundIn k at word value v w → has_read k sets.reads ≡ false → NeedsRecord k sets.reads w
 new_record sets slots k at word value v w h f none = record {
-  spot = f.spot;
-  index = (f.place).index;
-  word = (f.place).word;
+  at = at;
+  word = word;
+  place = found_place sets slots k at word value v w h f;
+  saw = f.met;
   unlocked = open_content f.content word f.small f.shown;
-  unread = none_read sets.reads at
-      (no_entry_there sets slots k at v w h (found_place sets slots k at word value v w h f) none);
+  unread = none;
 }
 
 open_is : (n : ℕ) → 256 + n ≡ open_word n
 open_is n = omega arith
 
 -- so is the header of a leaf that lacks the key
-pub new_header : (headers : List Seen) (k : Key) (at word : ℕ) (v w : View) → IsAbsentIn k headers at word v w
-    → has_word at headers ≡ false → IsNewHeader headers w.layout.slots at word
+new_header : (headers : List Seen) (k : Key) (at word : ℕ) (v w : View) → IsAbsentIn k headers at word v w
+    → has_word at headers ≡ false → NeedsHeader k headers w
 new_header headers k at word v w f none =
     let few : length f.keys ≤ 16 = f.few in
     let is : word ≡ 256 + length f.keys = f.is ∙ sym (open_is (length f.keys)) in record {
       slot = f.slot;
-      word = f.place;
-      kind = let leafy : (word / 2 ^ 8) % 2 ^ 8 ≡ 1 = omega (arith, is, few) in leafy;
+      span = f.span;
+      on = f.on;
+      leaf = record { slot = f.slot; keys = f.keys };
+      knows = f.knows;
+      same = refl;
+      word = word;
+      saw = subst (λ (a : ℕ). seen_at w.reads a ≡ Some word) f.place f.met;
       unsplit = omega (arith, is, few);
-      absent = no_word at headers none;
+      absent = subst (λ (a : ℕ). word_at a headers ≡ None) f.place (no_word at headers none);
     }
+
+-- what was found is one entry more than there is room for
+pub found_needs : (f : Found) (sets : Sets) (slots : List ℕ) (k : Key) (v w : View) → TreeWalked sets slots v w
+    → has_read k sets.reads ≡ false → IsFound k sets.pointers sets.headers f v w → lacks_entry sets f ≡ true
+    → (256 ≤ length sets.reads + length sets.headers) × (NeedsRecord k sets.reads w ⊎ NeedsHeader k sets.headers w)
+found_needs (places.Volatile at word value) sets slots k v w h none f full =
+    (no_room sets full, inl (new_record sets slots k at word value v w h f none))
+found_needs (places.Absent header word) sets slots k v w h none f full =
+    let both = and_parts (not (has_read_room sets)) (not (has_word header sets.headers)) full in (
+      no_room sets both.0,
+      inr (new_header sets.headers k header word v w f (no_test (has_word header sets.headers) both.1)),
+    )
+found_needs (places.Snapshot value number p) sets slots k v w h none f full = absurd (true≢false (sym full))
+found_needs (places.Zero p) sets slots k v w h none f full = absurd (true≢false (sym full))
 
 -- the entry that was needed was seen
-pub needs_entry : (sets : Sets) (at word : ℕ) (w x : View) → HasGivenUp [] (refusals.Wide Reads) w x
-    → seen_at w.reads at ≡ Some word → IsNewEntry sets w.layout.slots at word → NeedsEntry sets x
-needs_entry sets at word w x g met new =
-    let r = seen_in w.reads at word met in record {
-      read = r.0;
-      met = kept_others [] (refusals.Wide Reads) w x g r.0 r.1 refl;
-      is = subst (λ (l : Layout). IsNewEntry sets l.slots (r.0).word (r.0).seen)
-          (sym (given_layout (refusals.Wide Reads) w x g))
-          (subst (λ (n : ℕ). IsNewEntry sets w.layout.slots n (r.0).seen) (sym r.2)
-          (subst (λ (n : ℕ). IsNewEntry sets w.layout.slots at n) (sym r.3) new));
-    }
+pub needs_entry : (sets : Sets) (k : Key) (v w x : View) → HasWalked v w → HasGivenUp [] (refusals.Wide Reads) w x
+    → NeedsRecord k sets.reads w ⊎ NeedsHeader k sets.headers w → NeedsEntry k sets v x
+needs_entry sets k v w x walk g needs = record {
+  then = w;
+  walked = tree_walked v w walk;
+  met = λ r has. kept_others [] (refusals.Wide Reads) w x g r has refl;
+  needs = needs;
+}
 
 -- there was no room for it
-lacks_cause : (sets new : Sets) (slots : List ℕ) (k : Key) (at word : ℕ) (v w x : View) → TreeWalked sets slots v w
-    → has_read k sets.reads ≡ false → has_write k sets.writes ≡ false → seen_at w.reads at ≡ Some word
-    → IsNewEntry sets w.layout.slots at word → not (has_read_room sets) ≡ true
-    → HasGivenUp [] (refusals.Wide Reads) w x → RefusesTreeRead sets new k (refusals.Wide Reads) v x
-lacks_cause sets new slots k at word v w x h none unwritten met is full g =
-    let why : RefusalCause = refusals.Wide Reads in (
-      none,
-      unwritten,
-      draws_same why sets slots k v w x h g,
-      inl (refl, no_room sets full, needs_entry sets at word w x g met is),
-      touches_same why sets slots k v w x h g,
-    )
-
 pub wide_cause : (f : Found) (sets new : Sets) (slots : List ℕ) (k : Key) (v w x : View)
     → TreeWalked sets slots v w → has_read k sets.reads ≡ false → has_write k sets.writes ≡ false
     → IsFound k sets.pointers sets.headers f v w → lacks_entry sets f ≡ true
     → HasGivenUp [] (refusals.Wide Reads) w x → RefusesTreeRead sets new k (refusals.Wide Reads) v x
-wide_cause (places.Volatile at word value) sets new slots k v w x h none unwritten f full g =
-    lacks_cause sets new slots k at word v w x h none unwritten f.met
-    (inl (new_record sets slots k at word value v w h f none)) full g
-wide_cause (places.Absent header word) sets new slots k v w x h none unwritten f full g =
-    let both = and_parts (not (has_read_room sets)) (not (has_word header sets.headers)) full in
-    lacks_cause sets new slots k header word v w x h none unwritten f.met
-    (inr (new_header sets.headers k header word v w f (no_test (has_word header sets.headers) both.1))) both.0 g
-wide_cause (places.Snapshot value number p) sets new slots k v w x h none unwritten f full g =
-    absurd (true≢false (sym full))
-wide_cause (places.Zero p) sets new slots k v w x h none unwritten f full g = absurd (true≢false (sym full))
+wide_cause f sets new slots k v w x h none unwritten is full g =
+    let why : RefusalCause = refusals.Wide Reads in
+    let found = found_needs f sets slots k v w h none is full in (
+      none,
+      unwritten,
+      draws_same why sets slots k v w x h g,
+      inl (refl, found.0, needs_entry sets k v w x h.walk g found.1),
+      touches_same why sets slots k v w x h g,
+    )

@@ -29,6 +29,7 @@ use Rattle.tree_walks.specs.Finding.{IsRecordChanged, RefusesFind}
 use Rattle.tree_walks.specs.Walks.{CanWalk, HasWalked}
 use Rattle.tree_walks.specs.Ways.{IsHeaderChanged, IsPointerChanged, IsWayPointer}
 use Rattle.page_commit.specs.Live.{read_word, IsLive}
+use Rattle.page_commit.specs.Needs.{IsUnsplitAt}
 use Rattle.page_commit.specs.Places.{ground, slot_of, IsAnyKeyIn, IsPointerIn, IsTreeKeyIn}
 use Rattle.page_commit.specs.Steps.{HasGivenUp, TellsOf}
 use Rattle.page_commit.specs.Turning.{IsHeaderOver, IsTreePointerOver}
@@ -41,6 +42,7 @@ use Rattle.page_commit.proofs.KeepLaws.{in_pointers}
 use Rattle.page_commit.proofs.KnownOver.{header_known, pointer_known, ways_known}
 use Rattle.page_commit.proofs.PointerLaws.{pointer_word}
 use Rattle.page_commit.proofs.TreePointers.{any_pointer_here}
+use Rattle.page_commit.proofs.UnsplitLaws.{unsplit_at, unsplit_end}
 use Rattle.tree_calls.specs.Causes.{IsWordConflict}
 use Rattle.tree_calls.proofs.FoundBelow.{lies_so}
 use Rattle.tree_calls.proofs.FoundHeader.{no_head_word}
@@ -202,6 +204,14 @@ module _ (sets : Sets) (slots : List ℕ) (k : Key) (at expected seen : ℕ) (v 
 
   place : IsTreeKeyIn (ground w) k at
   place = tree_key_here w k c.spot at c.place over
+
+  -- the header of its page was last seen as that of a leaf that wasn't split
+  pub record_whole : IsUnsplitAt w at
+  record_whole =
+      let few : (c.spot).index < 16 = (c.place).index in
+      let word : at ≡ ((32 + w.layout.slots) + 64 * (c.spot).slot) + (1 + (16 + 3 * (c.spot).index)) = (c.place).word in
+      let slot : (at - (32 + w.layout.slots)) / 64 ≡ (c.spot).slot = omega (arith, word, few) in
+      unsplit_at c.slot at w (slot ∙ c.stands) c.whole
 
   record_word : IsTreeWordAt w (c.spot).slot index at
   record_word = record {
@@ -403,6 +413,7 @@ module _ (why : RefusalCause) (sets : Sets) (slots : List ℕ) (k : Key) (v w x 
         },
         there,
         ways_known k at v w there.way (more_of sets slots v w h) (h.can).trees there.has there.slot there.kind there.over,
+        unsplit_end at why w x g (record_whole sets slots k at expected seen v w h c),
       )),
     ),
     told_tree [] why (c.spot).slot (word_in tree_leaf (c.spot).index) at expected seen v w x blamed_walk same

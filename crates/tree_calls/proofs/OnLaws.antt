@@ -1,15 +1,11 @@
 -- What a call on a key of a tree is refused for is on the way to the key, or what the call needs there.
-use Rattle.std.proofs.Common.{◌≡◌, inl, inr, ℕ, ◌+◌, ◌-◌, ◌*◌, ◌/◌, true, false, true≢false, List, Some, None}
-use Rattle.std.proofs.Common.{refl, sym, ◌∙◌, subst, arith}
-use Rattle.std.specs.Prelude.{not}
-use Rattle.std.proofs.lemmas.Bool.{and_parts}
+use Rattle.std.proofs.Common.{◌≡◌, inl, inr, ℕ, ◌+◌, ◌-◌, ◌*◌, ◌/◌, true, false, List, refl, sym, ◌∙◌, subst, arith}
 use Rattle.serial_model.specs.declared.key.Key.{Key}
 use Rattle.homes.specs.declared.places.Span.{Span}
 use Rattle.homes.specs.Homes.{in_span}
 use Rattle.homes.specs.Laws.{in_span-parts}
 use Rattle.tx_sets.specs.declared.sets.Sets.{Sets}
-use Rattle.tx_sets.specs.Entries.{has_read, has_word, word_at}
-use Rattle.tx_sets.specs.Gathered.{has_read_room}
+use Rattle.tx_sets.specs.Entries.{has_read}
 use Rattle.engine_pages.specs.declared.view.RefusalCause.{RefusalCause}
 use Rattle.engine_pages.specs.declared.view.RefusalCause.TheVariants as refusals
 use Rattle.engine_pages.specs.declared.view.SetName.{SetName}
@@ -18,9 +14,7 @@ use Rattle.engine_pages.specs.declared.view.View.{View}
 use Rattle.engine_pages.specs.declared.view.Way.{Way}
 use Rattle.engine_pages.specs.Layout.{page_at}
 use Rattle.engine_pages.specs.Pages.{is_tree}
-use Rattle.engine_pages.specs.Steps.{seen_at}
 use Rattle.tree_walks.specs.declared.finding.Found.{Found}
-use Rattle.tree_walks.specs.declared.finding.Found.TheVariants as places
 use Rattle.tree_walks.specs.Finding.{IsFindWide, IsFound, IsRecordChanged, RefusesFind}
 use Rattle.tree_walks.specs.Ways.{IsHeldWide, IsOnWay, IsWayPointer}
 use Rattle.page_commit.specs.Needs.{IsRecordOver, IsRefusedOn, NeedsOne}
@@ -28,8 +22,8 @@ use Rattle.page_commit.specs.Places.{ground, IsTreeKeyIn}
 use Rattle.page_commit.specs.Turning.{IsHeaderOver, IsTreePointerOver}
 use Rattle.page_commit.proofs.AnyPlaces.{tree_key_here}
 use Rattle.tree_calls.specs.Keeping.{lacks_entry}
-use Rattle.tree_calls.proofs.CauseLaws.{found_place, new_header, no_room, no_test}
-use Rattle.tree_calls.proofs.DueLaws.{TreeWalked}
+use Rattle.tree_calls.proofs.CauseLaws.{found_needs}
+use Rattle.tree_calls.proofs.DueLaws.{record_whole, TreeWalked}
 
 -- ---- words
 
@@ -56,13 +50,19 @@ header_over k t at sp w on is =
     }
 
 record_over : (sets : Sets) (late : List ℕ) (k : Key) (at expected seen : ℕ) (v w : View) → TreeWalked sets late v w
-    → IsRecordChanged k at expected seen v w → IsRecordOver k w at
+    → IsRecordChanged k at expected seen v w → IsRecordOver k (record sets { holds = late }) w at
 record_over sets late k at expected seen v w h c =
     let way : Way = record { slot = c.slot; span = c.span } in
     let same = ((h.can).trees).spans way (c.place).way (c.on).way (c.place).has (sym ((c.place).slot ∙ c.stands)) (c.on).tree in
     let here : IsTreeKeyIn (ground w) k at =
     tree_key_here w k c.spot at c.place (subst (λ (s : Span). in_span s k ≡ true) same (c.on).over) in
-    record { key = k; place = here; over = here.over; which = inl refl }
+    record {
+      key = k;
+      place = here;
+      over = here.over;
+      which = inl refl;
+      whole = inl (record_whole sets late k at expected seen v w h c);
+    }
 
 -- ---- a way was too long, or a record was not found
 
@@ -94,32 +94,6 @@ find_on (refusals.NumberLimit clock) sets late k v w h r = absurd r
 pub entry_on : (f : Found) (sets : Sets) (late : List ℕ) (k : Key) (v w : View) → TreeWalked sets late v w
     → has_read k sets.reads ≡ false → IsFound k sets.pointers sets.headers f v w → lacks_entry sets f ≡ true
     → IsRefusedOn (refusals.Wide Reads) k (record sets { holds = late }) w
-entry_on (places.Volatile at word value) sets late k v w h none f full = (
-  no_room sets full,
-  inl record {
-    at = at;
-    word = word;
-    place = found_place sets late k at word value v w h f;
-    saw = f.met;
-    unread = none;
-  },
-)
-entry_on (places.Absent header word) sets late k v w h none f full =
-    let both = and_parts (not (has_read_room sets)) (not (has_word header sets.headers)) full in
-    let new = new_header sets.headers k header word v w f (no_test (has_word header sets.headers) both.1) in (
-      no_room sets both.0,
-      inr (inl record {
-        slot = f.slot;
-        span = f.span;
-        on = f.on;
-        leaf = record { slot = f.slot; keys = f.keys };
-        knows = f.knows;
-        same = refl;
-        word = word;
-        saw = subst (λ (a : ℕ). seen_at w.reads a ≡ Some word) f.place f.met;
-        unsplit = new.unsplit;
-        absent = subst (λ (a : ℕ). word_at a sets.headers ≡ None) f.place new.absent;
-      }),
-    )
-entry_on (places.Snapshot value number p) sets late k v w h none f full = absurd (true≢false (sym full))
-entry_on (places.Zero p) sets late k v w h none f full = absurd (true≢false (sym full))
+entry_on f sets late k v w h none is full =
+    let found = found_needs f sets late k v w h none is full in
+    (found.0, elim found.1 [ inl one ↦ inl one | inr head ↦ inr (inl head) ])

@@ -1,21 +1,22 @@
 -- A read of a key of a tree that was refused behind a walk which read and met nothing.
 use Rattle.std.proofs.Common.{◌≡◌, ◌⊎◌, inl, inr, ℕ, ◌≤◌, false, List, length}
-use Rattle.std.proofs.Common.{ap, ◌∙◌, subst, arith, None}
+use Rattle.std.proofs.Common.{ap, ◌∙◌, subst, arith}
 use Rattle.serial_model.specs.declared.key.Key.{Key}
 use Rattle.tx_sets.specs.declared.reads.ReadEntry.{ReadEntry}
 use Rattle.tx_sets.specs.declared.seen.Seen.{Seen}
 use Rattle.tx_sets.specs.declared.sets.Sets.{Sets}
 use Rattle.tx_sets.specs.declared.writes.Write.{Write}
-use Rattle.tx_sets.specs.Entries.{has_read, has_write, word_at}
+use Rattle.tx_sets.specs.Entries.{has_read, has_write}
 use Rattle.engine_pages.specs.declared.view.RefusalCause.{RefusalCause}
 use Rattle.engine_pages.specs.declared.view.RefusalCause.TheVariants as refusals
 use Rattle.engine_pages.specs.declared.view.View.{View}
+use Rattle.tree_walks.specs.Finding as finding
+use Rattle.page_commit.specs.Needs.{NeedsHeader, NeedsRecord}
 use Rattle.page_commit.specs.Refusing.{IsHeaderConflict, IsPointerConflict, IsTreeConflict}
 use Rattle.page_commit.specs.Turning.{OnlyWalked}
 use Rattle.page_commit.proofs.KnownOver.{pointers_before, ways_before}
 use Rattle.page_commit.proofs.TurnLaws.{walks_then}
-use Rattle.tree_calls.specs.Causes.{IsNewHeader, IsNewRecord, IsWordConflict, NeedsEntry, NeedsPointer, NeedsSlot}
-use Rattle.tree_calls.specs.Causes.{RefusesTreeRead, WasLong}
+use Rattle.tree_calls.specs.Causes.{IsWordConflict, NeedsEntry, NeedsPointer, NeedsSlot, RefusesTreeRead, WasLong}
 
 pub pointer_since : (pointers : List Seen) (at expected seen : ℕ) (v w x : View) → v.steps ≤ w.steps
     → IsPointerConflict pointers at expected seen w x → IsPointerConflict pointers at expected seen v x
@@ -62,6 +63,16 @@ pub hold_since : (k : Key) (slots : List ℕ) (v w x : View) → OnlyWalked v w 
 hold_since k slots v w x only n =
     record { then = n.then; walked = walks_then v w n.then only n.walked; met = n.met; needs = n.needs }
 
+pub entry_since : (k : Key) (sets : Sets) (v w x : View) → OnlyWalked v w → NeedsEntry k sets w x
+    → NeedsEntry k sets v x
+entry_since k sets v w x only n =
+    record { then = n.then; walked = walks_then v w n.then only n.walked; met = n.met; needs = n.needs }
+
+pub needs_since : (k : Key) (sets : Sets) (v w x : View) → OnlyWalked v w → NeedsPointer k sets w x
+    → NeedsPointer k sets v x
+needs_since k sets v w x only n =
+    record { then = n.then; walked = walks_then v w n.then only n.walked; met = n.met; needs = n.needs }
+
 -- what differs of the sets is their holds alone
 module _ (sets mid : Sets) (k : Key) (v w x : View) (only : OnlyWalked v w) (reads : mid.reads ≡ sets.reads)
     (pointers : mid.pointers ≡ sets.pointers) (headers : mid.headers ≡ sets.headers) where
@@ -89,30 +100,27 @@ module _ (sets mid : Sets) (k : Key) (v w x : View) (only : OnlyWalked v w) (rea
               (record_since mid.reads at expected seen v w x only.since r.0),
           r.1,
           ways_before k at v w only r.2,
+          r.3,
         )
       ])
     ],
   )
 
-  entry_since : NeedsEntry mid x → NeedsEntry sets x
-  entry_since n = record {
-    read = n.read;
+  entry_as : NeedsEntry k mid v x → NeedsEntry k sets v x
+  entry_as n = record {
+    then = n.then;
+    walked = n.walked;
     met = n.met;
-    is = subst
-        (λ (l : List Seen). IsNewRecord sets.reads x.layout.slots n.read.word n.read.seen
-        ⊎ IsNewHeader l x.layout.slots n.read.word n.read.seen) headers
-        (subst
-        (λ (l : List ReadEntry). IsNewRecord l x.layout.slots n.read.word n.read.seen
-        ⊎ IsNewHeader mid.headers x.layout.slots n.read.word n.read.seen) reads n.is);
+    needs = subst (λ (l : List Seen). NeedsRecord k sets.reads n.then ⊎ NeedsHeader k l n.then) headers
+        (subst (λ (l : List ReadEntry). NeedsRecord k l n.then ⊎ NeedsHeader k mid.headers n.then) reads n.needs);
   }
 
-  needs_since : NeedsPointer mid x → NeedsPointer sets x
-  needs_since n = record {
-    read = n.read;
+  needs_as : NeedsPointer k mid v x → NeedsPointer k sets v x
+  needs_as n = record {
+    then = n.then;
+    walked = n.walked;
     met = n.met;
-    bare = n.bare;
-    apart = n.apart;
-    absent = subst (λ (l : List Seen). word_at n.read.word l ≡ None) pointers n.absent;
+    needs = subst (λ (l : List Seen). finding.NeedsPointer k l n.then) pointers n.needs;
   }
 
   pub tree_read_since : (why : RefusalCause) (new : Sets) → w.touched ≡ v.touched → mid.writes ≡ sets.writes
@@ -137,7 +145,7 @@ module _ (sets mid : Sets) (k : Key) (v w x : View) (only : OnlyWalked v w) (rea
             let one = ap (λ (l : List ReadEntry). length l) reads in
             let two = ap (λ (l : List Seen). length l) headers in
             omega (arith, many, one, two),
-        entry_since e.2,
+        entry_as (entry_since k mid v w x only e.2),
       )
       | inr more ↦ inr (elim more [
         | inl h ↦ inl (
@@ -150,7 +158,7 @@ module _ (sets mid : Sets) (k : Key) (v w x : View) (only : OnlyWalked v w) (rea
         | inr p ↦ inr (
           p.0,
           subst (λ (l : List Seen). length l ≡ 128) pointers p.1,
-          needs_since p.2,
+          needs_as (needs_since k mid v w x only p.2),
         )
       ])
     ],

@@ -53,6 +53,11 @@ found_made k headers x index place v w g l at stands = (
     word = stands ∙ (let e : page_at v.layout.slots x.slot ((16 + 3 * index) + 1)
         ≡ page_at v.layout.slots x.slot (1 + (16 + 3 * index)) = omega arith in e);
   },
+  record {
+    word = x.header;
+    saw = (leaf_on_glanced k headers x v w (glanced_walked v w g) g l).met;
+    unsplit = l.leaf.small;
+  },
 )
 
 -- or none

@@ -125,6 +125,8 @@ module _ (k : Key) (pointers headers : List Seen) (slots : List ℕ) (bare : Bar
   can_install = record {
     place = place_same v d bare.place bare.span bare.pointer.at (ap (λ (z : View). z.layout) is_held)
         (ap (λ (z : View). z.ways) is_held) (ap (λ (z : View). z.inners) is_held) on.is;
+    held = ap (λ (z : View). has_slot z.grip.holds t) is_held
+        ∙ or_left (eqb t t) (has_slot v.grip.holds t) (eq-eqb t t refl);
     free = on.bare;
     page = inr (elim h.page [
       | inl leaf ↦

@@ -18,7 +18,8 @@ use Rattle.engine_pages.specs.Steps.{seen_at}
 use Rattle.page_pool.specs.Pool.{IsChanged, IsFull}
 use Rattle.tree_walks.specs.declared.ways.Page.{Page}
 use Rattle.tree_walks.specs.Walks.{walk_steps, AreLedTo, CanWalk, HasWalked, KeepsMet, KeepsWords, OnlyTrees, OnlyWaysOn}
-use Rattle.tree_walks.specs.Ways.{IsHeaderChanged, IsHeldWide, IsLeafOn, IsOnWay, IsPointerChanged, IsWayPointer}
+use Rattle.tree_walks.specs.Ways.{IsHeaderChanged, IsHeldWide, IsLeafOn, IsOnWay, IsPointerChanged, IsUnsplit}
+use Rattle.tree_walks.specs.Ways.{IsWayPointer}
 use Rattle.foster_tree.specs.Splitting.{HasMadeNothing}
 use Rattle.tree_making.specs.declared.making.Made.{Made}
 use Rattle.tree_making.specs.declared.making.Made.TheVariants as mades
@@ -37,11 +38,11 @@ pub record CanMake (slots : List ℕ) (v : View) : Type 0 where
 
 -- ---- what it comes to
 
--- The key's record stands in a leaf on the way to the key, which the pass holds, and its word is here; or the leaf in memory on the way to the
--- key, which wasn't split, has no record of it.
+-- The key's record stands in a leaf on the way to the key, which the pass holds, and its word is here; or the leaf in
+-- memory on the way to the key has no record of it. The leaf's header was last seen as that of one that wasn't split.
 abbrev pub IsMade : Key → List Seen → Made → View → Type 0
 IsMade k headers (mades.Record at) w =
-    (x : Spot) × (sp : Span) × IsOnWay k w x.slot sp × IsTreeRecordAt w k x at
+    (x : Spot) × (sp : Span) × IsOnWay k w x.slot sp × IsTreeRecordAt w k x at × IsUnsplit w x.slot
 IsMade k headers (mades.Lacking leaf) w = (h : IsLeafOn k headers leaf w) × (has_key h.leaf.keys k ≡ false)
 
 -- ---- refusals

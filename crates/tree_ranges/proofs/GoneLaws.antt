@@ -38,7 +38,8 @@ use Rattle.page_commit.proofs.TurnLaws.{walks_then}
 use Rattle.tree_scans.specs.Rows.{key_in}
 use Rattle.tree_calls.specs.Causes.{IsWordConflict}
 use Rattle.tree_calls.proofs.OpLaws.{held_both, held_for, ways_both, ways_for}
-use Rattle.tree_calls.proofs.SinceLaws.{head_since, hold_since, long_since, pointer_since, record_since}
+use Rattle.tree_calls.proofs.SinceLaws.{entry_since, head_since, hold_since, long_since, needs_since, pointer_since}
+use Rattle.tree_calls.proofs.SinceLaws.{record_since}
 use Rattle.tree_calls.proofs.TreeWalkLaws.{tree_walked}
 use Rattle.tree_ranges.specs.Causes.{HasGrown, HasJoined, IsInRange, IsScanCause, RefusesScan}
 use Rattle.tree_ranges.specs.Going.{GoesIn, HasGone, HasRead, HasScanned, IsHeaderOf, Stops}
@@ -55,6 +56,14 @@ in_both {A = A} (y ∷ xs) ys x has = by_cases (in_cases x y (xs ++ ys) has) (λ
         → Contains (y ∷ xs) x ⊎ Contains ys x
     by_cases (inl same) later = inl (subst (λ (z : A). Contains (y ∷ xs) z) same (in_head y xs))
     by_cases (inr more) later = elim (later more) [ inl one ↦ inl (in_tail x y xs one) | inr two ↦ inr two ]
+
+pub in_more : {A : Type 0} (xs ys : List A) (x : A) → Contains xs x → Contains (xs ++ ys) x
+in_more [] ys x has = absurd (in_none x has)
+in_more {A = A} (y ∷ xs) ys x has = by_cases (in_cases x y xs has) (λ more. in_more xs ys x more)
+  where
+    by_cases : (y ≡ x) ⊎ Contains xs x → (Contains xs x → Contains (xs ++ ys) x) → Contains (y ∷ (xs ++ ys)) x
+    by_cases (inl same) later = subst (λ (z : A). Contains (y ∷ (xs ++ ys)) z) same (in_head y (xs ++ ys))
+    by_cases (inr more) later = in_tail x y (xs ++ ys) (later more)
 
 pub joined_none : (A : Type 0) (P : A → Type 0) (old new : List A) → new ≡ old → HasJoined A P old new
 joined_none A P old new same =
@@ -325,6 +334,7 @@ conflict_since new k at expected seen v u x only c = (
         record_since new.reads at expected seen v u x only.since r.0,
         r.1,
         ways_before k at v u only r.2,
+        r.3,
       )
     ])
   ],
@@ -337,7 +347,7 @@ cause_since (refusals.Conflict at expected seen) new k v u x only c =
 cause_since (refusals.Full held) new k v u x only c = absurd c
 cause_since (refusals.Wide set) new k v u x only c =
     elim c [
-      | inl e ↦ inl e
+      | inl e ↦ inl (e.0, e.1, entry_since k new v u x only e.2)
       | inr more ↦ inr (elim more [
         | inl h ↦ inl (
           h.0,
@@ -346,7 +356,7 @@ cause_since (refusals.Wide set) new k v u x only c =
             | inr long ↦ inr (long_since k v u only long)
           ],
         )
-        | inr p ↦ inr p
+        | inr p ↦ inr (p.0, p.1, needs_since k new v u x only p.2)
       ])
     ]
 cause_since (refusals.NumberLimit clock) new k v u x only c = absurd c

@@ -223,9 +223,11 @@ module _ (sets new : Sets) (v w : View) (k : Key) (x : Leaf) (at : ℕ) (m : IsL
       }
 
   -- it vouches for the keys that the leaf hasn't
-  pub head_taken : (last : ℕ) → last ≤ (x.span).high → IsLeafTaken k x last w
+  pub head_taken : (last : ℕ) → last ≤ (x.span).high → IsLeafTaken k x last new.headers w
   head_taken last top = record {
     leaf = leaf_stays k x v w keeps.walked m;
+    kept = subst (λ (n : ℕ). Contains new.headers (record { at = n; word = x.header })) place
+        (head_has sets new v w h part live.decls can.agree can.trees more live.parts (live.headers).once met meets);
     rest = λ n low high none. record {
       part = part;
       among = subst (λ (l : List Part). Contains l part) (sym f.kept) (kept_new v.seat.kept part);

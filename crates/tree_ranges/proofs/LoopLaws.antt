@@ -11,11 +11,14 @@ use Rattle.homes.specs.Homes.{has_key, same_key}
 use Rattle.homes.specs.Laws.{same_key-self}
 use Rattle.commit_core.specs.declared.part.Part.{Part}
 use Rattle.serial_bridge.specs.Transaction.{Vouched}
+use Rattle.tx_sets.specs.declared.seen.Seen.{Seen}
 use Rattle.tx_sets.specs.declared.sets.Sets.{Sets}
 use Rattle.tx_sets.specs.declared.writes.Write.{Write}
 use Rattle.tx_sets.specs.Entries.{value_of}
+use Rattle.engine_pages.specs.declared.layout.Layout.{Layout}
 use Rattle.engine_pages.specs.declared.view.RefusalCause.{RefusalCause}
 use Rattle.engine_pages.specs.declared.view.View.{View}
+use Rattle.engine_pages.specs.Layout.{page_at}
 use Rattle.engine_pages.specs.Steps.{kept_at, seen_at}
 use Rattle.array_pages.specs.Finding.{HasGlanced}
 use Rattle.tree_walks.specs.declared.ways.Leaf.{Leaf}
@@ -25,7 +28,7 @@ use Rattle.tree_walks.proofs.HalfLaws.{bounds_of}
 use Rattle.tree_walks.proofs.KeepLaws.{keeps_glanced}
 use Rattle.tree_walks.proofs.LoadLaws.{glanced_grip, glanced_walked, glanced_went}
 use Rattle.tree_walks.proofs.PathLaws.{paths_glanced}
-use Rattle.tree_walks.proofs.StepLaws.{led_none}
+use Rattle.tree_walks.proofs.StepLaws.{layout_stays, led_none}
 use Rattle.tree_walks.proofs.WayLaws.{leaf_stays}
 use Rattle.page_commit.specs.Calls.{end_most}
 use Rattle.page_commit.specs.Live.{IsLive}
@@ -37,7 +40,7 @@ use Rattle.tree_scans.specs.Smallest.{IsSmallest}
 use Rattle.tree_ranges.specs.Going.{Comes, GoesIn, HasRow, HasRowOf, ReadsTo, Stops, TakesRow}
 use Rattle.tree_ranges.specs.Leaves.{IsLeafTaken}
 use Rattle.tree_ranges.specs.Rows.{with_row, AreFree, AreRowsOf, RowsGoOn}
-use Rattle.tree_ranges.proofs.GoneLaws.{goes_more, goes_none, goes_then, read_goes, stops_then}
+use Rattle.tree_ranges.proofs.GoneLaws.{goes_more, goes_none, goes_then, in_more, read_goes, stops_then}
 use Rattle.tree_ranges.proofs.RowLaws.{rows_one, rows_past, seen_stays}
 use Rattle.tree_ranges.proofs.WalkLaws.{live_walk, walk_goes}
 
@@ -124,7 +127,8 @@ pub record IsReading
   pub most : u.steps ≤ v.steps + 19 * (from - k.key)
 
 module _ (sets : Sets) (k : Key) (x : Leaf) (top : ℕ) (rows : List (ℕ × ℕ)) (v : View) (live : IsLive sets v)
-    (taken : IsLeafTaken k x top v) (free : AreFree k.storage k.key top sets.writes) (start : k.key ≤ top) where
+    (taken : IsLeafTaken k x top sets.headers v) (free : AreFree k.storage k.key top sets.writes)
+    (start : k.key ≤ top) where
   pub reading_none : length rows < 16 → IsReading sets k top rows v sets k.key rows v
   reading_none few = record {
     gone = λ to low high. goes_none k.storage k.key to sets v live;
@@ -148,6 +152,16 @@ module _ (sets : Sets) (k : Key) (x : Leaf) (top : ℕ) (rows : List (ℕ × ℕ
 
       abbrev pub reading_leaf : IsLeafAt k x u
       reading_leaf = leaf_stays k x v u walked taken.leaf
+
+      -- the header was last seen as it is kept
+      pub reading_met : seen_at u.reads (page_at u.layout.slots x.slot 0) ≡ Some x.header
+      reading_met =
+          let head : Seen = record { at = page_at v.layout.slots x.slot 0; word = x.header } in
+          let joined = (r.gone top start r.high k.key top (omega arith) (omega arith)).headers in
+          ap (λ (y : Layout). seen_at u.reads (page_at y.slots x.slot 0)) (layout_stays v u walked)
+          ∙ (reading_live.headers).met head
+          (subst (λ (l : List Seen). Contains l head) (sym joined.is)
+          (in_more sets.headers joined.more head taken.kept))
 
       -- none is left before the loop's test
       pub reading_past : top < from → Comes 16 19 k.storage k.key top (Ok top) sets mid rows some v u
@@ -183,6 +197,9 @@ module _ (sets : Sets) (k : Key) (x : Leaf) (top : ℕ) (rows : List (ℕ × ℕ
             live_walk mid mid.holds u g reading_live (glanced_walked u g gl) can (ap (λ (z : View). z.seat.kept) gl.is)
             (λ a. ap (λ (z : View). kept_at z.reads a) gl.is) (λ a. inl (ap (λ (z : View). seen_at z.reads a) gl.is))
             (keeps_glanced mid.pointers mid.headers u g gl)
+
+        pub glance_met : seen_at g.reads (page_at g.layout.slots x.slot 0) ≡ Some x.header
+        glance_met = ap (λ (z : View). seen_at z.reads (page_at z.layout.slots x.slot 0)) gl.is ∙ reading_met
 
         glance_to : (to : ℕ) → k.key ≤ to → from ≤ to + 1 → GoesIn k.storage k.key to sets mid v g
         glance_to to first past =

@@ -13,9 +13,7 @@ use Rattle.engine_pages.specs.declared.view.SetName.TheVariants.{Reads}
 use Rattle.engine_pages.specs.declared.view.View.{View}
 use Rattle.engine_pages.specs.Pages.{is_tree}
 use Rattle.tree_walks.specs.declared.finding.Found.{Found}
-use Rattle.tree_walks.specs.declared.finding.Found.TheVariants as places
 use Rattle.tree_walks.specs.declared.ways.Leaf.{Leaf}
-use Rattle.tree_walks.specs.Finding.{IsFound, IsVolatile}
 use Rattle.tree_walks.specs.Finds.{KeepsSo}
 use Rattle.tree_walks.specs.Ways.{IsLeafAt}
 use Rattle.tree_walks.proofs.HalfLaws.{bounds_of}
@@ -25,7 +23,7 @@ use Rattle.page_commit.specs.Live.{IsLive}
 use Rattle.page_commit.specs.Steps.{HasGivenUp}
 use Rattle.tree_scans.specs.Rows.{key_in}
 use Rattle.tree_calls.specs.Keeping.{entry_value, lacks_entry, value_in, HasValue, KeepsFound}
-use Rattle.tree_calls.proofs.CauseLaws.{new_record}
+use Rattle.tree_calls.proofs.CauseLaws.{found_needs}
 use Rattle.tree_calls.proofs.DoneLaws.{value_again}
 use Rattle.tree_calls.proofs.DueLaws.{TreeWalked}
 use Rattle.tree_calls.proofs.ValueLaws.{value_found}
@@ -64,19 +62,15 @@ read_stops why sets k v w x most more s =
 
 -- there was no room for it
 pub read_full : (f : Found) (why : RefusalCause) (sets : Sets) (k : Key) (v w x : View) → IsLive sets v
-    → KeepsSo 3 k sets.pointers sets.headers sets.holds (Ok f) v w → IsVolatile f → has_read k sets.reads ≡ false
+    → KeepsSo 3 k sets.pointers sets.headers sets.holds (Ok f) v w → has_read k sets.reads ≡ false
     → lacks_entry sets f ≡ true
     → HasGivenUp [] (refusals.Wide Reads) w x → x.steps ≤ w.steps + end_most → why ≡ refusals.Wide Reads
     → ReadsKey 3 k (Err why) sets sets v x
-read_full (places.Volatile at word value) why sets k v w x live h there none full g more same =
-    let t : TreeWalked sets sets.holds v w = read_walked sets k (places.Volatile at word value) v w live h in
+read_full f why sets k v w x live h none full g more same =
+    let t : TreeWalked sets sets.holds v w = read_walked sets k f v w live h in
     read_stops why sets k v w x h.most more
     (subst (λ (r : RefusalCause). Stops k.storage k.key k.key sets sets r v x) (sym same)
-    (stop_full sets sets.holds k v w x t at word (h.found).met
-    (inl (new_record sets sets.holds k at word value v w t h.found none)) full g))
-read_full (places.Absent header word) why sets k v w x live h there none full g more same = absurd there
-read_full (places.Snapshot value number p) why sets k v w x live h there none full g more same = absurd there
-read_full (places.Zero p) why sets k v w x live h there none full g more same = absurd there
+    (stop_full sets sets.holds k v w x t (found_needs f sets sets.holds k v w t none h.found full) g))
 
 -- it was in conflict
 pub read_refused : (why told : RefusalCause) (sets : Sets) (k : Key) (v w x : View) → IsLive sets v

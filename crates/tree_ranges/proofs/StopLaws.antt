@@ -2,13 +2,11 @@
 use Rattle.std.proofs.Common.{◌≡◌, ◌⊎◌, true≢false, inl, inr, ℕ, ◌+◌, ◌-◌, ◌*◌, ◌/◌, ◌%◌, ◌^◌, ◌<◌, ◌≤◌, true, false}
 use Rattle.std.proofs.Common.{List, []}
 use Rattle.std.proofs.Common.{length, refl, sym, ap, ◌∙◌, subst, arith, Some, None}
-use Rattle.std.specs.Prelude.{not}
 use Rattle.serial_model.specs.declared.key.Key.{Key}
 use Rattle.homes.specs.declared.places.Span.{Span}
 use Rattle.homes.specs.Homes.{in_span}
 use Rattle.tx_sets.specs.declared.sets.Sets.{Sets}
-use Rattle.tx_sets.specs.Entries.{has_read, has_word, word_at}
-use Rattle.tx_sets.specs.Gathered.{has_read_room}
+use Rattle.tx_sets.specs.Entries.{has_read}
 use Rattle.engine_pages.specs.declared.layout.Layout.{Layout}
 use Rattle.engine_pages.specs.declared.view.RefusalCause.{RefusalCause}
 use Rattle.engine_pages.specs.declared.view.RefusalCause.TheVariants as refusals
@@ -18,24 +16,22 @@ use Rattle.engine_pages.specs.declared.view.Touch.{Touch}
 use Rattle.engine_pages.specs.declared.view.View.{View}
 use Rattle.engine_pages.specs.declared.view.Way.{Way}
 use Rattle.engine_pages.specs.Layout.{page_at}
-use Rattle.engine_pages.specs.Steps.{seen_at}
 use Rattle.tree_walks.specs.declared.ways.Bare.{Bare}
 use Rattle.tree_walks.specs.Finding.{IsFindWide, IsRecordChanged, RefusesFind}
 use Rattle.tree_walks.specs.Walks.{LiesInPage}
 use Rattle.tree_walks.specs.Ways.{IsBareOn, RefusesWalk}
 use Rattle.tree_walks.proofs.FindLaws.{walk_finds}
 use Rattle.tree_walks.proofs.StepLaws.{layout_stays, place_stays}
+use Rattle.page_commit.specs.Needs.{NeedsHeader, NeedsRecord}
 use Rattle.page_commit.specs.Places.{ground, IsPointerIn, IsTreeKeyIn}
 use Rattle.page_commit.specs.Refusing.{HasRefused, TellsOnly}
 use Rattle.page_commit.specs.Steps.{CanRefuse, HasGivenUp, TellsOf}
 use Rattle.page_commit.proofs.AnyPlaces.{any_no_pointer, tree_key_here}
-use Rattle.page_commit.proofs.CommitLaws.{kept_others}
-use Rattle.page_commit.proofs.DueLaws.{given_layout, seen_in}
 use Rattle.page_commit.proofs.RefuseLaws.{can_refuse, walked_refused}
 use Rattle.page_commit.proofs.TreePointers.{any_pointer_here}
 use Rattle.tree_scans.specs.Heads.{IsAtWord}
-use Rattle.tree_calls.specs.Causes.{IsNewEntry, IsWordConflict, NeedsEntry, NeedsPointer, NeedsSlot, WasLong}
-use Rattle.tree_calls.proofs.CauseLaws.{find_told, needs_entry, needs_slot, no_room}
+use Rattle.tree_calls.specs.Causes.{IsWordConflict, NeedsEntry, NeedsPointer, NeedsSlot, WasLong}
+use Rattle.tree_calls.proofs.CauseLaws.{find_told, needs_entry, needs_pointer, needs_slot}
 use Rattle.tree_calls.proofs.DueLaws.{draws_same, header_cause, pointer_cause, record_cause, touches_same, TreeWalked}
 use Rattle.tree_calls.proofs.FoundBelow.{lies_so}
 use Rattle.tree_calls.proofs.TreeWalkLaws.{tree_walked}
@@ -74,25 +70,14 @@ module _ (sets : Sets) (late : List ℕ) (k : Key) (v w x : View) (h : TreeWalke
   -- ---- sets that are full
 
   find_wide : (set : SetName) → HasGivenUp [] (refusals.Wide set) w x → IsFindWide k sets.pointers late set w
-      → ((set ≡ Reads) × (256 ≤ length sets.reads + length sets.headers) × NeedsEntry (record sets { holds = late }) x)
+      → ((set ≡ Reads) × (256 ≤ length sets.reads + length sets.headers)
+      × NeedsEntry k (record sets { holds = late }) v x)
       ⊎ (((set ≡ Holds) × (((length late ≡ 128) × NeedsSlot k late v x) ⊎ WasLong k v))
-      ⊎ ((set ≡ Pointers) × (length sets.pointers ≡ 128) × NeedsPointer (record sets { holds = late }) x))
+      ⊎ ((set ≡ Pointers) × (length sets.pointers ≡ 128) × NeedsPointer k (record sets { holds = late }) v x))
   find_wide Reads g n = absurd n
   find_wide Writes g n = absurd n
   find_wide Pointers g n =
-      let r = seen_in w.reads ((n.bare).pointer).at ((n.bare).pointer).word (n.on).met in
-      inr (inr (
-        refl,
-        n.full,
-        record {
-          read = r.0;
-          met = kept_others [] (refusals.Wide Pointers) w x g r.0 r.1 refl;
-          bare = subst (λ (i : ℕ). i < 2 ^ 32) (sym r.3) (n.on).bare;
-          apart = λ t same. (n.on).apart t (sym r.2 ∙ (same
-              ∙ ap (λ (l : Layout). page_at l.slots t 0) (given_layout (refusals.Wide Pointers) w x g)));
-          absent = subst (λ (a : ℕ). word_at a sets.pointers ≡ None) (sym r.2) n.absent;
-        },
-      ))
+      inr (inr (refl, n.full, needs_pointer (record sets { holds = late }) k v w x h.walk g n))
   find_wide Holds g (inl full) =
       inr (inl (refl, inl (full.0, needs_slot sets late late k v w x h g full.1)))
   find_wide Holds g (inr long) =
@@ -190,10 +175,9 @@ module _ (sets : Sets) (late : List ℕ) (k : Key) (v w x : View) (h : TreeWalke
 
   -- ---- no room for one more record or header
 
-  -- its word was seen
-  pub stop_full : (at word : ℕ) → seen_at w.reads at ≡ Some word → IsNewEntry sets w.layout.slots at word
-      → not (has_read_room sets) ≡ true → HasGivenUp [] (refusals.Wide Reads) w x
+  pub stop_full : (256 ≤ length sets.reads + length sets.headers)
+      × (NeedsRecord k sets.reads w ⊎ NeedsHeader k sets.headers w) → HasGivenUp [] (refusals.Wide Reads) w x
       → Stops k.storage k.key k.key sets (record sets { holds = late }) (refusals.Wide Reads) v x
-  stop_full at word met new full g =
+  stop_full needs g =
       stop_by (refusals.Wide Reads) (λ touched told. told)
-      (inl (refl, no_room sets full, needs_entry (record sets { holds = late }) at word w x g met new)) g
+      (inl (refl, needs.0, needs_entry (record sets { holds = late }) k v w x h.walk g needs.1)) g

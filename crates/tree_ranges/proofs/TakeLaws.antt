@@ -1,5 +1,5 @@
 -- A header that a scan takes, or why not; and why a stretch is refused.
-use Rattle.std.proofs.Common.{◌≡◌, inl, inr, ℕ, ◌+◌, ◌-◌, ◌*◌, ◌≤◌, Bool, true, false, true≢false, List, [], refl}
+use Rattle.std.proofs.Common.{◌≡◌, ◌⊎◌, inl, inr, ℕ, ◌+◌, ◌-◌, ◌*◌, ◌≤◌, Bool, true, false, true≢false, List, [], refl}
 use Rattle.std.proofs.Common.{sym, ap, ◌∙◌, subst, arith, Some, None, not, length}
 use Rattle.std.specs.Prelude.{Ok, Err, ◌&&◌}
 use Rattle.std.proofs.lemmas.Bool.{and_parts}
@@ -14,7 +14,6 @@ use Rattle.engine_pages.specs.declared.view.RefusalCause.TheVariants as refusals
 use Rattle.engine_pages.specs.declared.view.SetName.TheVariants.{Reads}
 use Rattle.engine_pages.specs.declared.view.View.{View}
 use Rattle.engine_pages.specs.Layout.{page_at}
-use Rattle.engine_pages.specs.Steps.{seen_at}
 use Rattle.tree_walks.specs.declared.ways.Bare.{Bare}
 use Rattle.tree_walks.specs.declared.ways.Leaf.{Leaf}
 use Rattle.tree_walks.specs.Walks.{CanWalk, HasWalked}
@@ -23,7 +22,7 @@ use Rattle.tree_walks.proofs.StepLaws.{layout_stays, walked_self}
 use Rattle.page_commit.specs.Calls.{end_most}
 use Rattle.page_commit.specs.Keeping.{MeetsPointer}
 use Rattle.page_commit.specs.Live.{IsLive}
-use Rattle.page_commit.specs.Needs.{IsRefusedOn}
+use Rattle.page_commit.specs.Needs.{IsRefusedOn, NeedsHeader, NeedsRecord}
 use Rattle.page_commit.specs.Steps.{HasGivenUp}
 use Rattle.page_commit.proofs.FoundLaws.{no_word}
 use Rattle.page_commit.proofs.WalkedLaws.{can_walk}
@@ -47,14 +46,14 @@ no_test : (b : Bool) → not b ≡ true → b ≡ false
 no_test true none = absurd (true≢false (sym none))
 no_test false none = refl
 
--- it was to be kept, and there was no room for it
-pub head_on : (sets : Sets) (k : Key) (x : Leaf) (at : ℕ) (v : View) → IsLeafOn k sets.headers x v
+-- it is one entry more than there is room for
+head_needs : (sets : Sets) (k : Key) (x : Leaf) (at : ℕ) (v : View) → IsLeafOn k sets.headers x v
     → at ≡ page_at v.layout.slots x.slot 0 → (not (has_read_room sets) && not (has_word at sets.headers)) ≡ true
-    → IsRefusedOn (refusals.Wide Reads) k sets v
-head_on sets k x at v l place full =
+    → (256 ≤ length sets.reads + length sets.headers) × (NeedsRecord k sets.reads v ⊎ NeedsHeader k sets.headers v)
+head_needs sets k x at v l place full =
     let both = and_parts (not (has_read_room sets)) (not (has_word at sets.headers)) full in (
       no_room sets both.0,
-      inr (inl record {
+      inr record {
         slot = x.slot;
         span = x.span;
         on = l.leaf.on;
@@ -66,29 +65,29 @@ head_on sets k x at v l place full =
         unsplit = l.leaf.small;
         absent = subst (λ (a : ℕ). word_at a sets.headers ≡ None) place
             (no_word at sets.headers (no_test (has_word at sets.headers) both.1));
-      }),
+      },
     )
+
+-- it was to be kept, and there was no room for it
+pub head_on : (sets : Sets) (k : Key) (x : Leaf) (at : ℕ) (v : View) → IsLeafOn k sets.headers x v
+    → at ≡ page_at v.layout.slots x.slot 0 → (not (has_read_room sets) && not (has_word at sets.headers)) ≡ true
+    → IsRefusedOn (refusals.Wide Reads) k sets v
+head_on sets k x at v l place full =
+    let needs = head_needs sets k x at v l place full in
+    (needs.0, elim needs.1 [ inl one ↦ inl one | inr head ↦ inr (inl head) ])
 
 pub head_full : (sets : Sets) (k : Key) (x : Leaf) (last at : ℕ) (why : RefusalCause) (v w : View) → IsLive sets v
     → IsLeafOn k sets.headers x v → at ≡ page_at v.layout.slots x.slot 0
     → (not (has_read_room sets) && not (has_word at sets.headers)) ≡ true → HasGivenUp [] (refusals.Wide Reads) v w
     → w.steps ≤ v.steps + end_most → why ≡ refusals.Wide Reads → TakesHead k x last (Err why) sets sets v w
-head_full sets k x last at why v w live l place full g more same =
-    let both = and_parts (not (has_read_room sets)) (not (has_word at sets.headers)) full in record {
-      taken = tt;
-      gone = tt;
-      quick = tt;
-      stops = subst (λ (r : RefusalCause). Stops k.storage k.key k.key sets sets r v w) (sym same)
-          (stop_full sets sets.holds k v v w (not_walked sets v live) at x.header (ap (seen_at v.reads) place ∙ l.met)
-          (inr record {
-            slot = x.slot;
-            word = place;
-            kind = l.leaf.kind;
-            unsplit = l.leaf.small;
-            absent = no_word at sets.headers (no_test (has_word at sets.headers) both.1);
-          }) both.0 g);
-      slow = omega (arith, more);
-    }
+head_full sets k x last at why v w live l place full g more same = record {
+  taken = tt;
+  gone = tt;
+  quick = tt;
+  stops = subst (λ (r : RefusalCause). Stops k.storage k.key k.key sets sets r v w) (sym same)
+      (stop_full sets sets.holds k v v w (not_walked sets v live) (head_needs sets k x at v l place full) g);
+  slow = omega (arith, more);
+}
 
 -- it was in conflict
 pub head_walked : (sets : Sets) (k : Key) (x : Leaf) (why : RefusalCause) (v w : View) → IsLive sets v

@@ -39,9 +39,9 @@ IsScanCause new k (refusals.Conflict at expected seen) v w =
     IsWordConflict new k at expected seen v w × (w.blamed ≡ v.blamed)
 IsScanCause new k (refusals.Full held) v w = ⊥
 IsScanCause new k (refusals.Wide set) v w =
-    ((set ≡ Reads) × (256 ≤ length new.reads + length new.headers) × NeedsEntry new w)
+    ((set ≡ Reads) × (256 ≤ length new.reads + length new.headers) × NeedsEntry k new v w)
     ⊎ (((set ≡ Holds) × (((length new.holds ≡ 128) × NeedsSlot k new.holds v w) ⊎ WasLong k v))
-    ⊎ ((set ≡ Pointers) × (length new.pointers ≡ 128) × NeedsPointer new w))
+    ⊎ ((set ≡ Pointers) × (length new.pointers ≡ 128) × NeedsPointer k new v w))
 IsScanCause new k (refusals.NumberLimit clock) v w = ⊥
 
 -- A scan was refused, before any draw and any lock, on the way to a key of the range or at its record: a pointer, a

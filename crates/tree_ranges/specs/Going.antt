@@ -96,7 +96,7 @@ pub record TakesRow
 -- The header of a leaf was kept and is in its set, by one step; or why not.
 pub record TakesHead
     (k : Key) (x : Leaf) (last : ℕ) (r : Result (Unit {0}) RefusalCause) (sets new : Sets) (v w : View) : Type 0 where
-  pub taken : OnOk r (IsLeafTaken k x last w)
+  pub taken : OnOk r (IsLeafTaken k x last new.headers w)
   pub gone : OnOk r (GoesIn k.storage k.key k.key sets new v w)
   pub quick : OnOk r (w.steps ≤ v.steps + 1)
   pub stops : IfErr r (λ why. Stops k.storage k.key k.key sets new why v w)

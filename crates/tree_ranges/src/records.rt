@@ -1,7 +1,9 @@
 // The records of a leaf whose header is kept.
 ghost use Rattle.std.specs.Prelude.{◌≡◌, ◌<◌, ◌≤◌, false, length, slice_get, None, Some};
+ghost use Rattle.engine_pages.specs.Layout.{page_at};
 ghost use Rattle.engine_pages.specs.Pages.{is_tree};
 ghost use Rattle.engine_pages.specs.Passes.{view, IsPassOf};
+ghost use Rattle.engine_pages.specs.Steps.{seen_at};
 ghost use Rattle.page_commit.specs.Live.{IsLive};
 ghost use Rattle.tree_ranges.specs.Going.{Comes, ReadsKey, TakesRow};
 ghost use Rattle.tree_ranges.specs.Leaves.{IsLeafTaken};
@@ -32,7 +34,7 @@ pub(crate) fn scan_records(
 ) -> Result<u64, RefusalCause>
     requires of { IsPassOf engine.now pass.old }
     requires live { IsLive sets.old (view pass.old) }
-    requires taken { IsLeafTaken key leaf top (view pass.old) }
+    requires taken { IsLeafTaken key leaf top sets.old.headers (view pass.old) }
     requires top { key.key ≤ top }
     requires free { AreFree key.storage key.key top sets.old.writes }
     requires few { length rows.old < 16 }
@@ -74,6 +76,8 @@ fn scan_record(
     requires live { IsLive sets.old (view pass.old) }
     requires leaf { (l : IsLeafAt (key_in key.storage place.key) leaf (view pass.old))
         × (slice_get l.keys place.index ≡ Some (key_in key.storage place.key)) }
+    requires met { seen_at (view pass.old).reads (page_at (view pass.old).layout.slots leaf.slot 0)
+        ≡ Some leaf.header }
     requires free { value_of (key_in key.storage place.key) sets.old.writes ≡ None }
     requires few { length rows.old < 16 }
     ensures of { IsPassOf engine.now pass.new }
@@ -105,6 +109,8 @@ fn value_in(
     requires of { IsPassOf engine.now pass.old }
     requires live { IsLive sets.old (view pass.old) }
     requires leaf { (l : IsLeafAt key leaf (view pass.old)) × (slice_get l.keys index ≡ Some key) }
+    requires met { seen_at (view pass.old).reads (page_at (view pass.old).layout.slots leaf.slot 0)
+        ≡ Some leaf.header }
     ensures of { IsPassOf engine.now pass.new }
     ensures reads { ReadsKey 3 key result sets.old sets.new (view pass.old) (view pass.new) }
 {
@@ -126,6 +132,8 @@ fn read_in(
     requires of { IsPassOf engine.now pass.old }
     requires live { IsLive sets.old (view pass.old) }
     requires leaf { (l : IsLeafAt key leaf (view pass.old)) × (slice_get l.keys index ≡ Some key) }
+    requires met { seen_at (view pass.old).reads (page_at (view pass.old).layout.slots leaf.slot 0)
+        ≡ Some leaf.header }
     requires unread { has_read key sets.old.reads ≡ false }
     ensures of { IsPassOf engine.now pass.new }
     ensures reads { ReadsKey 3 key result sets.old sets.new (view pass.old) (view pass.new) }

@@ -1,6 +1,6 @@
 -- The declared storages: a tree by its id.
 use Rattle.std.proofs.Common.{◌≡◌, ℕ, suc, ◌+◌, ◌-◌, ◌^◌, ◌<◌, Bool, true, false, true≢false, cond, eqb, eqb-true, List, [], ◌∷◌, length}
-use Rattle.std.proofs.Common.{refl, sym, ap, ◌∙◌, subst, arith, Option, Some, inl}
+use Rattle.std.proofs.Common.{refl, sym, ap, ◌∙◌, subst, arith, Option, Some, None, inl}
 use Rattle.std.specs.Option.{option_map_or}
 use Rattle.std.specs.Prelude.{Contains}
 use Rattle.lists.specs.Elements.{at_below}
@@ -16,8 +16,9 @@ use Rattle.drop_core.specs.Table.{no_span}
 use Rattle.snapshot_store.specs.Content.{root_place}
 use Rattle.engine_rule.specs.Reading.{span_of}
 use Rattle.engine_pages.specs.declared.view.View.{View}
+use Rattle.engine_pages.specs.Indexes.{index_of}
 use Rattle.engine_pages.specs.Pages.{decl_of, is_tree, is_tree_kind, root_span}
-use Rattle.array_pages.proofs.DeclLaws.{decl_in}
+use Rattle.array_pages.proofs.DeclLaws.{at_index, decl_in, found_id}
 use Rattle.tree_walks.specs.Steps.{HasTree, IsTreeRoot}
 use Rattle.tree_walks.specs.Walks.{IsNoHeader, IsTreesWord}
 
@@ -37,6 +38,18 @@ tree_there (d ∷ ds) id is = by_test (eqb (id_of d) id) refl (λ more. tree_the
     by_test false e rest =
         let more = rest (subst (λ (b : Bool). is_tree_kind (cond b (Some d) (decl_of ds id)) ≡ true) e is) in
         (suc more.0, record { there = more.1.there })
+
+-- the first storage with a tree's id is the tree
+pub tree_first : (decls : List Decl) (id : ℕ) → is_tree decls id ≡ true → IsTreeRoot decls id (index_of decls id)
+tree_first decls id is = by_found (decl_of decls id) refl is
+  where
+    by_found : (o : Option Decl) → decl_of decls id ≡ o → is_tree_kind o ≡ true
+        → IsTreeRoot decls id (index_of decls id)
+    by_found None found kind = absurd (true≢false (sym kind))
+    by_found (Some (Array i n)) found kind = absurd (true≢false (sym kind))
+    by_found (Some (Tree i)) found kind =
+        let same : i ≡ id = found_id decls id (Tree i) found in
+        record { there = sym (at_index decls id) ∙ (found ∙ ap (λ (j : ℕ). Some (Tree j)) same) }
 
 -- the keys of its root: all of them
 pub root_keys : (decls : List Decl) (id root : ℕ) → IsTreeRoot decls id root

@@ -107,6 +107,7 @@ module _ (b : ℕ) (k : Key) (pointers headers : List Seen) (slots : List ℕ) (
     spot = c.spot;
     stands = c.stands;
     place = c.place;
+    whole = c.whole;
     was = c.was;
     saw = saw_back at seen c.was v u w went.walked.since c.saw;
     kept = c.kept ∙ went.words at;

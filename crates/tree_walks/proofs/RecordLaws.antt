@@ -43,7 +43,7 @@ use Rattle.tree_walks.specs.declared.ways.Leaf.{Leaf}
 use Rattle.tree_walks.specs.Finding.{IsFoundIn, IsRecordChanged}
 use Rattle.tree_walks.specs.Finds.{KeepsSo}
 use Rattle.tree_walks.specs.Walks.{CanWalk, HasWalked, IsRecordsWord, IsTreesWord, KeepsMet, KeepsWords, OnlyTrees, OnlyTreesFor}
-use Rattle.tree_walks.specs.Ways.{IsLeafAt, IsLeafOn, IsMetSo, IsOnWay}
+use Rattle.tree_walks.specs.Ways.{IsLeafAt, IsLeafOn, IsMetSo, IsOnWay, IsUnsplit}
 use Rattle.tree_walks.proofs.LoadLaws.{IsLoad, read_load, trees_by}
 use Rattle.tree_walks.proofs.KeepLaws.{keeps_header, keeps_record}
 use Rattle.tree_walks.proofs.PathLaws.{paths_same}
@@ -203,9 +203,28 @@ module _ (k : Key) (pointers headers : List Seen) (slots : List ℕ) (leaf : Lea
       keeps_record k pointers headers slots leaf.span x at v w can
       (subst (λ (i : ℕ). IsOnWay k v i leaf.span) (sym here) l.on) place others
 
+  -- and the header of the leaf stands as it was seen
+  head_still : (w : View) → HasWalked v w → ((q : ℕ) → q ≢ at → q ≢ at + 1 → seen_at w.reads q ≡ seen_at v.reads q)
+      → seen_at v.reads (page_at v.layout.slots leaf.slot 0) ≡ Some leaf.header → IsUnsplit w leaf.slot
+  head_still w walk others met =
+      let few : x.index < 16 = place.index in
+      let word : at ≡ ((32 + v.layout.slots) + 64 * x.slot) + (1 + (16 + 3 * x.index)) = place.word in record {
+        word = leaf.header;
+        saw = ap (λ (y : Layout). seen_at w.reads (page_at y.slots leaf.slot 0)) (layout_stays v w walk)
+            ∙ (others (page_at v.layout.slots leaf.slot 0)
+            (λ same.
+            let head : ((32 + v.layout.slots) + 64 * leaf.slot) + 0 ≡ at = same in
+            absurd (omega (arith, word, few, head)))
+            (λ same.
+            let head : ((32 + v.layout.slots) + 64 * leaf.slot) + 0 ≡ at + 1 = same in
+            absurd (omega (arith, word, few, head)))
+            ∙ met);
+        unsplit = l.small;
+      }
+
   changed : (later : ℕ) (t w : View) → HasWalked v t → IsLoad at t later w → KeepsWords v t → seen_at t.reads at ≡ Some n
-      → ((later / 2 ^ 60) % 2 ≡ 1) ⊎ (later ≢ n) → IsRecordChanged k at n later v w
-  changed later t w walk m words before cause =
+      → ((later / 2 ^ 60) % 2 ≡ 1) ⊎ (later ≢ n) → IsUnsplit w leaf.slot → IsRecordChanged k at n later v w
+  changed later t w walk m words before cause whole =
       let all = walked_then v t w walk m.walked in record {
         slot = leaf.slot;
         span = leaf.span;
@@ -213,6 +232,7 @@ module _ (k : Key) (pointers headers : List Seen) (slots : List ℕ) (leaf : Lea
         spot = x;
         stands = here;
         place = record_stays v w k x at all place;
+        whole = whole;
         was = seen_at t.reads at;
         saw = record {
           step = m.saw.step;
@@ -229,8 +249,9 @@ module _ (k : Key) (pointers headers : List Seen) (slots : List ℕ) (leaf : Lea
 
   -- it was locked, and loaded once more
   pub reads_locked : (later : ℕ) (w : View) → (n / 2 ^ 60) % 2 ≡ 1 → LoadedWord x.slot at u later w
+      → seen_at v.reads (page_at v.layout.slots leaf.slot 0) ≡ Some leaf.header
       → KeepsSo 3 k pointers headers slots (Err (causes.Conflict at n later)) v w
-  reads_locked later w locked h =
+  reads_locked later w locked h head =
       let a = read_load at n v u can.agree can.trees (saw_locked k x at n v u locked sees) in
       let b = read_load at later u w a.agree a.trees h.is in
       let all = walked_then v u w a.walked b.walked in record {
@@ -243,7 +264,8 @@ module _ (k : Key) (pointers headers : List Seen) (slots : List ℕ) (leaf : Lea
         paths = paths_same k v w (ap (λ (z : View). z.ways) h.is ∙ ap (λ (z : View). z.ways) (saw_locked k x at n v u locked sees));
         grip = b.grip ∙ a.grip;
         found = tt;
-        cause = inr (changed later u w a.walked b a.words a.met (locked_still n later locked));
+        cause = inr (changed later u w a.walked b a.words a.met (locked_still n later locked)
+            (head_still w all (λ q one two. b.others q one ∙ a.others q one) head));
       }
     where
       locked_still : (n later : ℕ) → (n / 2 ^ 60) % 2 ≡ 1 → ((later / 2 ^ 60) % 2 ≡ 1) ⊎ (later ≢ n)
@@ -402,8 +424,9 @@ module _ (k : Key) (pointers headers : List Seen) (slots : List ℕ) (leaf : Lea
           ∙ (ap (λ (z : View). seen_at z.reads q) loads
           ∙ (seen_other u.reads (at + 1) value (kept_at u.reads (at + 1)) q two ∙ others_first q one))
 
-      pub reads_changed : again ≢ n → KeepsSo 3 k pointers headers slots (Err (causes.Conflict at n again)) v w
-      reads_changed other = record {
+      pub reads_changed : again ≢ n → seen_at v.reads (page_at v.layout.slots leaf.slot 0) ≡ Some leaf.header
+          → KeepsSo 3 k pointers headers slots (Err (causes.Conflict at n again)) v w
+      reads_changed other head = record {
         can = can_after slots v w all grip b.agree b.trees can;
         walked = all;
         most = most;
@@ -413,7 +436,7 @@ module _ (k : Key) (pointers headers : List Seen) (slots : List ℕ) (leaf : Lea
         paths = paths_same k v w ways_all;
         grip = grip;
         found = tt;
-        cause = inr (changed again t w before b words_before met_before (inr other));
+        cause = inr (changed again t w before b words_before met_before (inr other) (head_still w all others_all head));
       }
 
       kept_here_is : Contains t.seat.kept (record_part k x s.content)

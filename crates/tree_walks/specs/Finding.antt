@@ -33,7 +33,7 @@ use Rattle.tree_walks.specs.declared.finding.Found.{Found}
 use Rattle.tree_walks.specs.declared.finding.Found.TheVariants as places
 use Rattle.tree_walks.specs.declared.ways.Bare.{Bare}
 use Rattle.tree_walks.specs.Walks.{AreLedTo, KeepsWords, OnlyTrees, OnlyTreesBut}
-use Rattle.tree_walks.specs.Ways.{IsBareOn, IsMetSo, IsOnWay, IsWide, RefusesWalk}
+use Rattle.tree_walks.specs.Ways.{IsBareOn, IsMetSo, IsOnWay, IsUnsplit, IsWide, RefusesWalk}
 
 -- ---- in a leaf
 
@@ -128,8 +128,8 @@ IsVolatile (places.Zero p) = ⊥
 
 -- ---- refusals
 
--- The word is that of the key's record, in a leaf on the way to the key. It is locked, or not the one that was seen
--- right before.
+-- The word is that of the key's record, in a leaf on the way to the key, whose header was last seen as that of one that
+-- wasn't split. It is locked, or not the one that was seen right before.
 pub record IsRecordChanged (k : Key) (at expected seen : ℕ) (v w : View) : Type 0 where
   pub slot : ℕ
   pub span : Span
@@ -137,6 +137,7 @@ pub record IsRecordChanged (k : Key) (at expected seen : ℕ) (v w : View) : Typ
   pub spot : Spot
   pub stands : spot.slot ≡ slot
   pub place : IsTreeRecordAt w k spot at
+  pub whole : IsUnsplit w slot
   pub was : Option ℕ
   pub saw : SawLast at seen was v w
   pub kept : saw.kept ≡ kept_at v.reads at

@@ -71,6 +71,12 @@ pub record IsLeafAt (k : Key) (x : Leaf) (w : View) : Type 0 where
   pub kind : kind_of x.header ≡ 1
   pub small : x.header < 2 ^ 61
 
+-- The header of the page in this slot was last seen as that of a leaf that wasn't split.
+pub record IsUnsplit (v : View) (t : ℕ) : Type 0 where
+  pub word : ℕ
+  pub saw : seen_at v.reads (page_at v.layout.slots t 0) ≡ Some word
+  pub unsplit : word < 2 ^ 61
+
 -- So the header was last seen; where the transaction has kept it, it has it with this word.
 pub record IsLeafOn (k : Key) (headers : List Seen) (x : Leaf) (w : View) : Type 0 where
   pub leaf : IsLeafAt k x w

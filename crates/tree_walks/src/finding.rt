@@ -1,8 +1,10 @@
 // The record of a key.
 ghost use Rattle.std.specs.Prelude.{◌≡◌, ◌<◌, true, false, IfOk, IfErr, OnOk, slice_get, Some, None, length};
 ghost use Rattle.homes.specs.Homes.{has_key};
+ghost use Rattle.engine_pages.specs.Layout.{page_at};
 ghost use Rattle.engine_pages.specs.Pages.{is_tree};
 ghost use Rattle.engine_pages.specs.Passes.{view, IsPassOf};
+ghost use Rattle.engine_pages.specs.Steps.{seen_at};
 ghost use Rattle.tree_walks.specs.Finding.{IsVolatile};
 ghost use Rattle.tree_walks.specs.Finds.{FindsSo, IsPointersFull, KeepsSo};
 ghost use Rattle.tree_walks.specs.Walks.{CanWalk};
@@ -103,8 +105,9 @@ fn find_in_leaf(
     }
 }
 
-/// The record with this index in a leaf, which is the key's: it is kept as a part. Where it is locked it is loaded once
-/// more: so what is expected there is what the step before saw. At most three steps.
+/// The record with this index in a leaf, which is the key's: it is kept as a part. The leaf's header was last seen as
+/// that of one that wasn't split, as the records of a split one are locked for good. Where the record is locked it is
+/// loaded once more: so what is expected there is what the step before saw. At most three steps.
 pub fn read_record(
     engine: &Engine,
     pass: &mut Pass,
@@ -118,6 +121,8 @@ pub fn read_record(
     requires of { IsPassOf engine.now pass.old }
     requires can { CanWalk holds.now (view pass.old) }
     requires leaf { (l : IsLeafAt key leaf (view pass.old)) × (slice_get l.keys index ≡ Some key) }
+    requires met { seen_at (view pass.old).reads (page_at (view pass.old).layout.slots leaf.slot 0)
+        ≡ Some leaf.header }
     ensures of { IsPassOf engine.now pass.new }
     ensures keeps { KeepsSo 3 key pointers.now headers.now holds.now result (view pass.old) (view pass.new) }
     ensures there { IfOk result IsVolatile }

@@ -1,28 +1,21 @@
 // The storages of an engine, and words that were met.
-ghost use Rattle.std.specs.Prelude.{IfErr, OnOk};
+ghost use Rattle.std.specs.Prelude.{◌≡◌, true, IfErr, OnOk};
 ghost use Rattle.array_pages.specs.Steps.{IsMetElse};
-ghost use Rattle.tree_walks.specs.Steps.{HasTree, IsTreeRoot};
+ghost use Rattle.engine_pages.specs.Pages.{is_tree};
+ghost use Rattle.tree_walks.specs.Steps.{IsTreeRoot};
 ghost use Rattle.tree_walks.specs.Ways.{IsMetSo};
 
 use array_pages::conflict;
 use engine_pages::{Engine, RefusalCause};
-use serial_model::Decl;
 use tx_sets::{HeaderSet, PointerSet};
 
 /// The index of a tree among the storages.
+#[inline(always)]
 pub(crate) fn root_of(engine: &Engine, storage: u8) -> usize
-    requires { HasTree engine.now.table.shared.key.decls storage }
+    requires { is_tree engine.now.table.shared.key.decls storage ≡ true }
     ensures { IsTreeRoot engine.now.table.shared.key.decls storage result }
 {
-    let decls = engine.decls();
-    for i in 0..decls.len() {
-        if let Decl::Tree { id } = decls[i] {
-            if id == storage {
-                return i;
-            }
-        }
-    }
-    0
+    engine.index_of(storage)
 }
 
 /// Refuses a pointer that the set has with another word.

@@ -14,15 +14,10 @@ ghost use Rattle.tx_sets.specs.declared.seen.Seen.{Seen};
 
 use crate::places::check_met;
 use array_pages::{conflict, note_hold};
+use dual_pointer::{SHUT, SLOT};
 use engine_pages::{Engine, Pass, RefusalCause, SetName, enter, follow};
 use homes::{At, Span};
 use tx_sets::{Holds, PointerSet};
-
-/// The shut bit of a pointer's word.
-const SHUT: u64 = 1 << 60;
-
-/// A pointer's word has a slot above these bits, and the number of a snapshot page in them.
-const SLOT: u64 = 1 << 32;
 
 /// Where a pointer leads.
 #[derive(Clone, Copy)]

@@ -46,6 +46,7 @@ use Rattle.tree_walks.specs.Walks.{CanWalk}
 use Rattle.tree_walks.specs.Ways.{IsLeafOn, IsOnWay}
 use Rattle.page_commit.specs.HeaderParts.{IsMetHeader}
 use Rattle.page_commit.specs.Live.{IsLive, IsMetPointer, IsReadPart, IsWordOf}
+use Rattle.page_commit.specs.Needs.{IsUnsplitAt}
 use Rattle.page_commit.specs.Places.{ground, slot_of, spot_for, tree_spot, IsAnyKeyAt, IsTreeKeyIn}
 use Rattle.page_commit.specs.Turning.{as_walked, GoesOn, OnlyWalked, PartsStay}
 use Rattle.page_commit.proofs.AddedLaws.{head_of, live_bare, live_kept, HasGrownBare, HasGrownKept}
@@ -56,10 +57,11 @@ use Rattle.page_commit.proofs.KeepLaws.{entry_apart}
 use Rattle.page_commit.proofs.PointerLaws.{has_pointer, pointer_word}
 use Rattle.page_commit.proofs.RenewLaws.{renewed_cases}
 use Rattle.page_commit.proofs.RoomLaws.{room_entry}
+use Rattle.page_commit.proofs.UnsplitLaws.{unsplit_at}
 use Rattle.page_commit.proofs.WalkedLaws.{can_walk, held_same}
 use Rattle.tree_calls.proofs.DoneLaws.{no_array}
 use Rattle.tree_writes.specs.Writing.{HasBrought}
-use Rattle.tree_writes.proofs.MadeLaws.{place_on}
+use Rattle.tree_writes.proofs.MadeLaws.{place_on, record_slot}
 
 -- ---- words
 
@@ -244,6 +246,17 @@ module _ (sets : Sets) (v w : View) (k : Key) (x : Leaf) (at : ℕ) (live : IsLi
     is = subst (λ (z : View). z ≡ as_walked v z) (sym p.is) refl;
   }
 
+  -- the header's word was left as that of a leaf that wasn't split
+  added_whole : seen_at w.reads head_at ≡ Some (x.header + 1) → IsUnsplitAt w at
+  added_whole seen =
+      let few = few_before in
+      let count : x.header ≡ 256 + length p.keys = p.count ∙ sym (open_is (length p.keys)) in
+      unsplit_at x.slot at w (record_slot (spot x.slot (length p.keys)) at k w p.record_at) record {
+        word = x.header + 1;
+        saw = ap (λ (y : Layout). seen_at w.reads (page_at y.slots x.slot 0)) layout_same ∙ seen;
+        unsplit = omega (arith, count, few);
+      }
+
   -- the slots that are held stay so
   pub added_can : (slots : List ℕ) → slots ≡ sets.holds → CanWalk slots w
   added_can slots same =
@@ -427,6 +440,9 @@ module _ (sets : Sets) (v w : View) (k : Key) (x : Leaf) (at : ℕ) (live : IsLi
       writes = refl;
       locks = inl touched_same;
       place = added_place;
+      whole = inr (inl (added_whole (ap (λ (l : List Read). seen_at l head_at) bare_reads
+          ∙ seen_head v.reads head_at (x.header + lock_bit) (x.header + 1) at
+          (kept_at (with_read v.reads head_at (x.header + lock_bit)) head_at) head_apart)));
     }
 
   -- ---- the header is kept
@@ -548,4 +564,5 @@ module _ (sets : Sets) (v w : View) (k : Key) (x : Leaf) (at : ℕ) (live : IsLi
       writes = writes;
       locks = inl touched_same;
       place = added_place;
+      whole = inr (inl (added_whole kept_grown.now));
     }

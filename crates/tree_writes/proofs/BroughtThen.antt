@@ -1,7 +1,8 @@
 -- The place of a key's record behind pages that were brought into memory, and what is told where it wasn't found.
 use Rattle.std.proofs.Common.{◌≡◌, inl, inr, ℕ, ◌+◌, ◌<◌, ◌≤◌, Bool, true, false, List, ◌∷◌, ◌++◌, [], length}
-use Rattle.std.proofs.Common.{refl, sym, ap, ◌∙◌, subst, arith, Option, Some, true≢false}
-use Rattle.std.specs.Prelude.{Contains, Result, Ok, Err, OnOk, IfOk, IfErr}
+use Rattle.std.proofs.Common.{refl, sym, ap, ◌∙◌, subst, arith, Option, Some, true≢false, eq-eqb}
+use Rattle.std.specs.Prelude.{Contains, Result, Ok, Err, OnOk, IfOk, IfErr, ◌==◌}
+use Rattle.lists.specs.Elements.{any_in}
 use Rattle.serial_model.specs.declared.key.Key.{Key}
 use Rattle.homes.specs.Homes.{in_span}
 use Rattle.commit_core.specs.declared.part.Part.{Part}
@@ -19,7 +20,6 @@ use Rattle.engine_pages.specs.declared.view.Role.{Role}
 use Rattle.engine_pages.specs.declared.view.Touch.{Touch}
 use Rattle.engine_pages.specs.declared.view.View.{View}
 use Rattle.engine_pages.specs.declared.view.Way.{Way}
-use Rattle.engine_pages.specs.Layout.{page_at}
 use Rattle.engine_pages.specs.Pages.{decl_of, is_tree}
 use Rattle.engine_pages.specs.Pointers.{one_kind}
 use Rattle.engine_pages.specs.Views.{seat_number}
@@ -29,22 +29,25 @@ use Rattle.tree_making.specs.declared.making.Made.TheVariants as mades
 use Rattle.tree_making.specs.Making.{make_steps, IsMade}
 use Rattle.page_commit.specs.Calls.{IsFullOf, IsSlotConflict}
 use Rattle.page_commit.specs.Live.{IsLive}
-use Rattle.page_commit.specs.Places.{ground, slot_of, IsAnyKeyIn, IsTreeKeyIn}
+use Rattle.page_commit.specs.Needs.{AddsRecord}
+use Rattle.page_commit.specs.Places.{ground, IsAnyKeyIn, IsTreeKeyIn}
 use Rattle.page_commit.specs.Refusing.{HasRefused, IsHeaderConflict, IsPointerConflict}
 use Rattle.page_commit.specs.Turning.{GoesOn, HoldsWaysTo, IsTwinOn, OnlyWalked, PartsStay}
 use Rattle.page_commit.proofs.FoundLaws.{nothing_walked, read_entry}
+use Rattle.page_commit.proofs.KnownOver.{pointers_before, ways_before}
 use Rattle.page_commit.proofs.PlaceLaws.{key_array}
 use Rattle.page_commit.proofs.PointerLaws.{has_pointer}
 use Rattle.page_commit.proofs.RefuseLaws.{refused_since}
 use Rattle.page_commit.proofs.TurnLaws.{walks_layout, walks_then}
+use Rattle.page_commit.proofs.UnsplitLaws.{unsplit_at}
 use Rattle.page_commit.proofs.WalkedLaws.{held_same}
 use Rattle.tree_calls.specs.Keeping.{OnlyWaysOn}
 use Rattle.tree_calls.proofs.SinceLaws.{head_since, hold_since, long_since, pointer_since}
 use Rattle.tree_writes.specs.Causes.{write_most, IsGrowConflict, KeepsHeader, LocksLeaf, NeedsMore, RefusesTreeWrite}
 use Rattle.tree_writes.specs.Causes.{TouchesTrees}
 use Rattle.tree_writes.specs.Writing.{grow_most, GrowsSo, HasBrought, HasMade, HasMadeAt}
-use Rattle.tree_writes.proofs.MadeLaws.{place_on}
-use Rattle.tree_writes.proofs.NamedLaws.{names_same, unnamed_since}
+use Rattle.tree_writes.proofs.MadeLaws.{place_on, record_slot}
+use Rattle.tree_writes.proofs.NamedLaws.{names_same, record_same, unnamed_since, whole_since}
 
 -- no part says more than one did, where they are the same
 goes_same : (old new : List Part) → new ≡ old → GoesOn old new
@@ -73,6 +76,7 @@ made_record sets new v w k at h =
       writes = m.writes;
       locks = inl m.touched;
       place = place_on k (h.at).0 (h.at).1 at w m.live.trees (h.at).2 (h.at).3;
+      whole = inr (inl (unsplit_at ((h.at).0).slot at w (record_slot (h.at).0 at k w (h.at).3) (h.at).4));
     }
 
 -- ---- the transaction has read the record
@@ -93,6 +97,7 @@ read_record sets v k e live tree is = record {
   writes = refl;
   locks = inl refl;
   place = by_kind (subst (λ (q : Key). IsAnyKeyIn (ground v) q e.at) there.1 (live.parts.reads e there.0).2.place);
+  whole = inl (any_in (λ (r : ReadEntry). r.at == e.at) sets.reads e there.0 (eq-eqb e.at e.at refl));
 }
   where
     there : Contains sets.reads e × (e.key ≡ k)
@@ -140,6 +145,8 @@ brought_then sets mid new u v w k at m b = record {
   locks = unnamed_since sets mid k u v w m.touched (ap (λ (y : View). y.role) m.only.is)
       (λ first none. sym (names_same first sets mid m.reads m.headers m.writes) ∙ none) b.locks;
   place = b.place;
+  whole = whole_since sets mid new k at u v w m.touched (ap (λ (y : View). y.role) m.only.is)
+      (λ first none. sym (names_same first sets mid m.reads m.headers m.writes) ∙ none) b.whole;
 }
   where
     paths_both : OnlyWaysOn k u w
@@ -202,12 +209,14 @@ module _ (sets mid new : Sets) (k : Key) (u v w : View) (m : HasMade k sets mid 
         subst (λ (l : List Seen). IsPointerConflict l at expected seen u w) m.pointers
             (pointer_since mid.pointers at expected seen u v w m.only.since p.0),
         p.1,
+        pointers_before k at u v m.only p.2,
       )
       | inr more ↦ inr (elim more [
         | inl h ↦ inl (
           subst (λ (l : List Seen). IsHeaderConflict l at expected seen u w) m.headers
               (head_since mid.headers at expected seen u v w m.only.since h.0),
           h.1,
+          ways_before k at u v m.only h.2,
         )
         | inr l ↦ inr record {
           step = l.step;
@@ -222,6 +231,11 @@ module _ (sets mid new : Sets) (k : Key) (u v w : View) (m : HasMade k sets mid 
           same = l.same;
           full = l.full;
           lacks = l.lacks;
+          whole = elim l.whole [
+            | inl unsplit ↦ inl unsplit
+            | inr named ↦ inr (sym (record_same at sets mid m.reads m.writes) ∙ named)
+          ];
+          known = ways_before k at u v m.only l.known;
           cause = l.cause;
           locks = l.locks;
           count = l.count;
@@ -229,8 +243,7 @@ module _ (sets mid new : Sets) (k : Key) (u v w : View) (m : HasMade k sets mid 
           touched = taken_since l.locks l.count l.touched;
           own = elim l.own [
             | inl apart ↦ inl apart
-            | inr named ↦ inr (sym (names_same
-                (page_at c.0.layout.slots (slot_of c.0.layout.slots at) 0) sets mid m.reads m.headers m.writes) ∙ named)
+            | inr named ↦ inr (sym (record_same at sets mid m.reads m.writes) ∙ named)
           ];
         }
       ])
@@ -273,13 +286,12 @@ module _ (sets mid new : Sets) (k : Key) (u v w : View) (m : HasMade k sets mid 
     )
   ]
 
-  header_since : KeepsHeader mid k v → KeepsHeader sets k u
+  header_since : KeepsHeader k mid v w → KeepsHeader k sets u w
   header_since h = record {
     then = h.then;
     walked = walks_then u v h.then m.only h.walked;
-    header = h.header;
-    among = subst (λ (l : List Seen). Contains l h.header) m.headers h.among;
-    over = h.over;
+    met = h.met;
+    adds = subst (λ (l : List Seen). AddsRecord k l h.then) m.headers h.adds;
   }
 
   more_since : NeedsMore k new.holds v w → NeedsMore k new.holds u w

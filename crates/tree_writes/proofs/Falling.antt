@@ -1,16 +1,14 @@
 -- A transaction that is to be refused within a write at a key of a tree: what its end asks, and what it comes to.
 use Rattle.std.proofs.Common.{◌≡◌, ◌≢◌, ◌⊎◌, inl, inr, ℕ, ◌+◌, ◌-◌, ◌*◌, ◌/◌, ◌%◌, ◌^◌, ◌<◌, ◌≤◌, Bool, true, false, true≢false}
 use Rattle.std.proofs.Common.{List, [], length, refl, sym, ap, ◌∙◌, subst, arith, Some, eqb, eqb-true, eq-eqb, Option}
-use Rattle.std.specs.Prelude.{Contains, Err, nat_lt, ◌==◌}
+use Rattle.std.specs.Prelude.{Contains, Err, nat_lt}
 use Rattle.std.proofs.lemmas.Bool.Decides.{nat_tests}
-use Rattle.lists.specs.Elements.{any_is}
 use Rattle.lists.specs.Fronts.{front_refl, IsFront}
 use Rattle.serial_model.specs.declared.key.Key.{Key}
 use Rattle.homes.specs.Homes.{has_key}
 use Rattle.wire_form.specs.Leaves.{tree_leaf, word_in}
 use Rattle.drop_core.specs.Table.{has_slot}
 use Rattle.drop_core.specs.declared.grip.Grip.{Grip}
-use Rattle.tx_sets.specs.declared.seen.Seen.{Seen}
 use Rattle.tx_sets.specs.declared.sets.Sets.{Sets}
 use Rattle.tx_sets.specs.Entries.{has_word, has_write}
 use Rattle.tx_sets.specs.Gathered.{has_read_room}
@@ -39,21 +37,19 @@ use Rattle.tree_walks.specs.Ways.{IsLeafOn}
 use Rattle.tree_walks.proofs.LoadLaws.{head_load, read_load, trees_by, IsLoad}
 use Rattle.tree_making.specs.Making.{CanMake, RefusesMake}
 use Rattle.page_commit.specs.Live.{HasHolds, IsLive}
-use Rattle.page_commit.specs.Needs.{IsFullLeaf, IsRefusedOn, NeedsOne}
+use Rattle.page_commit.specs.Needs.{names_record, AddsRecord, IsFullLeaf, IsRefusedOn, NeedsOne}
 use Rattle.page_commit.specs.Steps.{CanRefuse, HasGivenUp}
-use Rattle.page_commit.specs.Turning.{as_walked, IsHeaderOver, OnlyWalked}
+use Rattle.page_commit.specs.Turning.{as_walked, OnlyWalked}
 use Rattle.page_commit.proofs.FoundLaws.{nothing_walked}
 use Rattle.page_commit.proofs.GrowLaws.{KnowsMore}
 use Rattle.page_commit.proofs.RefuseLaws.{can_refuse}
 use Rattle.page_commit.proofs.TurnLaws.{walks_then}
 use Rattle.page_commit.proofs.WalkedLaws.{holds_walked}
-use Rattle.tree_calls.proofs.OnLaws.{header_over}
 use Rattle.tree_calls.proofs.TreeWalkLaws.{tree_knows_more, tree_walked}
-use Rattle.tree_writes.specs.Causes.{names_page, LocksLeaf}
+use Rattle.tree_writes.specs.Causes.{LocksLeaf}
 use Rattle.tree_writes.specs.Writing.{grow_most, GrowsSo, HasSplitFor}
 use Rattle.tree_writes.proofs.LeafStops.{head_stops, record_stops}
 use Rattle.tree_writes.proofs.MakeCauses.{full_stops, make_stops, slot_stops}
-use Rattle.tree_writes.proofs.NamedLaws.{names_same}
 use Rattle.tree_writes.proofs.SplitHere.{split_holds, split_more, split_walked}
 use Rattle.tree_writes.proofs.Stopping.{refused_end, write_end, writes_full, Stopped}
 use Rattle.tree_writes.proofs.TakenLaws.{key_apart, locks_leaf, taken_first}
@@ -156,6 +152,21 @@ locked_falls sets k x v w at n live on is locked h =
 no_room : (n : ℕ) → nat_lt n 256 ≡ false → 256 ≤ n
 no_room n full = grind (arith, nat_tests)
 
+-- the key's record would be one more that is kept
+room_adds : (sets : Sets) (k : Key) (x : Leaf) (v : View) (at : ℕ) → (on : IsLeafOn k sets.headers x v)
+    → has_key on.leaf.keys k ≡ false → at ≡ page_at v.layout.slots x.slot 0 → has_word at sets.headers ≡ true
+    → AddsRecord k sets.headers v
+room_adds sets k x v at on lacks is has = record {
+  slot = x.slot;
+  span = x.span;
+  on = on.leaf.on;
+  leaf = record { slot = x.slot; keys = on.leaf.keys };
+  knows = on.leaf.knows;
+  same = refl;
+  lacks = lacks;
+  kept = subst (λ (n : ℕ). has_word n sets.headers ≡ true) is has;
+}
+
 pub room_falls : (sets : Sets) (k : Key) (x : Leaf) (v : View) (at : ℕ) → IsLive sets v
     → (on : IsLeafOn k sets.headers x v) → has_key on.leaf.keys k ≡ false → at ≡ page_at v.layout.slots x.slot 0
     → has_word at sets.headers ≡ true → has_read_room sets ≡ false → Falls sets sets.holds k (refusals.Wide Reads) v v
@@ -169,16 +180,7 @@ room_falls sets k x v at live on lacks is has full = record {
     due = tt;
     on = (
       no_room (length sets.reads + length sets.headers) full,
-      inr (inr record {
-        slot = x.slot;
-        span = x.span;
-        on = on.leaf.on;
-        leaf = record { slot = x.slot; keys = on.leaf.keys };
-        knows = on.leaf.knows;
-        same = refl;
-        lacks = lacks;
-        kept = subst (λ (n : ℕ). has_word n sets.headers ≡ true) is has;
-      }),
+      inr (inr (room_adds sets k x v at on lacks is has)),
     );
     told = λ met t. t;
     stops = (
@@ -188,10 +190,8 @@ room_falls sets k x v at live on lacks is has full = record {
         record {
           then = v;
           walked = nothing_walked v;
-          header = h.0;
-          among = h.1;
-          over = subst (λ (n : ℕ). IsHeaderOver v k n) (sym (eqb-true (h.0).at at h.2))
-              (header_over k x.slot at x.span v on.leaf.on is);
+          met = λ r there. there;
+          adds = room_adds sets k x v at on lacks is has;
         },
       )),
       refl,
@@ -199,9 +199,6 @@ room_falls sets k x v at live on lacks is has full = record {
   };
   locks = inl refl;
 }
-  where
-    h : (s : Seen) × Contains sets.headers s × ((s.at == at) ≡ true)
-    h = any_is (λ (s : Seen). s.at == at) sets.headers has
 
 -- ---- the key wasn't added
 
@@ -251,12 +248,13 @@ module _ (why : RefusalCause) (sets : Sets) (k : Key) (x : Leaf) (v w : View) (l
   tried_trees = h.trees live.trees
 
   record_falls : (at expected seen i : ℕ) → i < 16 → IsLeafWordChanged x.slot (word_in tree_leaf i) at expected seen v w
-      → HasTakenFirst x.slot i v w → Stopped sets sets.holds k (refusals.Conflict at expected seen) v w
-  record_falls at expected seen i few c taken =
+      → HasTakenFirst x.slot i v w → seen_at w.reads (page_at v.layout.slots x.slot 0) ≡ Some x.header
+      → Stopped sets sets.holds k (refusals.Conflict at expected seen) v w
+  record_falls at expected seen i few c taken still =
       record_stops sets sets.holds k x v v w live on tried_walked tried_more tried_trees (omega arith) h.worked.words i at
       expected seen few full lacks c i (omega (arith, few))
       (taken_first k sets.headers x i v w on full live.trees (omega (arith, few)) taken)
-      (inl (key_apart on.leaf.keys i on.leaf.once (omega (arith, few, full))))
+      (inl (key_apart on.leaf.keys i on.leaf.once (omega (arith, few, full)))) (inl still)
 
   header_falls : (at expected seen : ℕ) → expected ≡ x.header → IsLeafWordChanged x.slot 0 at expected seen v w
       → Stopped sets sets.holds k (refusals.Conflict at expected seen) v w
@@ -292,10 +290,11 @@ module _ (why : RefusalCause) (sets : Sets) (k : Key) (x : Leaf) (v w : View) (l
     locks = locks;
   }
 
--- the leaf is full
+-- the leaf is full, and lacks the key
 full_leaf : (sets : Sets) (k : Key) (x : Leaf) (v : View) → (on : IsLeafOn k sets.headers x v)
-    → length on.leaf.keys ≡ 16 → IsFullLeaf k v
-full_leaf sets k x v on full = record { leaf = x; is = on.leaf; full = full; saw = on.met }
+    → length on.leaf.keys ≡ 16 → has_key on.leaf.keys k ≡ false → IsFullLeaf k v
+full_leaf sets k x v on full lacks =
+    record { leaf = x; is = on.leaf; full = full; lacks = lacks; saw = on.met }
 
 pub split_falls : (why : RefusalCause) (sets : Sets) (k : Key) (x : Leaf) (v w : View) → IsLive sets v
     → (on : IsLeafOn k sets.headers x v) → length on.leaf.keys ≡ 16 → has_key on.leaf.keys k ≡ false
@@ -307,10 +306,11 @@ split_falls (refusals.Conflict at expected seen) sets k x v w live on full lacks
           (header_falls why sets k x v w live on full lacks h at expected seen c.0 c.1) (inl c.2)
       | inr more ↦ elim more [
         | inl r ↦
-            let few : r.0 < 16 = r.1 in
+            let few : r.missed.0 < 16 = r.missed.1 in
             split_falls_by why sets k x v w live on full lacks h
-            (record_falls why sets k x v w live on full lacks h at expected seen r.0 few r.2 r.3)
-            (split_locks why sets k x v w live on full lacks h r.0 (omega (arith, few)) r.3)
+            (record_falls why sets k x v w live on full lacks h at expected seen r.missed.0 few r.missed.2 r.missed.3
+            r.header)
+            (split_locks why sets k x v w live on full lacks h r.missed.0 (omega (arith, few)) r.missed.3)
         | inr g ↦ split_falls_by why sets k x v w live on full lacks h
             (gave_falls why sets k x v w live on full lacks h at expected seen g.0)
             (split_locks why sets k x v w live on full lacks h 16 (omega arith) g.1)
@@ -326,7 +326,7 @@ split_falls (refusals.Wide set) sets k x v w live on full lacks h =
       due = tt;
       on = subst (λ (s : SetName). NeedsOne s k sets w) (sym h.cause.0) (inl (
         h.cause.1,
-        inr (inr (subst (λ (z : View). IsFullLeaf k z) (sym h.cause.2) (full_leaf sets k x v on full))),
+        inr (inr (subst (λ (z : View). IsFullLeaf k z) (sym h.cause.2) (full_leaf sets k x v on full lacks))),
       ));
       told = λ met t. t;
       stops = (
@@ -338,7 +338,7 @@ split_falls (refusals.Wide set) sets k x v w live on full lacks h =
               then = v;
               walked = nothing_walked v;
               met = λ r has. subst (λ (z : View). Contains z.reads r) (sym h.cause.2) has;
-              makes = inr (full_leaf sets k x v on full);
+              makes = inr (full_leaf sets k x v on full lacks);
             },
           ),
         )),
@@ -347,11 +347,11 @@ split_falls (refusals.Wide set) sets k x v w live on full lacks h =
     } (inl (ap (λ (z : View). z.touched) h.cause.2))
 split_falls (refusals.NumberLimit clock) sets k x v w live on full lacks h = absurd h.cause
 
--- ---- the leaf was split, and the sets name a word of it
+-- ---- the leaf was split, and the sets name a record of it
 
-module _ (why : RefusalCause) (sets new : Sets) (k : Key) (x : Leaf) (at : ℕ) (v w y : View)
-    (s : HasSplitFor k x at sets new v w) (h : HasNotLockedOne x.slot 0 why w y)
-    (named : names_page (page_at v.layout.slots x.slot 0) sets ≡ true) where
+module _ (why : RefusalCause) (sets new : Sets) (k : Key) (x : Leaf) (at i word : ℕ) (v w y : View)
+    (s : HasSplitFor k x at sets new v w) (few : i < 16) (h : HasNotLockedOne x.slot i why w y)
+    (stands : word ≡ page_at v.layout.slots x.slot (1 + (16 + 3 * i))) (named : names_record word sets ≡ true) where
   look_walked : OnlyWalked w y
   look_walked = record {
     drawn = subst (λ (z : View). IsFront w.history z.history) (sym h.is) (front_refl w.history);
@@ -413,12 +413,16 @@ module _ (why : RefusalCause) (sets new : Sets) (k : Key) (x : Leaf) (at : ℕ) 
     is = h.touched ∙ s.split.taken.is;
   }
 
-  look_stops : (a expected seen : ℕ) → IsLeafWordChanged x.slot (word_in tree_leaf 0) a expected seen w y
+  look_stops : (a expected seen : ℕ) → IsLeafWordChanged x.slot (word_in tree_leaf i) a expected seen w y
       → Stopped sets new.holds k (refusals.Conflict a expected seen) v y
   look_stops a expected seen c =
+      let is : a ≡ word =
+      c.place.word.word
+      ∙ (ap (λ (l : Layout). page_at l.slots x.slot (1 + (16 + 3 * i))) look_more.layout ∙ sym stands) in
+      let here : names_record a sets ≡ true = ap (λ (n : ℕ). names_record n sets) is ∙ named in
       record_stops sets new.holds k x v w y s.live s.on both_walked look_more look_trees s.split.worked.since
-      (λ n. h.worked.words n ∙ s.split.worked.words n) 0 a expected seen (omega arith) s.full s.lacks c 16 (omega arith)
-      (taken_first k sets.headers x 16 v y s.on s.full s.live.trees (omega arith) look_taken) (inr named)
+      (λ n. h.worked.words n ∙ s.split.worked.words n) i a expected seen few s.full s.lacks c 16 (omega arith)
+      (taken_first k sets.headers x 16 v y s.on s.full s.live.trees (omega arith) look_taken) (inr here) (inr here)
 
   look_falls_by : Stopped sets new.holds k why v y → Falls sets new.holds k why v y
   look_falls_by stopped = record {
@@ -431,19 +435,17 @@ module _ (why : RefusalCause) (sets new : Sets) (k : Key) (x : Leaf) (at : ℕ) 
     locks = locks_leaf k sets.headers x 16 v y s.on s.full s.live.trees (omega arith) look_taken;
   }
 
-pub look_falls : (why : RefusalCause) (sets new : Sets) (k : Key) (x : Leaf) (at head : ℕ) (v w y : View)
-    → HasSplitFor k x at sets new v w → head ≡ page_at v.layout.slots x.slot 0 → names_page head new ≡ true
-    → HasNotLockedOne x.slot 0 why w y → Falls sets new.holds k why v y
-look_falls (refusals.Conflict a expected seen) sets new k x at head v w y s is names h =
+pub look_falls : (why : RefusalCause) (sets new : Sets) (k : Key) (x : Leaf) (at i word : ℕ) (v w y : View)
+    → HasSplitFor k x at sets new v w → i < 16 → HasNotLockedOne x.slot i why w y
+    → word ≡ page_at v.layout.slots x.slot (1 + (16 + 3 * i)) → names_record word sets ≡ true
+    → Falls sets new.holds k why v y
+look_falls (refusals.Conflict a expected seen) sets new k x at i word v w y s few h stands named =
     let why : RefusalCause = refusals.Conflict a expected seen in
-    let named : names_page (page_at v.layout.slots x.slot 0) sets ≡ true =
-    ap (λ (n : ℕ). names_page n sets) (sym is)
-    ∙ (sym (names_same head sets new s.others.reads s.others.headers s.others.writes) ∙ names) in
-    look_falls_by why sets new k x at v w y s h named
-    (look_stops why sets new k x at v w y s h named a expected seen h.cause)
-look_falls (refusals.Full held) sets new k x at head v w y s is names h = absurd h.cause
-look_falls (refusals.Wide set) sets new k x at head v w y s is names h = absurd h.cause
-look_falls (refusals.NumberLimit clock) sets new k x at head v w y s is names h = absurd h.cause
+    look_falls_by why sets new k x at i word v w y s few h stands named
+    (look_stops why sets new k x at i word v w y s few h stands named a expected seen h.cause)
+look_falls (refusals.Full held) sets new k x at i word v w y s few h stands named = absurd h.cause
+look_falls (refusals.Wide set) sets new k x at i word v w y s few h stands named = absurd h.cause
+look_falls (refusals.NumberLimit clock) sets new k x at i word v w y s few h stands named = absurd h.cause
 
 -- ---- pages weren't brought into memory
 
@@ -484,22 +486,6 @@ pub locked_on : (why : RefusalCause) (sets : Sets) (k : Key) (x : Leaf) (v w : V
     → IsRefusedOn why k sets w
 locked_on why sets k x v w at n same f = subst (λ (r : RefusalCause). IsRefusedOn r k sets w) (sym same) f.stopped.on
 
--- behind a split it is a record of the leaf
-pub look_on : (why : RefusalCause) (sets new : Sets) (k : Key) (x : Leaf) (at head : ℕ) (v w y : View)
-    → HasSplitFor k x at sets new v w → head ≡ page_at v.layout.slots x.slot 0 → names_page head new ≡ true
-    → HasNotLockedOne x.slot 0 why w y → IsRefusedOn why k new y
-look_on (refusals.Conflict a expected seen) sets new k x at head v w y s is names h =
-    (look_falls (refusals.Conflict a expected seen) sets new k x at head v w y s is names h).stopped.on
-look_on (refusals.Full held) sets new k x at head v w y s is names h = absurd h.cause
-look_on (refusals.Wide set) sets new k x at head v w y s is names h = absurd h.cause
-look_on (refusals.NumberLimit clock) sets new k x at head v w y s is names h = absurd h.cause
-
 pub headed_steps : (sets : Sets) (k : Key) (x : Leaf) (v w : View) (at n : ℕ) → IsLive sets v → Headed x.slot x.span at v n w
     → w.steps ≤ v.steps + 1
 headed_steps sets k x v w at n live h = (head_load x.slot x.span at v n w live.agree h).most
-
-pub look_steps : (why : RefusalCause) (sets new : Sets) (k : Key) (x : Leaf) (at : ℕ) (v w y : View)
-    → HasSplitFor k x at sets new v w → HasNotLockedOne x.slot 0 why w y
-    → y.steps ≤ v.steps + ((2 * v.layout.slots + 256) + 3)
-look_steps why sets new k x at v w y s h =
-    let one = s.split.most in let two = h.most in omega (arith, one, two)

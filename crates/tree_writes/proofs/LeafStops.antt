@@ -1,5 +1,5 @@
 -- A header or a record of the leaf of a key was in the way as the key was to be added to it.
-use Rattle.std.proofs.Common.{◌≡◌, ◌⊎◌, inl, inr, ℕ, ◌+◌, ◌-◌, ◌*◌, ◌/◌, ◌<◌, ◌≤◌, true, false, List}
+use Rattle.std.proofs.Common.{◌≡◌, ◌≢◌, ◌⊎◌, inl, inr, ℕ, ◌+◌, ◌-◌, ◌*◌, ◌/◌, ◌%◌, ◌^◌, ◌<◌, ◌≤◌, true, false, List}
 use Rattle.std.proofs.Common.{length, get_or, take, refl, sym, ap, ◌∙◌, subst, arith, Option, Some, None}
 use Rattle.std.specs.Prelude.{Contains, slice_get, ◌==◌}
 use Rattle.std.proofs.lemmas.Bool.{eqb-true}
@@ -23,25 +23,28 @@ use Rattle.engine_pages.specs.Agreement.{TreesAgree}
 use Rattle.engine_pages.specs.Layout.{page_at}
 use Rattle.engine_pages.specs.Pages.{is_tree}
 use Rattle.engine_pages.specs.Records.{IsTreeRecordAt}
-use Rattle.engine_pages.specs.Steps.{kept_at}
+use Rattle.engine_pages.specs.Steps.{kept_at, seen_at}
 use Rattle.engine_pages.specs.Views.{seat_number}
 use Rattle.engine_pages.specs.Words.{spot}
-use Rattle.array_pages.specs.Walks.{KeepsWords}
+use Rattle.page_records.specs.Ends.{IsLeafWordAt}
+use Rattle.array_pages.specs.Walks.{KeepsWords, SawLast}
 use Rattle.foster_tree.specs.Causes.{IsLeafWordChanged}
 use Rattle.foster_tree.specs.Locking.{no_key, with_touches}
 use Rattle.foster_tree.proofs.LockLists.{has_in, there}
 use Rattle.tree_walks.specs.declared.ways.Leaf.{Leaf}
-use Rattle.tree_walks.specs.Ways.{IsLeafOn, IsOnWay}
+use Rattle.tree_walks.specs.Ways.{IsLeafOn, IsMetSo, IsOnWay}
 use Rattle.page_commit.specs.Live.{IsLive}
+use Rattle.page_commit.specs.Needs.{names_record, AreWaysOver, IsUnsplitAt}
 use Rattle.page_commit.specs.Places.{ground, slot_of, IsPointerIn, IsTreeKeyIn}
 use Rattle.page_commit.specs.Turning.{OnlyWalked}
 use Rattle.page_commit.proofs.GrowLaws.{KnowsMore}
 use Rattle.page_commit.proofs.HeaderLaws.{tree_unkept}
 use Rattle.page_commit.proofs.KeepLaws.{in_pointers}
+use Rattle.page_commit.proofs.KnownOver.{header_known, ways_known}
 use Rattle.page_commit.proofs.PointerLaws.{pointer_word}
+use Rattle.page_commit.proofs.UnsplitLaws.{unsplit_at}
 use Rattle.tree_calls.proofs.FoundHeader.{no_head_word}
 use Rattle.tree_calls.proofs.OnLaws.{header_over}
-use Rattle.tree_writes.specs.Causes.{names_page}
 use Rattle.tree_writes.proofs.MadeLaws.{place_on}
 use Rattle.tree_writes.proofs.Stopping.{Stopped}
 
@@ -96,16 +99,25 @@ module _ (sets : Sets) (slots : List ℕ) (k : Key) (x : Leaf) (v u w : View) (l
   not_left : (t : ℕ) → has_slot w.gone t ≡ false
   not_left t = ap (λ (l : List ℕ). has_slot l t) (ap (λ (z : View). z.gone) only.is ∙ live.gone)
 
+  -- what was known of the leaf is over the key
+  known_here : (at : ℕ) → x.slot ≡ slot_of w.layout.slots at → AreWaysOver k v at
+  known_here at slot =
+      ways_known k at v w (record { slot = x.slot; span = x.span }) more trees on_now.way slot
+      (subst (λ (i : ℕ). is_tree w.layout.decls i ≡ true) (sym (in_span-parts x.span k on_now.over).0) on_now.tree)
+      on_now.over
+
   -- ---- a record
 
-  -- locks of so many of the leaf's records were taken, and its own only where the sets name a word of the leaf's page
+  -- locks of so many of the leaf's records were taken, and its own only where the sets name it; the header was left as it
+  -- was seen, where they don't
   pub record_stops : (i at expected seen : ℕ) → i < 16 → length on.leaf.keys ≡ 16 → has_key on.leaf.keys k ≡ false
       → IsLeafWordChanged x.slot (word_in tree_leaf i) at expected seen u w → (count : ℕ) → count ≤ 16
       → w.touched ≡ with_touches v.touched (seat_number v.role) on.leaf.keys count
       → (has_key (take count on.leaf.keys) (get_or on.leaf.keys i no_key) ≡ false)
-      ⊎ (names_page (page_at v.layout.slots x.slot 0) sets ≡ true)
+      ⊎ (names_record at sets ≡ true)
+      → (seen_at w.reads (page_at v.layout.slots x.slot 0) ≡ Some x.header) ⊎ (names_record at sets ≡ true)
       → Stopped sets slots k (refusals.Conflict at expected seen) v w
-  record_stops i at expected seen few full lacks c count most touched own =
+  record_stops i at expected seen few full lacks c count most touched own still =
       let below : i < length on.leaf.keys = omega (arith, few, full) in
       let q : Key = get_or on.leaf.keys i no_key in
       let before : IsTreeKeyIn (ground v) q (page_at v.layout.slots x.slot (1 + (16 + 3 * i))) =
@@ -123,9 +135,15 @@ module _ (sets : Sets) (slots : List ℕ) (k : Key) (x : Leaf) (v u w : View) (l
       subst (λ (n : ℕ). IsTreeKeyIn (ground w) q n) (sym c.place.word.word) now in
       let word : at ≡ ((32 + w.layout.slots) + 64 * x.slot) + (1 + (16 + 3 * i)) = c.place.word.word in
       let slot : (at - (32 + w.layout.slots)) / 64 ≡ x.slot = omega (arith, word, few) in
-      let page : page_at w.layout.slots (slot_of w.layout.slots at) 0 ≡ page_at v.layout.slots x.slot 0 =
-      ap (λ (n : ℕ). page_at w.layout.slots n 0) slot
-      ∙ ap (λ (y : Layout). page_at y.slots x.slot 0) more.layout in
+      let whole : IsUnsplitAt w at ⊎ (names_record at sets ≡ true) =
+      elim still [
+        | inl met ↦ inl (unsplit_at x.slot at w slot record {
+          word = x.header;
+          saw = ap (λ (y : Layout). seen_at w.reads (page_at y.slots x.slot 0)) more.layout ∙ met;
+          unsplit = on.leaf.small;
+        })
+        | inr named ↦ inr named
+      ] in
       let way : Way = record { slot = x.slot; span = x.span } in
       let spans : x.span ≡ place.way.span =
       trees.spans way place.way on_now.way place.has (sym (place.slot ∙ slot)) on_now.tree in
@@ -156,7 +174,9 @@ module _ (sets : Sets) (slots : List ℕ) (k : Key) (x : Leaf) (v u w : View) (l
             only.known (record { slot = x.slot; keys = on.leaf.keys }) on.leaf.knows,
             sym slot,
             full,
+            lacks,
           );
+          whole = whole;
         }));
         told = λ met t. t.3 x.slot (word_in tree_leaf i) c.place.word;
         stops = inl (
@@ -176,15 +196,14 @@ module _ (sets : Sets) (slots : List ℕ) (k : Key) (x : Leaf) (v u w : View) (l
             same = sym slot;
             full = full;
             lacks = lacks;
+            whole = whole;
+            known = known_here at (sym slot);
             cause = c.cause;
             locks = on.leaf.keys;
             count = count;
             within = omega (arith, most, full);
             touched = touched;
-            own = elim own [
-              | inl apart ↦ inl apart
-              | inr named ↦ inr (ap (λ (n : ℕ). names_page n sets) page ∙ named)
-            ];
+            own = own;
           }),
         );
       }
@@ -265,6 +284,69 @@ module _ (sets : Sets) (slots : List ℕ) (k : Key) (x : Leaf) (v u w : View) (l
               cause = c.cause;
             },
             header_over k x.slot at x.span w on_now c.place.word.word,
+            header_known k at v w more trees (header_over k x.slot at x.span w on_now c.place.word.word),
           )),
         );
       }
+
+  -- so it is of one that is kept, whatever the pass had seen or left there before
+  pub kept_head_stops : (at seen : ℕ) (was : Option ℕ) → has_word at sets.headers ≡ true → IsLeafWordAt w x.slot 0 at
+      → SawLast at seen was u w → ((seen / 2 ^ 60) % 2 ≡ 1) ⊎ (seen ≢ x.header)
+      → Stopped sets slots k (refusals.Conflict at x.header seen) v w
+  kept_head_stops at seen was has place saw cause =
+      let at_is : at ≡ page_at v.layout.slots x.slot 0 =
+      place.word.word ∙ ap (λ (y : Layout). page_at y.slots x.slot 0) more.layout in
+      let q : Seen = record { at = at; word = x.header } in
+      let some : word_at at sets.headers ≡ Some x.header = by_set at_is on.set in
+      let kept : saw.kept ≡ Some x.header =
+      saw.kept_is ∙ (words at ∙ live.headers.kept q (in_pointers sets.headers q some)) in
+      record {
+        due = inr (inr (inr (
+          x.slot,
+          0,
+          record {
+            place = place;
+            free = λ y there same index. no_took y there;
+            unheld = λ y there same index. no_heads y there;
+            here = not_left x.slot;
+            step = saw.step;
+            last = saw.last;
+            was = was;
+            kept = saw.kept;
+            stands = saw.stands;
+            known = inl kept;
+            cause = cause;
+          },
+        )));
+        on = inl (inr (inl (header_over k x.slot at x.span w on_now place.word.word)));
+        told = λ met t. t.3 x.slot 0 place.word;
+        stops = inl (
+          w,
+          only,
+          inr (inl (
+            record {
+              step = saw.step;
+              last = saw.last;
+              since = let low = saw.since in omega (arith, since, low);
+              was = was;
+              kept = saw.kept;
+              stands = saw.stands;
+              known = inl some;
+              cause = cause;
+            },
+            header_over k x.slot at x.span w on_now place.word.word,
+            header_known k at v w more trees (header_over k x.slot at x.span w on_now place.word.word),
+          )),
+        );
+      }
+    where
+      by_set : at ≡ page_at v.layout.slots x.slot 0 → IsMetSo sets.headers (page_at v.layout.slots x.slot 0) x.header
+          → word_at at sets.headers ≡ Some x.header
+      by_set is (inl none) =
+          let h = any_is (λ (s : Seen). s.at == at) sets.headers has in
+          let some : word_at at sets.headers ≡ Some (h.0).word =
+          ap (λ (n : ℕ). word_at n sets.headers) (sym (eqb-true (h.0).at at h.2))
+          ∙ pointer_word sets.headers h.0 live.headers.once h.1 in
+          let both : None ≡ Some (h.0).word =
+          sym (ap (λ (n : ℕ). word_at n sets.headers) is ∙ none) ∙ some in absurd (cc)
+      by_set is (inr some) = ap (λ (n : ℕ). word_at n sets.headers) is ∙ some

@@ -6,12 +6,15 @@ pub mod MadeLaws
 pub mod Stopping
 pub mod TakenLaws
 pub mod NamedLaws
+pub mod NamedWords
+pub mod MovedFalls
 pub mod MakeCauses
 pub mod AddedHere
 pub mod LeafStops
 pub mod SplitHere
 pub mod Falling
 pub mod BroughtThen
+pub mod WholePlaces
 pub mod WriteTurns
 pub mod GrowCans
 pub mod GrownSo

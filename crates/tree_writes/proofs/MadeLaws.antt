@@ -1,5 +1,5 @@
 -- Pages that were brought into memory for a key of a tree: the transaction goes on, and nothing was read.
-use Rattle.std.proofs.Common.{◌≡◌, ℕ, List, [], sym, ap, ◌∙◌, subst}
+use Rattle.std.proofs.Common.{◌≡◌, ℕ, ◌+◌, ◌-◌, ◌*◌, ◌/◌, ◌<◌, List, [], sym, ap, ◌∙◌, subst, arith}
 use Rattle.std.specs.Prelude.{true}
 use Rattle.lists.specs.Each.{AreDistinct}
 use Rattle.serial_model.specs.declared.key.Key.{Key}
@@ -21,7 +21,7 @@ use Rattle.tree_walks.specs.Ways.{IsOnWay}
 use Rattle.tree_making.specs.Making.{CanMake}
 use Rattle.page_commit.specs.HeaderParts.{AreHeaders}
 use Rattle.page_commit.specs.Live.{entry_places, AreMet, ArePointersKept, ArePointersMet, IsLive}
-use Rattle.page_commit.specs.Places.{ground, IsTreeKeyIn}
+use Rattle.page_commit.specs.Places.{ground, slot_of, IsTreeKeyIn}
 use Rattle.page_commit.proofs.AnyPlaces.{tree_key_here}
 use Rattle.page_commit.proofs.BroughtLaws.{parts_grown}
 use Rattle.page_commit.proofs.RoomLaws.{room_same}
@@ -92,3 +92,11 @@ place_on k x sp at w trees on p =
     let way : Way = record { slot = x.slot; span = sp } in
     let same = trees.spans way p.way on.way p.has (sym p.slot) on.tree in
     tree_key_here w k x at p (subst (λ (s : Span). in_span s k ≡ true) same on.over)
+
+-- in the page of this slot
+pub record_slot : (x : Spot) (at : ℕ) (k : Key) (w : View) → IsTreeRecordAt w k x at
+    → slot_of w.layout.slots at ≡ x.slot
+record_slot x at k w p =
+    let few : x.index < 16 = p.index in
+    let word : at ≡ ((32 + w.layout.slots) + 64 * x.slot) + (1 + (16 + 3 * x.index)) = p.word in
+    let slot : (at - (32 + w.layout.slots)) / 64 ≡ x.slot = omega (arith, word, few) in slot

@@ -14,7 +14,8 @@ use Rattle.page_pool.specs.Pool.{IsChanged, IsFull}
 use Rattle.tree_walks.specs.Ways.{IsHeaderChanged, IsPointerChanged}
 use Rattle.tree_making.specs.Making.{NeedsPage, RefusesMake}
 use Rattle.page_commit.specs.Needs.{LacksPage}
-use Rattle.tree_calls.proofs.DueLaws.{header_due, header_told, pointer_due, pointer_place, TreeWalked}
+use Rattle.page_commit.proofs.KnownOver.{header_known, pointer_known}
+use Rattle.tree_calls.proofs.DueLaws.{header_due, header_told, more_of, pointer_due, pointer_place, TreeWalked}
 use Rattle.tree_calls.proofs.OnLaws.{header_over, held_on, pointer_over}
 use Rattle.tree_calls.proofs.TreeWalkLaws.{tree_walked}
 use Rattle.tree_writes.proofs.Stopping.{Stopped}
@@ -128,6 +129,8 @@ module _ (sets : Sets) (slots : List ℕ) (k : Key) (v w : View) (h : TreeWalked
           cause = p.cause;
         },
         pointer_over k at w p.on,
+        pointer_known k at v w (p.on).span (more_of sets slots v w h) (h.can).agree (h.can).trees
+            (pointer_place slots k w at h.can p.on) (p.on).over,
       ),
     );
   }
@@ -153,6 +156,7 @@ module _ (sets : Sets) (slots : List ℕ) (k : Key) (v w : View) (h : TreeWalked
           cause = c.cause;
         },
         header_over k c.slot at c.span w c.on c.word,
+        header_known k at v w (more_of sets slots v w h) (h.can).trees (header_over k c.slot at c.span w c.on c.word),
       )),
     );
   }

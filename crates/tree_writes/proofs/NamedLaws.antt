@@ -8,16 +8,18 @@ use Rattle.tx_sets.specs.declared.reads.ReadEntry.{ReadEntry}
 use Rattle.tx_sets.specs.declared.seen.Seen.{Seen}
 use Rattle.tx_sets.specs.declared.sets.Sets.{Sets}
 use Rattle.tx_sets.specs.declared.writes.Write.{Write}
-use Rattle.tx_sets.specs.Entries.{has_word, is_in_page, read_in, write_in}
+use Rattle.tx_sets.specs.Entries.{has_word, is_in_page, read_in, write_in, writes_at}
 use Rattle.engine_pages.specs.declared.view.Role.{Role}
 use Rattle.engine_pages.specs.declared.view.Touch.{Touch}
 use Rattle.engine_pages.specs.declared.view.View.{View}
 use Rattle.engine_pages.specs.Layout.{page_at}
 use Rattle.engine_pages.specs.Views.{seat_number}
 use Rattle.foster_tree.specs.Locking.{with_touches}
+use Rattle.page_commit.specs.Live.{reads_at}
+use Rattle.page_commit.specs.Needs.{names_record}
 use Rattle.tree_calls.specs.Keeping.{HasValue}
 use Rattle.tree_writes.specs.Causes.{names_page}
-use Rattle.tree_writes.specs.Writing.{HasBrought, HasMade, LocksUnnamed}
+use Rattle.tree_writes.specs.Writing.{HasBrought, HasMade, HasSplitUnnamed, IsWholePlace, LocksUnnamed}
 
 -- ---- a page of which no word is named
 
@@ -50,6 +52,13 @@ names_same first sets new reads headers writes =
     || (is_some (read_in first l) || is_some (write_in first new.writes))) reads
     ∙ ap (λ (l : List Write). has_word first sets.headers
     || (is_some (read_in first sets.reads) || is_some (write_in first l))) writes)
+
+-- and the same records
+pub record_same : (at : ℕ) (sets new : Sets) → new.reads ≡ sets.reads → new.writes ≡ sets.writes
+    → names_record at new ≡ names_record at sets
+record_same at sets new reads writes =
+    ap (λ (l : List ReadEntry). reads_at at l || writes_at at new.writes) reads
+    ∙ ap (λ (l : List Write). reads_at at sets.reads || writes_at at l) writes
 
 -- ---- sets that have grown
 
@@ -103,11 +112,10 @@ names_before first sets mid late k u v w m h none =
 -- ---- the locks of a split
 
 -- behind steps that took none
-pub unnamed_since : (sets mid : Sets) (k : Key) (u v w : View) → v.touched ≡ u.touched → v.role ≡ u.role
-    → ((first : ℕ) → names_page first mid ≡ false → names_page first sets ≡ false) → LocksUnnamed k mid v w
-    → LocksUnnamed k sets u w
-unnamed_since sets mid k u v w touched role unnamed (inl same) = inl (same ∙ touched)
-unnamed_since sets mid k u v w touched role unnamed (inr s) = inr record {
+abbrev split_since : (sets mid : Sets) (k : Key) (u v w : View) → v.touched ≡ u.touched → v.role ≡ u.role
+    → ((first : ℕ) → names_page first mid ≡ false → names_page first sets ≡ false) → HasSplitUnnamed k mid v w
+    → HasSplitUnnamed k sets u w
+split_since sets mid k u v w touched role unnamed s = record {
   slot = s.slot;
   span = s.span;
   way = s.way;
@@ -124,6 +132,22 @@ unnamed_since sets mid k u v w touched role unnamed (inr s) = inr record {
   unnamed = unnamed (page_at w.layout.slots s.slot 0) s.unnamed;
 }
 
+pub unnamed_since : (sets mid : Sets) (k : Key) (u v w : View) → v.touched ≡ u.touched → v.role ≡ u.role
+    → ((first : ℕ) → names_page first mid ≡ false → names_page first sets ≡ false) → LocksUnnamed k mid v w
+    → LocksUnnamed k sets u w
+unnamed_since sets mid k u v w touched role unnamed (inl same) = inl (same ∙ touched)
+unnamed_since sets mid k u v w touched role unnamed (inr s) =
+    inr (split_since sets mid k u v w touched role unnamed s)
+
+-- the place that is told stays one of no leaf that was split before
+pub whole_since : (sets mid new : Sets) (k : Key) (at : ℕ) (u v w : View) → v.touched ≡ u.touched → v.role ≡ u.role
+    → ((first : ℕ) → names_page first mid ≡ false → names_page first sets ≡ false) → IsWholePlace k at mid new v w
+    → IsWholePlace k at sets new u w
+whole_since sets mid new k at u v w touched role unnamed (inl read) = inl read
+whole_since sets mid new k at u v w touched role unnamed (inr (inl one)) = inr (inl one)
+whole_since sets mid new k at u v w touched role unnamed (inr (inr h)) =
+    inr (inr (record { split = split_since sets mid k u v w touched role unnamed h.split; half = h.half }))
+
 -- the key was read
 pub unnamed_read : {value : Option ℕ} (sets mid late : Sets) (k : Key) (u v w : View) → HasMade k sets mid u v
     → HasValue k value mid late v w → LocksUnnamed k sets u w
@@ -136,3 +160,11 @@ unnamed_behind sets mid late last k at u v w x m h b =
     unnamed_since sets late k u w x (h.touched ∙ m.touched)
     (ap (λ (y : View). y.role) h.only.is ∙ ap (λ (y : View). y.role) m.only.is)
     (λ first none. names_before first sets mid late k u v w m h none) b.locks
+
+pub whole_behind : {value : Option ℕ} (sets mid late last : Sets) (k : Key) (at : ℕ) (u v w x : View)
+    → HasMade k sets mid u v → HasValue k value mid late v w → HasBrought k at late last w x
+    → IsWholePlace k at sets last u x
+whole_behind sets mid late last k at u v w x m h b =
+    whole_since sets late last k at u w x (h.touched ∙ m.touched)
+    (ap (λ (y : View). y.role) h.only.is ∙ ap (λ (y : View). y.role) m.only.is)
+    (λ first none. names_before first sets mid late k u v w m h none) b.whole

@@ -24,6 +24,7 @@ use Rattle.tx_sets.specs.declared.sets.Sets.{Sets}
 use Rattle.tx_sets.specs.Entries.{has_word, is_in_page, places_of, read_in}
 use Rattle.engine_pages.specs.declared.layout.Layout.{Layout}
 use Rattle.engine_pages.specs.declared.view.Moved.{Moved}
+use Rattle.engine_pages.specs.declared.view.NewLeaf.{NewLeaf}
 use Rattle.engine_pages.specs.declared.view.View.{View}
 use Rattle.engine_pages.specs.declared.view.Way.{Way}
 use Rattle.engine_pages.specs.Layout.{page_at}
@@ -37,7 +38,7 @@ use Rattle.foster_tree.specs.Locking.{no_key, with_touches, IsMetIndex, KnowsFul
 use Rattle.foster_tree.specs.Splitting.{HasSplitLeaf}
 use Rattle.tree_walks.specs.declared.ways.Leaf.{Leaf}
 use Rattle.tree_walks.specs.Walks.{CanWalk}
-use Rattle.tree_walks.specs.Ways.{IsLeafOn, IsOnWay}
+use Rattle.tree_walks.specs.Ways.{half_for, IsLeafOn, IsOnWay}
 use Rattle.page_commit.specs.HeaderParts.{AreHeaders, IsMetHeader}
 use Rattle.page_commit.specs.Live.{entry_places, AreInside, AreMet, ArePointersKept, ArePointersMet, HasHolds}
 use Rattle.page_commit.specs.Live.{IsLive, IsTreeWordIn, StandsIn}
@@ -51,9 +52,9 @@ use Rattle.page_commit.proofs.PointerLaws.{has_pointer}
 use Rattle.page_commit.proofs.RoomLaws.{room_same}
 use Rattle.page_commit.proofs.WalkedLaws.{can_walk, kept_walked, live_grown, only_walked_same}
 use Rattle.tree_writes.specs.Causes.{names_page}
-use Rattle.tree_writes.specs.Writing.{HasBrought}
+use Rattle.tree_writes.specs.Writing.{HasBrought, HasSplitUnnamed}
 use Rattle.tree_writes.proofs.LeafStops.{leaf_record}
-use Rattle.tree_writes.proofs.MadeLaws.{place_on}
+use Rattle.tree_writes.proofs.MadeLaws.{place_on, record_slot}
 use Rattle.tree_writes.proofs.NamedLaws.{head_none, read_none}
 
 -- ---- words of one page
@@ -73,6 +74,12 @@ le_from a b test = grind (arith, nat_tests)
 
 lt_from : (a b : ℕ) → nat_lt a b ≡ true → a < b
 lt_from a b test = grind (arith, nat_tests)
+
+low_test : (a b : ℕ) → a < b → nat_lt a b ≡ true
+low_test a b less = grind (arith, nat_tests)
+
+high_test : (a b : ℕ) → b ≤ a → nat_lt a b ≡ false
+high_test a b from = grind (arith, nat_tests)
 
 -- a word that isn't one of the page
 page_apart : (slots t a i : ℕ) → is_in_page (page_at slots t 0) a ≡ false → i < 64 → a ≢ page_at slots t i
@@ -221,14 +228,28 @@ module _ (sets new : Sets) (v w : View) (k : Key) (x : Leaf) (at : ℕ) (live : 
       let long : length p.taken.keys ≡ length p.keys = omega (arith, one, two) in
       sym front ∙ (ap (λ (n : ℕ). take n p.keys) long ∙ front_refl p.keys)
 
+  -- its halves
+  abbrev halves : Moved
+  halves = record { slot = x.slot; minor = p.lower.slot; major = p.upper.slot; separator = p.separator }
+
+  knows_halves : Contains w.moved halves
+  knows_halves = subst (λ (z : View). Contains z.moved halves) (sym p.is) (in_head halves v.moved)
+
   pub old_moved : (y : Moved) × Contains w.moved y × (y.slot ≡ x.slot)
-  old_moved = (
-    record { slot = x.slot; minor = p.lower.slot; major = p.upper.slot; separator = p.separator },
-    subst (λ (z : View). Contains z.moved
-        (record { slot = x.slot; minor = p.lower.slot; major = p.upper.slot; separator = p.separator })) (sym p.is)
-        (in_head (record { slot = x.slot; minor = p.lower.slot; major = p.upper.slot; separator = p.separator }) v.moved),
-    refl,
-  )
+  old_moved = (halves, knows_halves, refl)
+
+  -- the key's record stands in the half that has the key
+  split_half : slot_of w.layout.slots at ≡ half_for halves k
+  split_half = record_slot (spot p.half.slot p.index) at k w p.record_at ∙ by_side p.is_half
+    where
+      by_side : ((p.half ≡ p.lower) × (k.key < p.separator)) ⊎ ((p.half ≡ p.upper) × (p.separator ≤ k.key))
+          → p.half.slot ≡ half_for halves k
+      by_side (inl low) =
+          ap (λ (y : NewLeaf). y.slot) low.0
+          ∙ sym (ap (λ (b : Bool). cond b p.lower.slot p.upper.slot) (low_test k.key p.separator low.1))
+      by_side (inr high) =
+          ap (λ (y : NewLeaf). y.slot) high.0
+          ∙ sym (ap (λ (b : Bool). cond b p.lower.slot p.upper.slot) (high_test k.key p.separator high.1))
 
   -- the key's record
   pub split_place : IsTreeKeyIn (ground w) k at
@@ -424,6 +445,23 @@ module _ (sets new : Sets) (v w : View) (k : Key) (x : Leaf) (at : ℕ) (live : 
       room = room_same sets new reads headers live.room;
     }
 
+    -- the locks that were taken
+    abbrev split_unnamed : HasSplitUnnamed k sets v w
+    split_unnamed = record {
+      slot = x.slot;
+      span = x.span;
+      way = old_on.way;
+      over = old_on.over;
+      keys = p.keys;
+      knows = old_known;
+      full = p.full;
+      once = p.are.once;
+      inside = p.are.inside;
+      moved = (halves, knows_halves, refl);
+      touched = p.taken.is ∙ ap (λ (l : List Key). with_touches v.touched (seat_number v.role) l 16) taken_keys;
+      unnamed = ap (λ (y : Layout). names_page (page_at y.slots x.slot 0) sets) layout_same ∙ unnamed;
+    }
+
     pub split_brought : HasBrought k at sets new v w
     split_brought = record {
       live = split_live;
@@ -454,19 +492,7 @@ module _ (sets new : Sets) (v w : View) (k : Key) (x : Leaf) (at : ℕ) (live : 
       headers = λ h has. has_pointer sets.headers h (subst (λ (l : List Seen). Contains l h) headers has);
       heads = ap (λ (l : List Seen). length l) headers;
       writes = writes;
-      locks = inr record {
-        slot = x.slot;
-        span = x.span;
-        way = old_on.way;
-        over = old_on.over;
-        keys = p.keys;
-        knows = old_known;
-        full = p.full;
-        once = p.are.once;
-        inside = p.are.inside;
-        moved = old_moved;
-        touched = p.taken.is ∙ ap (λ (l : List Key). with_touches v.touched (seat_number v.role) l 16) taken_keys;
-        unnamed = ap (λ (y : Layout). names_page (page_at y.slots x.slot 0) sets) layout_same ∙ unnamed;
-      };
+      locks = inr split_unnamed;
       place = split_place;
+      whole = inr (inr record { split = split_unnamed; half = split_half });
     }

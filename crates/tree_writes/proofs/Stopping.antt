@@ -24,6 +24,7 @@ use Rattle.page_commit.specs.Steps.{HasGivenUp, TellsOf}
 use Rattle.page_commit.specs.Turning.{OnlyWalked}
 use Rattle.page_commit.proofs.CommitLaws.{kept_others, last_same, touched_same}
 use Rattle.page_commit.proofs.RefuseLaws.{walked_refused}
+use Rattle.page_commit.proofs.UnsplitLaws.{unsplit_end}
 use Rattle.tree_calls.specs.Causes.{WasLong}
 use Rattle.tree_writes.specs.Causes.{IsGrowConflict, IsLeafConflict, KeepsHeader, LocksLeaf, NeedsMore, RefusesTreeWrite}
 use Rattle.tree_writes.specs.Causes.{TouchesTrees}
@@ -34,7 +35,7 @@ use Rattle.tree_writes.specs.Causes.{TouchesTrees}
 abbrev pub IsWide : Sets → List ℕ → Key → SetName → View → View → Type 0
 IsWide sets slots k set v w = ((set ≡ Writes) × (length sets.writes ≡ 16))
     ⊎ (((set ≡ Holds) × (((length slots ≡ 128) × NeedsMore k slots v w) ⊎ WasLong k v))
-    ⊎ ((set ≡ Reads) × (256 ≤ length sets.reads + length sets.headers) × KeepsHeader sets k v))
+    ⊎ ((set ≡ Reads) × (256 ≤ length sets.reads + length sets.headers) × KeepsHeader k sets v w))
 
 -- why the write stops
 abbrev pub Stops : Sets → List ℕ → Key → RefusalCause → View → View → Type 0
@@ -140,6 +141,8 @@ module _ (why : RefusalCause) (sets : Sets) (slots : List ℕ) (k : Key) (v w x 
     same = c.same;
     full = c.full;
     lacks = c.lacks;
+    whole = elim c.whole [ inl whole ↦ inl (unsplit_end at why w x g whole) | inr named ↦ inr named ];
+    known = c.known;
     cause = c.cause;
     locks = c.locks;
     count = c.count;
@@ -154,9 +157,9 @@ module _ (why : RefusalCause) (sets : Sets) (slots : List ℕ) (k : Key) (v w x 
     c.0,
     c.1,
     elim c.2 [
-      | inl p ↦ inl (pointer_end sets.pointers at expected seen p.0, p.1)
+      | inl p ↦ inl (pointer_end sets.pointers at expected seen p.0, p.1, p.2)
       | inr more ↦ inr (elim more [
-        | inl h ↦ inl (header_end sets.headers at expected seen h.0, h.1)
+        | inl h ↦ inl (header_end sets.headers at expected seen h.0, h.1, h.2)
         | inr l ↦ inr (leaf_end at expected seen c.0 l)
       ])
     ],
@@ -204,6 +207,14 @@ module _ (why : RefusalCause) (sets : Sets) (slots : List ℕ) (k : Key) (v w x 
       makes = made.makes;
     }
   ]
+
+  keeps_end : KeepsHeader k sets v w → KeepsHeader k sets v x
+  keeps_end n = record {
+    then = n.then;
+    walked = n.walked;
+    met = λ r has. kept_others [] why w x g r (n.met r has) refl;
+    adds = n.adds;
+  }
 
   -- the transaction is over
   pub refused_end : IsLive sets v → HasHolds slots w → WaysAgree w.ways → TreesAgree w → HasRefused why v x
@@ -271,7 +282,7 @@ write_end (refusals.Wide set) sets new slots k v w x only s g same none room loc
                 | inr long ↦ inr long
               ],
             )
-            | inr reads ↦ inr reads
+            | inr reads ↦ inr (reads.0, reads.1, keeps_end why sets slots k v w x only s g reads.2)
           ],
         )
       ],

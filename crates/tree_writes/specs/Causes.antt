@@ -17,7 +17,6 @@ use Rattle.engine_pages.specs.declared.view.RefusalCause.TheVariants as refusals
 use Rattle.engine_pages.specs.declared.view.SetName.TheVariants.{Reads, Writes, Holds}
 use Rattle.engine_pages.specs.declared.view.Touch.{Touch}
 use Rattle.engine_pages.specs.declared.view.View.{View}
-use Rattle.engine_pages.specs.Layout.{page_at}
 use Rattle.engine_pages.specs.Pages.{is_tree}
 use Rattle.engine_pages.specs.Steps.{glance}
 use Rattle.engine_pages.specs.Views.{seat_number}
@@ -27,7 +26,8 @@ use Rattle.foster_tree.specs.Splitting.{split_steps}
 use Rattle.tree_making.specs.Making.{make_steps}
 use Rattle.page_commit.specs.Calls.{end_most, IsFullOf, IsSlotConflict}
 use Rattle.page_commit.specs.Live.{IsLive}
-use Rattle.page_commit.specs.Needs.{IsFullLeaf, LacksPage}
+use Rattle.page_commit.specs.Needs.{names_record, AddsRecord, ArePointersOver, AreWaysOver, IsFullLeaf, IsUnsplitAt}
+use Rattle.page_commit.specs.Needs.{LacksPage}
 use Rattle.page_commit.specs.Places.{ground, slot_of, IsTreeKeyIn}
 use Rattle.page_commit.specs.Refusing.{IsHeaderConflict, IsPointerConflict}
 use Rattle.page_commit.specs.Turning.{IsHeaderOver, IsTreePointerOver, OnlyWalked}
@@ -48,7 +48,7 @@ write_most slots = bring_most slots + (split_steps slots + 3)
 abbrev pub alter_most : ℕ → ℕ
 alter_most slots = bring_most slots + ((find_steps + end_most) + write_most slots)
 
--- ---- a page that is split
+-- ---- a leaf that is split
 
 -- The sets name a word of the page that begins at this place: its header, or the word of a record that was read or is
 -- written.
@@ -86,9 +86,10 @@ TouchesTrees v w = (t : Touch) → Contains w.touched t → Contains v.touched t
     ⊎ ((t.seat ≡ seat_number v.role) × (is_tree v.layout.decls t.key.storage ≡ true))
 
 -- The last load or compare_exchange is one of this call, of the word of a record, of whatever key, in a full leaf over
--- the key that lacks the key: the leaf was to be split, or was, which moves all of its records. The word was locked, or was not the expected
--- one, which is what the transaction had seen or left there before this step. Where the call itself has locked the
--- record, so that the leaf was split, the sets name a word of its page.
+-- the key that lacks the key: the leaf was to be split, or was, which moves all of its records. The word was locked, or
+-- was not the expected one, which is what the transaction had seen or left there before this step. The leaf's header
+-- was last seen or left as that of one that wasn't split; or the call itself has split it, and the sets name the record.
+-- So they do where the call has locked it. What the pass knew of the leaf as the call began is over the key, too.
 pub record IsLeafConflict (sets : Sets) (k : Key) (at expected seen : ℕ) (u v w : View) : Type 0 where
   pub step : ℕ
   pub last : w.last ≡ Some (glance step at seen)
@@ -102,35 +103,38 @@ pub record IsLeafConflict (sets : Sets) (k : Key) (at expected seen : ℕ) (u v 
   pub same : leaf.slot ≡ slot_of u.layout.slots at
   pub full : length leaf.keys ≡ tree_leaf.room
   pub lacks : has_key leaf.keys k ≡ false
+  pub whole : IsUnsplitAt w at ⊎ (names_record at sets ≡ true)
+  pub known : AreWaysOver k v at
   pub cause : ((seen / 2 ^ 60) % 2 ≡ 1) ⊎ (seen ≢ expected)
   pub locks : List Key
   pub count : ℕ
   pub within : count ≤ length locks
   pub touched : w.touched ≡ with_touches v.touched (seat_number v.role) locks count
-  pub own : (has_key (take count locks) key ≡ false)
-      ⊎ (names_page (page_at u.layout.slots (slot_of u.layout.slots at) 0) sets ≡ true)
+  pub own : (has_key (take count locks) key ≡ false) ⊎ (names_record at sets ≡ true)
 
 -- The word of the operation's last step, with what was expected there and what it saw, is that of a pointer over the key,
 -- of a header over the key, or of a record in a leaf over the key, by what the call had learned of the pages by then.
+-- What the pass knew of the pointer, or of the word's page, as the call began is over the key, too.
 abbrev pub IsGrowConflict : Sets → Key → ℕ → ℕ → ℕ → View → View → Type 0
 IsGrowConflict sets k at expected seen v w =
     (u : View) × OnlyWalked v u
-    × ((IsPointerConflict sets.pointers at expected seen v w × IsTreePointerOver u k at)
-    ⊎ ((IsHeaderConflict sets.headers at expected seen v w × IsHeaderOver u k at)
+    × ((IsPointerConflict sets.pointers at expected seen v w × IsTreePointerOver u k at × ArePointersOver k v at)
+    ⊎ ((IsHeaderConflict sets.headers at expected seen v w × IsHeaderOver u k at × AreWaysOver k v at)
     ⊎ IsLeafConflict sets k at expected seen u v w))
 
 -- ---- full sets
 
--- The key was to be added to a leaf whose header the transaction keeps: its record would be one more that is kept.
-pub record KeepsHeader (sets : Sets) (k : Key) (v : View) : Type 0 where
+-- The key was to be added to the leaf on the way to it, which lacks it, and whose header the transaction keeps: its
+-- record would be one more that is kept. So it was by what the call had learned of the pages by then, and by words that
+-- it saw.
+pub record KeepsHeader (k : Key) (sets : Sets) (v w : View) : Type 0 where
   pub then : View
   pub walked : OnlyWalked v then
-  pub header : Seen
-  pub among : Contains sets.headers header
-  pub over : IsHeaderOver then k header.at
+  pub met : (r : Read) → Contains then.reads r → Contains w.reads r
+  pub adds : AddsRecord k sets.headers then
 
--- A page was to be put in on the way to the key, where a pointer led to no slot; or the leaf on it was full, and was to be
--- split. So it was by what the call had learned of the pages by then, and by words that it saw.
+-- A page was to be put in on the way to the key, where a pointer led to no slot; or the leaf on it was full and lacked the
+-- key, and was to be split. So it was by what the call had learned of the pages by then, and by words that it saw.
 pub record MakesPage (k : Key) (v w : View) : Type 0 where
   pub then : View
   pub walked : OnlyWalked v then
@@ -159,7 +163,7 @@ RefusesTreeWrite sets new k (refusals.Wide set) v w =
     (has_write k sets.writes ≡ false) × (w.draws ≡ v.draws)
     × (((set ≡ Writes) × (length sets.writes ≡ 16))
     ⊎ ((length sets.writes < 16) × (((set ≡ Holds) × (((length new.holds ≡ 128) × NeedsMore k new.holds v w) ⊎ WasLong k v))
-    ⊎ ((set ≡ Reads) × (256 ≤ length sets.reads + length sets.headers) × KeepsHeader sets k v))))
+    ⊎ ((set ≡ Reads) × (256 ≤ length sets.reads + length sets.headers) × KeepsHeader k sets v w))))
     × (w.blamed ≡ v.blamed) × (w.touched ≡ v.touched)
 RefusesTreeWrite sets new k (refusals.NumberLimit clock) v w = ⊥
 

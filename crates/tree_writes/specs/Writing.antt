@@ -1,5 +1,6 @@
 -- What the parts of a write at a key of a tree leave of a transaction.
-use Rattle.std.specs.Prelude.{◌≡◌, ◌⊎◌, ℕ, ◌+◌, ◌≤◌, true, false, List, [], ◌∷◌, ◌++◌, length, Contains, IfOk, IfErr, Result}
+use Rattle.std.specs.Prelude.{◌≡◌, ◌⊎◌, ℕ, ◌+◌, ◌<◌, ◌≤◌, true, false, cond, List, [], ◌∷◌, ◌++◌, length, Contains, IfOk, IfErr}
+use Rattle.std.specs.Prelude.{Result, Option, Some, None}
 use Rattle.serial_model.specs.declared.key.Key.{Key}
 use Rattle.homes.specs.declared.places.Span.{Span}
 use Rattle.homes.specs.Homes.{has_key, in_span}
@@ -7,24 +8,28 @@ use Rattle.drop_core.specs.Event.{each_once}
 use Rattle.tx_sets.specs.declared.reads.ReadEntry.{ReadEntry}
 use Rattle.tx_sets.specs.declared.seen.Seen.{Seen}
 use Rattle.tx_sets.specs.declared.sets.Sets.{Sets}
-use Rattle.tx_sets.specs.Entries.{has_word, renewed}
+use Rattle.tx_sets.specs.declared.writes.Write.{Write}
+use Rattle.tx_sets.specs.Entries.{has_word, has_write, read_in, renewed, write_in}
 use Rattle.engine_pages.specs.declared.view.Moved.{Moved}
 use Rattle.engine_pages.specs.declared.view.RefusalCause.{RefusalCause}
+use Rattle.engine_pages.specs.declared.view.RefusalCause.TheVariants.{Conflict}
 use Rattle.engine_pages.specs.declared.view.View.{View}
 use Rattle.engine_pages.specs.Layout.{page_at}
 use Rattle.engine_pages.specs.Views.{seat_number}
 use Rattle.array_pages.specs.Walks.{HoldsAre}
+use Rattle.tree_heads.specs.Headers.{Headed}
 use Rattle.tree_heads.specs.Heads.{absent_word}
-use Rattle.foster_tree.specs.Locking.{with_touches}
+use Rattle.foster_tree.specs.Locking.{with_touches, HasNotLockedOne}
 use Rattle.foster_tree.specs.Splitting.{split_steps, HasSplitLeaf}
 use Rattle.tree_walks.specs.declared.ways.Leaf.{Leaf}
-use Rattle.tree_walks.specs.Ways.{IsLeafOn}
-use Rattle.wire_form.specs.Leaves.{tree_leaf}
+use Rattle.tree_walks.specs.Ways.{half_for, IsLeafOn}
+use Rattle.wire_form.specs.Leaves.{tree_leaf, word_in}
 use Rattle.tree_making.specs.declared.making.Made.{Made}
 use Rattle.tree_making.specs.Making.{IsMade}
 use Rattle.page_commit.specs.Calls.{end_most}
-use Rattle.page_commit.specs.Live.{IsLive}
-use Rattle.page_commit.specs.Places.{ground, IsTreeKeyIn}
+use Rattle.page_commit.specs.Live.{reads_at, IsLive}
+use Rattle.page_commit.specs.Needs.{IsUnsplitAt}
+use Rattle.page_commit.specs.Places.{ground, slot_of, IsTreeKeyIn}
 use Rattle.page_commit.specs.Refusing.{HasRefused}
 use Rattle.page_commit.specs.Turning.{GoesOn, HoldsWaysTo, OnlyWalked, PartsStay}
 use Rattle.tree_calls.specs.Keeping.{OnlyWaysOn}
@@ -68,9 +73,25 @@ pub record HasSplitUnnamed (k : Key) (sets : Sets) (v w : View) : Type 0 where
 abbrev pub LocksUnnamed : Key → Sets → View → View → Type 0
 LocksUnnamed k sets v w = (w.touched ≡ v.touched) ⊎ HasSplitUnnamed k sets v w
 
+-- A leaf was so split, and the word stands in the half of it that has the key.
+pub record IsInHalf (k : Key) (at : ℕ) (sets : Sets) (v w : View) : Type 0 where
+  pub split : HasSplitUnnamed k sets v w
+  pub half : slot_of w.layout.slots at ≡ half_for (split.moved).0 k
+
+-- the record with this word was read; or its page's header was last seen or left as that of a leaf that wasn't split;
+-- or it stands in such a half
+abbrev pub IsWholePlace : Key → ℕ → Sets → Sets → View → View → Type 0
+IsWholePlace k at sets new v w = (reads_at at new.reads ≡ true) ⊎ (IsUnsplitAt w at ⊎ IsInHalf k at sets v w)
+
+-- Where the key is written now and wasn't before, the place that is kept of its record is such a one.
+pub record WritesWhole (k : Key) (sets new : Sets) (v w : View) : Type 0 where
+  pub each : (y : Write) → Contains new.writes y → y.key ≡ k → has_write k sets.writes ≡ false
+      → IsWholePlace k y.at sets new v w
+
 -- The record of the key stands in a leaf that the pass holds. It may be one that the transaction added, which is absent:
 -- where it keeps the header of the leaf, it goes on with one more record, and the new one is among those that were read.
--- Where a full leaf was split for it, the sets name no word of that page.
+-- Where a full leaf was split for it, the sets name no word of that page. No record of another leaf that was split is
+-- told.
 pub record HasBrought (k : Key) (at : ℕ) (sets new : Sets) (v w : View) : Type 0 where
   pub live : IsLive new w
   pub only : OnlyWalked v w
@@ -86,6 +107,7 @@ pub record HasBrought (k : Key) (at : ℕ) (sets new : Sets) (v w : View) : Type
   pub writes : new.writes ≡ sets.writes
   pub locks : LocksUnnamed k sets v w
   pub place : IsTreeKeyIn (ground w) k at
+  pub whole : IsWholePlace k at sets new v w
 
 -- ---- a leaf that lacks the key
 
@@ -132,3 +154,30 @@ pub record HasSplitFor (k : Key) (x : Leaf) (at : ℕ) (sets new : Sets) (v w : 
   pub split : HasSplitLeaf x.slot x.span k at v w
   pub now : HoldsAre new.holds w
   pub others : OtherHolds sets new
+
+-- ---- a word of a leaf that was split
+
+-- the place of the record that was read, else of the one that is written, if there is one
+abbrev pub place_of : Option ReadEntry → Option Write → Option ℕ
+place_of (Some e) x = Some e.at
+place_of None (Some x) = Some x.at
+place_of None None = None
+
+-- the first word that the sets name of the page that begins at this place: its header's, or that of a record
+abbrev pub named_word : ℕ → Sets → Option ℕ
+named_word first sets =
+    cond (has_word first sets.headers) (Some first) (place_of (read_in first sets.reads) (write_in first sets.writes))
+
+-- the word is that of the leaf's header, or of one of its records
+abbrev pub IsLeafWord : ℕ → ℕ → ℕ → Type 0
+IsLeafWord slots t word = (word ≡ page_at slots t 0)
+    ⊎ ((i : ℕ) × (i < tree_leaf.room) × (word ≡ page_at slots t (word_in tree_leaf i)))
+
+-- The word was loaded in a leaf that was split, and is told as in conflict: a header, which is expected as it was before;
+-- or a record, which is locked for good.
+abbrev pub TellsMoved : Leaf → ℕ → RefusalCause → View → View → Type 0
+TellsMoved x word why v w =
+    ((seen : ℕ) × (why ≡ Conflict word x.header seen) × (word ≡ page_at v.layout.slots x.slot 0)
+    × Headed x.slot x.span word v seen w)
+    ⊎ ((i : ℕ) × (i < tree_leaf.room) × (word ≡ page_at v.layout.slots x.slot (word_in tree_leaf i))
+    × HasNotLockedOne x.slot i why v w)

@@ -1,18 +1,23 @@
 // The record of a key of a tree that a transaction writes: a leaf that lacks the key gets it.
-ghost use Rattle.std.specs.Prelude.{◌≡◌, ◌≢◌, ◌+◌, ◌%◌, ◌<◌, ◌≤◌, ◌^◌, true, false, length, Err, IfOk, IfErr, OnOk};
+ghost use Rattle.std.specs.Prelude.{◌≡◌, ◌≢◌, ◌+◌, ◌-◌, ◌/◌, ◌%◌, ◌<◌, ◌≤◌, ◌^◌, true, false, length, List, Contains};
+ghost use Rattle.std.specs.Prelude.{Err, IfOk, IfErr, OnOk, None};
+ghost use Rattle.serial_model.specs.declared.key.Key.{Key};
 ghost use Rattle.tx_sets.specs.declared.sets.Sets.{Sets as TheSets};
-ghost use Rattle.tx_sets.specs.Entries.{has_read, has_word, has_write};
+ghost use Rattle.tx_sets.specs.Entries.{has_read, has_word, has_write, write_in};
 ghost use Rattle.tx_sets.specs.Gathered.{has_read_room};
 ghost use Rattle.engine_pages.specs.Layout.{page_at};
 ghost use Rattle.engine_pages.specs.Pages.{is_tree};
 ghost use Rattle.engine_pages.specs.Passes.{view, IsPassOf};
+ghost use Rattle.engine_pages.specs.declared.view.Moved.{Moved};
 ghost use Rattle.engine_pages.specs.declared.view.View.{View};
+ghost use Rattle.foster_tree.specs.Locking.{KnowsFull};
 ghost use Rattle.page_commit.specs.Live.{IsLive};
 ghost use Rattle.page_commit.specs.Refusing.{HasRefused};
 ghost use Rattle.tree_making.specs.Making.{IsMade};
 ghost use Rattle.tree_making.specs.declared.making.Made.TheVariants.{Lacking};
-ghost use Rattle.tree_writes.specs.Causes.{names_page, write_most, RefusesTreeWrite};
-ghost use Rattle.tree_writes.specs.Writing.{GrowsSo, HasBrought, HasSplitFor, KeepsAdded};
+ghost use Rattle.tree_writes.specs.Causes.{write_most, RefusesTreeWrite};
+ghost use Rattle.tree_writes.specs.Writing.{named_word, place_of, GrowsSo, HasBrought, HasSplitFor, IsLeafWord, KeepsAdded};
+ghost use Rattle.tree_writes.specs.Writing.{TellsMoved};
 
 use crate::making::bring;
 use array_pages::{conflict, word_at};
@@ -30,6 +35,12 @@ const ABSENT: u64 = 1 << 61;
 
 /// How many records a full leaf has.
 const FULL: u64 = 16;
+
+/// Where the word of a leaf's first record stands in its page.
+const FIRST_WORD: u32 = 17;
+
+/// How many words a record of a leaf takes.
+const RECORD: u32 = 3;
 
 /// Where the record of a key stands that the transaction doesn't write yet: where it has read the key, that record; else
 /// the one in the key's leaf, which gets the key, absent, where it lacks it. The write set has room for it then. A full
@@ -229,7 +240,7 @@ fn split_for(
 }
 
 // The transaction goes on behind a split of the leaf, unless its sets name a word of the leaf's page: it is refused then,
-// at a record of the leaf, which is locked for good.
+// at that word, which is loaded once more.
 fn end_split(
     engine: &Engine,
     pass: &mut Pass,
@@ -248,23 +259,59 @@ fn end_split(
         → has_write key old.writes ≡ false → length old.writes < 16 → head ≡ page_at v.layout.slots leaf.slot 0
         → GrowsSo key old sets.now result v (view pass.new) }
 {
-    if names_page(sets, head) {
-        let why = moved_record(engine, pass, leaf.slot, leaf.span);
-        return Err(refuse_on(engine, pass, sets, key, why));
-    }
-    Ok(at)
+    let Some(word) = named_word(sets, head) else {
+        return Ok(at);
+    };
+    let why = moved_word(engine, pass, leaf, head, word);
+    Err(refuse_on(engine, pass, sets, key, why))
 }
 
-// Whether the sets name a word of the page that begins here: its header, or the word of a record that was read or is
+// The first word that the sets name of the page that begins here: its header, or the word of a record that was read or is
 // written.
-fn names_page(sets: &Sets, first: u32) -> bool
-    ensures { result ≡ names_page first sets.now }
+fn named_word(sets: &Sets, first: u32) -> Option<u32>
+    ensures { result ≡ named_word first sets.now }
 {
     if sets.headers.contains(first) {
-        return true;
+        return Some(first);
     }
-    if sets.reads.find_in(first).is_some() {
-        return true;
+    match sets.reads.find_in(first) {
+        Some(entry) => Some(entry.at),
+        None => written_word(sets, first),
     }
-    sets.writes.find_in(first).is_some()
+}
+
+// The word of a record of that page that is written.
+fn written_word(sets: &Sets, first: u32) -> Option<u32>
+    ensures { result ≡ place_of None (write_in first sets.now.writes) }
+{
+    match sets.writes.find_in(first) {
+        Some(write) => Some(write.at),
+        None => None,
+    }
+}
+
+// The conflict at a word of a leaf that was split: at its header, of which is expected what it was before the split; or at
+// a record, which is locked for good.
+fn moved_word(engine: &Engine, pass: &mut Pass, leaf: Leaf, head: u32, word: u32) -> RefusalCause
+    requires of { IsPassOf engine.now pass.old }
+    requires can { (keys : List Key) × KnowsFull (view pass.old) leaf.slot leaf.span keys }
+    requires moved { (x : Moved) × Contains (view pass.old).moved x × (x.slot ≡ leaf.slot) }
+    requires head { head ≡ page_at (view pass.old).layout.slots leaf.slot 0 }
+    requires word { IsLeafWord (view pass.old).layout.slots leaf.slot word }
+    ensures of { IsPassOf engine.now pass.new }
+    ensures told { TellsMoved leaf word result (view pass.old) (view pass.new) }
+{
+    if word == head {
+        let seen = load_header(engine, pass, leaf.slot, leaf.span, head);
+        return conflict(head, leaf.header, seen);
+    }
+    let index = index_of(head, word);
+    moved_record(engine, pass, leaf.slot, leaf.span, index)
+}
+
+// Which record of the page that begins here has this word.
+fn index_of(first: u32, word: u32) -> u32
+    ensures { result ≡ (word - first - 17) / 3 }
+{
+    word.saturating_sub(first).saturating_sub(FIRST_WORD) / RECORD
 }

@@ -7,8 +7,10 @@
 //! as it is then, and with the new record among those that it read. An operation that goes on has locked no record, but
 //! for a full leaf that was split: each of its records once, and the sets name no word of that leaf's page (`locks`).
 //! Where they name one, since the transaction keeps the leaf's header, or has read or writes one of its records, it is
-//! refused behind the split. Each refusal tells its cause (`cause`) and ends the transaction (`refused`), and each
-//! operation takes so many steps at most (`most`).
+//! refused behind the split, at that word. The record that is kept of a key which wasn't written before was read, or
+//! stands in a leaf that was last seen unsplit, or in the half of the leaf that was split for it (`whole`). Each refusal
+//! tells its cause (`cause`) and ends the transaction (`refused`), and each operation takes so many steps at most
+//! (`most`).
 //! Layout: specs/Causes.antt, why an operation is refused; specs/Writing.antt, what parts of one leave.
 //! Design: docs/TREES.md, docs/COMMIT.md.
 #![tactic(auto)]

@@ -8,7 +8,7 @@ ghost use Rattle.page_commit.specs.Live.{IsLive};
 ghost use Rattle.page_commit.specs.Refusing.{HasRefused};
 ghost use Rattle.page_commit.specs.Turning.{HasDone};
 ghost use Rattle.tree_writes.specs.Causes.{alter_most, RefusesTreeAlter};
-ghost use Rattle.tree_writes.specs.Writing.{LocksUnnamed};
+ghost use Rattle.tree_writes.specs.Writing.{LocksUnnamed, WritesWhole};
 
 use crate::growing::place_seen;
 use crate::making::bring;
@@ -33,6 +33,7 @@ pub fn remove(
     ensures done { OnOk result (
         HasDone (ops.Remove key) None sets.old sets.new (view pass.old) (view pass.new)) }
     ensures locks { OnOk result (LocksUnnamed key sets.old (view pass.old) (view pass.new)) }
+    ensures whole { OnOk result (WritesWhole key sets.old sets.new (view pass.old) (view pass.new)) }
     ensures cause { IfErr result (λ why.
         RefusesTreeAlter sets.old sets.new key why (view pass.old) (view pass.new)) }
     ensures refused { IfErr result (λ why. HasRefused why (view pass.old) (view pass.new)) }
@@ -65,6 +66,7 @@ fn remove_record(
     ensures done { OnOk result (
         HasDone (ops.Remove key) None sets.old sets.new (view pass.old) (view pass.new)) }
     ensures locks { OnOk result (LocksUnnamed key sets.old (view pass.old) (view pass.new)) }
+    ensures whole { OnOk result (WritesWhole key sets.old sets.new (view pass.old) (view pass.new)) }
     ensures cause { IfErr result (λ why.
         RefusesTreeAlter sets.old sets.new key why (view pass.old) (view pass.new)) }
     ensures refused { IfErr result (λ why. HasRefused why (view pass.old) (view pass.new)) }

@@ -10,7 +10,7 @@ ghost use Rattle.page_commit.specs.Live.{IsLive};
 ghost use Rattle.page_commit.specs.Refusing.{HasRefused};
 ghost use Rattle.page_commit.specs.Turning.{HasDone};
 ghost use Rattle.tree_writes.specs.Causes.{alter_most, write_most, RefusesTreeAlter, RefusesTreeWrite};
-ghost use Rattle.tree_writes.specs.Writing.{LocksUnnamed};
+ghost use Rattle.tree_writes.specs.Writing.{LocksUnnamed, WritesWhole};
 
 use crate::growing::place_seen;
 use crate::making::bring;
@@ -36,6 +36,7 @@ pub fn write(
     ensures done { OnOk result (
         HasDone (ops.Write key value) None sets.old sets.new (view pass.old) (view pass.new)) }
     ensures locks { OnOk result (LocksUnnamed key sets.old (view pass.old) (view pass.new)) }
+    ensures whole { OnOk result (WritesWhole key sets.old sets.new (view pass.old) (view pass.new)) }
     ensures cause { IfErr result (λ why.
         RefusesTreeWrite sets.old sets.new key why (view pass.old) (view pass.new)) }
     ensures refused { IfErr result (λ why. HasRefused why (view pass.old) (view pass.new)) }
@@ -71,6 +72,7 @@ pub fn add(
     ensures turns { IfOk result (λ verdict.
         Alters (ops.Add key amount) verdict sets.old sets.new (view pass.old) (view pass.new)) }
     ensures locks { OnOk result (LocksUnnamed key sets.old (view pass.old) (view pass.new)) }
+    ensures whole { OnOk result (WritesWhole key sets.old sets.new (view pass.old) (view pass.new)) }
     ensures cause { IfErr result (λ why.
         RefusesTreeAlter sets.old sets.new key why (view pass.old) (view pass.new)) }
     ensures refused { IfErr result (λ why. HasRefused why (view pass.old) (view pass.new)) }
@@ -96,6 +98,7 @@ pub fn take(
     ensures turns { IfOk result (λ verdict.
         Alters (ops.Take key amount) verdict sets.old sets.new (view pass.old) (view pass.new)) }
     ensures locks { OnOk result (LocksUnnamed key sets.old (view pass.old) (view pass.new)) }
+    ensures whole { OnOk result (WritesWhole key sets.old sets.new (view pass.old) (view pass.new)) }
     ensures cause { IfErr result (λ why.
         RefusesTreeAlter sets.old sets.new key why (view pass.old) (view pass.new)) }
     ensures refused { IfErr result (λ why. HasRefused why (view pass.old) (view pass.new)) }
@@ -120,6 +123,7 @@ fn alter(
     ensures turns { IfOk result (λ verdict.
         Alters (op_of key by) verdict sets.old sets.new (view pass.old) (view pass.new)) }
     ensures locks { OnOk result (LocksUnnamed key sets.old (view pass.old) (view pass.new)) }
+    ensures whole { OnOk result (WritesWhole key sets.old sets.new (view pass.old) (view pass.new)) }
     ensures cause { IfErr result (λ why.
         RefusesTreeAlter sets.old sets.new key why (view pass.old) (view pass.new)) }
     ensures refused { IfErr result (λ why. HasRefused why (view pass.old) (view pass.new)) }
@@ -153,6 +157,7 @@ fn alter_record(
     ensures turns { IfOk result (λ verdict.
         Alters (op_of key by) verdict sets.old sets.new (view pass.old) (view pass.new)) }
     ensures locks { OnOk result (LocksUnnamed key sets.old (view pass.old) (view pass.new)) }
+    ensures whole { OnOk result (WritesWhole key sets.old sets.new (view pass.old) (view pass.new)) }
     ensures cause { IfErr result (λ why.
         RefusesTreeAlter sets.old sets.new key why (view pass.old) (view pass.new)) }
     ensures refused { IfErr result (λ why. HasRefused why (view pass.old) (view pass.new)) }

@@ -12,6 +12,9 @@ use Rattle.tree_ranges.proofs.records.read_in.Goals as goal
 pub read_record-requires-clause-can : goal.read_record-requires-clause-can
 read_record-requires-clause-can c = can_walk c.args.sets.now (view c.args.pass.now) c.requires.live
 
+pub read_record-requires-clause-met : goal.read_record-requires-clause-met
+read_record-requires-clause-met c = c.requires.met
+
 -- ---- it was read
 
 pub keep-requires-clause-room : goal.keep-requires-clause-room
@@ -46,7 +49,7 @@ pub returns-then-lacks_room-clause-reads : goal.returns-then-lacks_room-clause-r
 returns-then-lacks_room-clause-reads c =
     read_full c.in-Ok.found c.refuse_on.result c.args.sets.now c.args.key (view c.args.pass.now)
     (view c.read_record.new.pass)
-    (view c.refuse_on.new.pass) c.requires.live c.in-Ok.ensures.keeps c.in-Ok.ensures.there c.requires.unread
+    (view c.refuse_on.new.pass) c.requires.live c.in-Ok.ensures.keeps c.requires.unread
     (sym c.lacks_room.ensures ∙ c.if-lacks_room.true) c.refuse_on.ensures.gives_up c.refuse_on.ensures.most
     c.refuse_on.ensures.why
 

@@ -5,6 +5,9 @@ use Rattle.tree_ranges.proofs.records.scan_record.Goals as goal
 pub value_in-requires-clause-leaf : goal.value_in-requires-clause-leaf
 value_in-requires-clause-leaf c = c.requires.leaf
 
+pub value_in-requires-clause-met : goal.value_in-requires-clause-met
+value_in-requires-clause-met c = c.requires.met
+
 pub returns-in-Ok-clause-takes : goal.returns-in-Ok-clause-takes
 returns-in-Ok-clause-takes c =
     row_taken c.args.key.storage c.args.place.key c.in-Ok.value c.args.sets.now c.value_in.new.sets c.args.rows.now

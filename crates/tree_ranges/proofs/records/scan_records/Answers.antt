@@ -3,7 +3,8 @@ use Rattle.std.proofs.Common.{eq-eqb}
 use Rattle.std.proofs.lemmas.Result.{err_from_is_err_and}
 use Rattle.engine_pages.specs.Passes.{view}
 use Rattle.page_commit.proofs.WalkedLaws.{can_walk}
-use Rattle.tree_ranges.proofs.LoopLaws.{glance_above, glance_free, glance_from, glance_leaf, glance_live, glance_none}
+use Rattle.tree_ranges.proofs.LoopLaws.{glance_above, glance_free, glance_from, glance_leaf, glance_live, glance_met}
+use Rattle.tree_ranges.proofs.LoopLaws.{glance_none}
 use Rattle.tree_ranges.proofs.LoopLaws.{reading_leaf, reading_live, reading_none, reading_past, record_full}
 use Rattle.tree_ranges.proofs.LoopLaws.{record_last}
 use Rattle.tree_ranges.proofs.LoopLaws.{record_more, record_stops}
@@ -66,6 +67,15 @@ scan_record-requires-clause-leaf c =
     c.loop-from.invariant.reads
     (view c.smallest_from.new.pass) c.smallest_from.result c.smallest_from.ensures.glances c.smallest_from.ensures.most
     c.smallest_from.ensures.smallest c.in-Some.next c.in-Some.is
+
+pub scan_record-requires-clause-met : goal.scan_record-requires-clause-met
+scan_record-requires-clause-met c =
+    glance_met c.args.sets.now c.args.key c.args.leaf c.args.top c.args.rows.now (view c.args.pass.now)
+    c.requires.live c.requires.taken c.requires.free c.requires.top c.loop-from.sets c.loop-from.from
+    c.loop-from.rows (view c.loop-from.pass)
+    c.loop-from.invariant.reads
+    (view c.smallest_from.new.pass) c.smallest_from.result c.smallest_from.ensures.glances c.smallest_from.ensures.most
+    c.smallest_from.ensures.smallest
 
 pub scan_record-requires-clause-free : goal.scan_record-requires-clause-free
 scan_record-requires-clause-free c =

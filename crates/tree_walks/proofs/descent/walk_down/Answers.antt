@@ -8,7 +8,7 @@ use Rattle.engine_pages.specs.Passes.{view}
 use Rattle.tree_walks.specs.declared.walk.Reached.{Reached}
 use Rattle.tree_walks.specs.Steps.{GoesSo, IsReached, IsTreeRoot}
 use Rattle.tree_walks.specs.Ways.{HasCome}
-use Rattle.tree_walks.proofs.DeclLaws.{root_apart, root_few, root_keys, root_over, root_within, root_word, tree_there}
+use Rattle.tree_walks.proofs.DeclLaws.{root_apart, root_few, root_keys, root_over, root_within, root_word}
 use Rattle.tree_walks.proofs.DescentLaws.{root_down}
 use Rattle.tree_walks.proofs.PathLaws.{paths_same}
 use Rattle.tree_walks.proofs.RefusalLaws.{goes_refused}
@@ -17,8 +17,7 @@ use Rattle.tree_walks.proofs.descent.walk_down.Goals as goal
 
 pub root_of-root-requires : goal.root_of-root-requires
 root_of-root-requires c =
-    tree_there c.args.engine.now.table.shared.key.decls c.args.key.storage
-    (subst (λ (l : Layout). is_tree l.decls c.args.key.storage ≡ true) c.requires.of.layout c.requires.tree)
+    subst (λ (l : Layout). is_tree l.decls c.args.key.storage ≡ true) c.requires.of.layout c.requires.tree
 
 pub overflow_cast-at : goal.overflow_cast-at
 overflow_cast-at c =

@@ -29,6 +29,13 @@ read_record-requires-clause-leaf c =
       subst (λ (o : Option ℕ). IsSearched l.keys c.args.key o) c.in-Some.is (c.search.ensures.searched l),
     )
 
+pub read_record-requires-clause-met : goal.read_record-requires-clause-met
+read_record-requires-clause-met c =
+    let v = view c.args.pass.now in
+    let u = view c.search.new.pass in
+    (leaf_on_glanced c.args.key c.args.headers.now c.args.leaf v u (glanced_walked v u c.search.ensures.glances)
+    c.search.ensures.glances c.requires.leaf).met
+
 pub returns-in-Some-clause-keeps : goal.returns-in-Some-clause-keeps
 returns-in-Some-clause-keeps c =
     let v = view c.args.pass.now in

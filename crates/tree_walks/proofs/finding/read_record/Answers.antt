@@ -75,7 +75,8 @@ returns-then-locked-eq1-clause-keeps c =
     subst (λ (r : RefusalCause). KeepsSo 3 c.args.key c.args.pointers.now c.args.headers.now c.args.holds.now (Err r) v w)
     (sym c.conflict.ensures)
     (reads_locked c.args.key c.args.pointers.now c.args.headers.now c.args.holds.now c.args.leaf x at n v u c.requires.can l refl place
-    c.see-word.ensures.sees c.load_word-later.result w c.if-locked-eq1.true c.load_word-later.ensures.loads)
+    c.see-word.ensures.sees c.load_word-later.result w c.if-locked-eq1.true c.load_word-later.ensures.loads
+    c.requires.met)
 
 pub returns-then-word-ge-ABSENT-clause-keeps : goal.returns-then-word-ge-ABSENT-clause-keeps
 returns-then-word-ge-ABSENT-clause-keeps c =
@@ -169,7 +170,8 @@ returns-then-again-word-clause-keeps c =
     (view c.confirm-again.new.pass)) (sym c.conflict-then-again-word.ensures)
     (reads_changed c.args.key c.args.pointers.now c.args.headers.now c.args.holds.now c.args.leaf x at n v u c.requires.can l refl place
     c.see-word.ensures.sees c.if-locked-eq1.false c.load_value-value.result (view c.load_value-value.new.pass) c.confirm-again.result
-    (view c.confirm-again.new.pass) c.if-word-ge-ABSENT.false c.load_value-value.ensures.loads c.confirm-again.ensures.confirms c.if-again-word.true)
+    (view c.confirm-again.new.pass) c.if-word-ge-ABSENT.false c.load_value-value.ensures.loads
+    c.confirm-again.ensures.confirms c.if-again-word.true c.requires.met)
 
 pub returns-clause-keeps : goal.returns-clause-keeps
 returns-clause-keeps c =

@@ -4,6 +4,7 @@ use Rattle.page_commit.specs.Places.{ground}
 use Rattle.page_commit.proofs.WriteLaws.{none_written, some_written}
 use Rattle.tree_writes.proofs.RemoveLaws.{own_gone, own_removed}
 use Rattle.tree_writes.proofs.ValueWrites.{rewritten_put, rewritten_tree}
+use Rattle.tree_writes.proofs.WholePlaces.{whole_again}
 use Rattle.tree_writes.proofs.removing.remove.Goals as goal
 
 pub remove_record-requires-clause-unwritten : goal.remove_record-requires-clause-unwritten
@@ -34,3 +35,14 @@ returns-in_default-own-clause-locks c = inl refl
 
 pub returns-clause-locks : goal.returns-clause-locks
 returns-clause-locks c = inl refl
+
+pub returns-in_default-own-clause-whole : goal.returns-in_default-own-clause-whole
+returns-in_default-own-clause-whole c =
+    whole_again c.args.key c.args.sets.now c.args.sets.now (view c.args.pass.now) (view c.args.pass.now)
+    (some_written c.args.key c.args.sets.now.writes None
+    (sym c.find.ensures ∙ (c.in-Some.is ∙ ap (λ (o : Option ℕ). Some o) c.in_default-own.is)))
+
+pub returns-clause-whole : goal.returns-clause-whole
+returns-clause-whole c =
+    whole_again c.args.key c.args.sets.now _ (view c.args.pass.now) (view c.args.pass.now)
+    (some_written c.args.key c.args.sets.now.writes c.in-Some.own (sym c.find.ensures ∙ c.in-Some.is))

@@ -6,10 +6,11 @@ use Rattle.page_commit.specs.Places.{ground}
 use Rattle.page_commit.proofs.RefuseLaws.{refused_since}
 use Rattle.page_commit.proofs.WriteLaws.{absent_same, room_same, word_apart}
 use Rattle.tree_writes.proofs.AlterCauses.{behind_two, place_cause, read_cause, steps_behind, tree_stays}
-use Rattle.tree_writes.proofs.NamedLaws.{unnamed_behind, unnamed_read}
+use Rattle.tree_writes.proofs.NamedLaws.{unnamed_behind, unnamed_read, whole_behind}
 use Rattle.tree_writes.proofs.ReadFirst.{brought_behind, made_read}
 use Rattle.tree_writes.proofs.RemoveLaws.{read_gone, read_removed}
 use Rattle.tree_writes.proofs.ValueWrites.{inserted_put, inserted_tree}
+use Rattle.tree_writes.proofs.WholePlaces.{whole_none, whole_put}
 use Rattle.tree_writes.proofs.removing.remove_record.Goals as goal
 
 -- ---- the pages could not be brought into memory
@@ -137,6 +138,23 @@ returns-clause-locks c =
     unnamed_behind c.args.sets.now c.bring.new.sets c.read_value.new.sets c.place_seen.new.sets c.args.key c.in_ok-at.at
     (view c.args.pass.now) (view c.bring.new.pass) (view c.read_value.new.pass) (view c.place_seen.new.pass)
     c.in_ok-bring.ensures.makes.makes c.in_ok-before.ensures.value c.in_ok-at.ensures.brings
+
+-- ---- where it stands
+
+pub returns-in_default-clause-whole : goal.returns-in_default-clause-whole
+returns-in_default-clause-whole c =
+    whole_none c.args.key c.args.sets.now c.read_value.new.sets (view c.args.pass.now) (view c.read_value.new.pass)
+    (c.in_ok-before.ensures.value.writes ∙ c.in_ok-bring.ensures.makes.makes.writes)
+
+pub returns-clause-whole : goal.returns-clause-whole
+returns-clause-whole c =
+    whole_put c.args.key None c.in_ok-at.at c.args.sets.now c.place_seen.new.sets c.put.new.sets
+    (view c.args.pass.now) (view c.place_seen.new.pass) c.put.ensures.writes
+    (c.in_ok-at.ensures.brings.writes
+    ∙ (c.in_ok-before.ensures.value.writes ∙ c.in_ok-bring.ensures.makes.makes.writes)) c.put.ensures.keeps.reads
+    (whole_behind c.args.sets.now c.bring.new.sets c.read_value.new.sets c.place_seen.new.sets c.args.key c.in_ok-at.at
+    (view c.args.pass.now) (view c.bring.new.pass) (view c.read_value.new.pass) (view c.place_seen.new.pass)
+    c.in_ok-bring.ensures.makes.makes c.in_ok-before.ensures.value c.in_ok-at.ensures.brings)
 
 -- ---- steps
 

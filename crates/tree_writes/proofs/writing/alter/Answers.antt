@@ -4,6 +4,7 @@ use Rattle.page_commit.specs.Altering.{altered}
 use Rattle.page_commit.specs.Places.{ground}
 use Rattle.page_commit.proofs.TurnLaws.{own_altered, own_ends}
 use Rattle.page_commit.proofs.WriteLaws.{none_written, rewritten_all, rewritten_writes, some_written}
+use Rattle.tree_writes.proofs.WholePlaces.{whole_again}
 use Rattle.tree_writes.proofs.writing.alter.Goals as goal
 
 pub alter_record-requires-clause-unwritten : goal.alter_record-requires-clause-unwritten
@@ -36,3 +37,13 @@ returns-in_default-after-clause-locks c = inl refl
 
 pub returns-clause-locks : goal.returns-clause-locks
 returns-clause-locks c = inl refl
+
+pub returns-in_default-after-clause-whole : goal.returns-in_default-after-clause-whole
+returns-in_default-after-clause-whole c =
+    whole_again c.args.key c.args.sets.now c.args.sets.now (view c.args.pass.now) (view c.args.pass.now)
+    (some_written c.args.key c.args.sets.now.writes c.in-Some.own (sym c.find.ensures ∙ c.in-Some.is))
+
+pub returns-clause-whole : goal.returns-clause-whole
+returns-clause-whole c =
+    whole_again c.args.key c.args.sets.now _ (view c.args.pass.now) (view c.args.pass.now)
+    (some_written c.args.key c.args.sets.now.writes c.in-Some.own (sym c.find.ensures ∙ c.in-Some.is))

@@ -7,9 +7,10 @@ use Rattle.page_commit.proofs.RefuseLaws.{refused_since}
 use Rattle.page_commit.proofs.TurnLaws.{may_read}
 use Rattle.page_commit.proofs.WriteLaws.{absent_same, room_same, word_apart}
 use Rattle.tree_writes.proofs.AlterCauses.{behind_two, place_cause, read_cause, steps_behind, tree_stays}
-use Rattle.tree_writes.proofs.NamedLaws.{unnamed_behind, unnamed_read}
+use Rattle.tree_writes.proofs.NamedLaws.{unnamed_behind, unnamed_read, whole_behind}
 use Rattle.tree_writes.proofs.ReadFirst.{brought_behind, made_read}
 use Rattle.tree_writes.proofs.ValueWrites.{inserted_put, inserted_tree}
+use Rattle.tree_writes.proofs.WholePlaces.{whole_none, whole_put}
 use Rattle.tree_writes.proofs.WriteTurns.{altered_ends, altered_put, may_write_own, meets_own}
 use Rattle.tree_writes.proofs.writing.alter_record.Goals as goal
 
@@ -144,6 +145,23 @@ returns-clause-locks c =
     unnamed_behind c.args.sets.now c.bring.new.sets c.read_value.new.sets c.place_seen.new.sets c.args.key c.in_ok-at.at
     (view c.args.pass.now) (view c.bring.new.pass) (view c.read_value.new.pass) (view c.place_seen.new.pass)
     c.in_ok-bring.ensures.makes.makes c.in_ok-before.ensures.value c.in_ok-at.ensures.brings
+
+-- ---- where it stands
+
+pub returns-in_default-clause-whole : goal.returns-in_default-clause-whole
+returns-in_default-clause-whole c =
+    whole_none c.args.key c.args.sets.now c.read_value.new.sets (view c.args.pass.now) (view c.read_value.new.pass)
+    (c.in_ok-before.ensures.value.writes ∙ c.in_ok-bring.ensures.makes.makes.writes)
+
+pub returns-clause-whole : goal.returns-clause-whole
+returns-clause-whole c =
+    whole_put c.args.key (Some c.in-Some.value) c.in_ok-at.at c.args.sets.now c.place_seen.new.sets c.put.new.sets
+    (view c.args.pass.now) (view c.place_seen.new.pass) c.put.ensures.writes
+    (c.in_ok-at.ensures.brings.writes
+    ∙ (c.in_ok-before.ensures.value.writes ∙ c.in_ok-bring.ensures.makes.makes.writes)) c.put.ensures.keeps.reads
+    (whole_behind c.args.sets.now c.bring.new.sets c.read_value.new.sets c.place_seen.new.sets c.args.key c.in_ok-at.at
+    (view c.args.pass.now) (view c.bring.new.pass) (view c.read_value.new.pass) (view c.place_seen.new.pass)
+    c.in_ok-bring.ensures.makes.makes c.in_ok-before.ensures.value c.in_ok-at.ensures.brings)
 
 -- ---- steps
 

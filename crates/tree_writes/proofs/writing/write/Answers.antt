@@ -4,6 +4,7 @@ use Rattle.page_commit.specs.Places.{ground}
 use Rattle.page_commit.proofs.TurnLaws.{value_rewritten}
 use Rattle.page_commit.proofs.WriteLaws.{absent_same, rewritten_all, rewritten_writes, room_same, word_apart}
 use Rattle.tree_writes.proofs.ValueWrites.{inserted_put, inserted_tree}
+use Rattle.tree_writes.proofs.WholePlaces.{whole_again, whole_put}
 use Rattle.tree_writes.proofs.WriteTurns.{value_placed}
 use Rattle.tree_writes.proofs.writing.write.Goals as goal
 
@@ -47,3 +48,14 @@ returns-in-Ok-clause-done c =
 
 pub returns-in-Ok-clause-locks : goal.returns-in-Ok-clause-locks
 returns-in-Ok-clause-locks c = c.in-Ok.ensures.brings.locks
+
+pub returns-then-contains-clause-whole : goal.returns-then-contains-clause-whole
+returns-then-contains-clause-whole c =
+    whole_again c.args.key c.args.sets.now _ (view c.args.pass.now) (view c.args.pass.now)
+    (sym c.contains.ensures ∙ c.if-contains.true)
+
+pub returns-in-Ok-clause-whole : goal.returns-in-Ok-clause-whole
+returns-in-Ok-clause-whole c =
+    whole_put c.args.key (Some c.args.value) c.in-Ok.at c.args.sets.now c.place_seen.new.sets c.put.new.sets
+    (view c.args.pass.now) (view c.place_seen.new.pass) c.put.ensures.writes c.in-Ok.ensures.brings.writes
+    c.put.ensures.keeps.reads c.in-Ok.ensures.brings.whole

@@ -61,6 +61,10 @@ no_more {A = A} x xs none has = in_none x (subst (λ (l : List A). Contains l x)
 first_of : (slots t u i : ℕ) → i < 64 → page_at slots t i ≡ page_at slots u 0 → t ≡ u
 first_of slots t u i few same = omega (arith, few, same)
 
+-- two words of pages, in the same place
+one_slot : (slots t u i j : ℕ) → i < 64 → j < 64 → page_at slots t i ≡ page_at slots u j → t ≡ u
+one_slot slots t u i j few less same = omega (arith, few, less, same)
+
 -- the slot of an array's page that the pass has found the way to
 of_array : (t u : ℕ) (sp : Span) (v : View) → Contains v.ways (record { slot = t; span = sp })
     → is_array v.layout.decls sp.storage ≡ true → t ≡ u → IsOfArray v u
@@ -94,6 +98,9 @@ leaf_foreign t page i at seen sp u h few word mine = record {
   sealed = λ s has same.
       inr (of_array t s sp u h.way h.array (first_of u.layout.slots t s (2 * i) (omega (arith, few)) (sym word ∙ same)));
   shuts = λ x has. absurd (no_more x u.shuts h.shuts has);
+  alive = λ x j has less same.
+      inl (of_array t x.slot sp u h.way h.array
+      (one_slot u.layout.slots t x.slot (2 * i) (17 + 3 * j) (omega (arith, few)) (omega (arith, less)) (sym word ∙ same)));
 }
 
 -- where the leaf's records are compared, none is locked
@@ -150,6 +157,9 @@ inner_foreign t page i at seen sp words v u h saw few word row =
           shut_apart t words i i at (child_span sp i) u (omega arith)
           (inl (pointer_there t page i at sp u now few here)) x
           (subst (λ (l : List Shut). Contains l x) (saw.shuts ∙ row) has);
+      alive = λ x j has less same.
+          inl (of_array t x.slot sp u now.way now.array
+          (one_slot u.layout.slots t x.slot i (17 + 3 * j) few (omega (arith, less)) (sym here ∙ same)));
     }
 
 -- all pages on the way down are arrays'
@@ -169,8 +179,11 @@ pointer_foreign height x sp at page n was v u can l =
     let went = (l.over).went in record {
       records = λ y has. absurd (no_more y u.took (ap (λ (z : View). z.took) went ∙ (can.bare).took) has);
       heads = λ y has. absurd (no_more y u.heads (ap (λ (z : View). z.heads) went ∙ (can.bare).heads) has);
-      sealed = λ t has same. inr (by_hold t (same ∙ ap (λ (z : View). page_at z.layout.slots t 0) went));
+      sealed = λ t has same. inr (by_hold t 0 (omega arith) (same ∙ ap (λ (z : View). page_at z.layout.slots t 0) went));
       shuts = λ y has. absurd (no_more y u.shuts (ap (λ (z : View). z.shuts) went ∙ (can.bare).shuts) has);
+      alive = λ y j has less same.
+          inl (by_hold y.slot (17 + 3 * j) (omega (arith, less))
+          (same ∙ ap (λ (z : View). page_at z.layout.slots y.slot (17 + 3 * j)) went));
     }
   where
     on_way : (t : ℕ) → has_slot v.grip.holds t ≡ true → IsOfArray u t
@@ -184,9 +197,9 @@ pointer_foreign height x sp at page n was v u can l =
               ∙ way_array v.layout.decls height v.ways can.down a.0 a.1,
         )
 
-    by_hold : (t : ℕ) → at ≡ page_at v.layout.slots t 0 → IsOfArray u t
-    by_hold t same =
+    by_hold : (t i : ℕ) → i < 64 → at ≡ page_at v.layout.slots t i → IsOfArray u t
+    by_hold t i less same =
         elim (cases_Bool (has_slot v.grip.holds t)) [
           | inl held ↦ on_way t held
-          | inr free ↦ absurd (can.apart t free 0 (omega arith) same)
+          | inr free ↦ absurd (can.apart t free i less same)
         ]

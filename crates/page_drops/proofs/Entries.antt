@@ -8,7 +8,7 @@ use Rattle.serial_model.specs.declared.key.Key.{Key}
 use Rattle.homes.specs.declared.places.Spot.{Spot}
 use Rattle.engine_pages.specs.declared.layout.Layout.{Layout}
 use Rattle.engine_pages.specs.declared.view.KeptWhy.{KeptWhy}
-use Rattle.engine_pages.specs.declared.view.KeptWhy.TheVariants.{Locked, Unlike, Under, Changed, Long}
+use Rattle.engine_pages.specs.declared.view.KeptWhy.TheVariants.{Locked, Unlike, UnlikeAt, Under, Changed, Long}
 use Rattle.engine_pages.specs.declared.view.Read.{Read}
 use Rattle.engine_pages.specs.declared.view.View.{View}
 use Rattle.engine_pages.specs.Layout.{page_at}
@@ -179,6 +179,7 @@ pub tells_leaf : (slots t word seen at : ℕ) (words : List ℕ) (why : KeptWhy)
     → IsLeafCause slots t words why word seen → read_of w.reads at ≡ read_of v.reads at → TellsAbove why at seen v w
 tells_leaf slots t word seen at words Locked v w so same = same
 tells_leaf slots t word seen at words Unlike v w so same = same
+tells_leaf slots t word seen at words (UnlikeAt key) v w so same = same
 tells_leaf slots t word seen at words Under v w so same = same
 tells_leaf slots t word seen at words (Changed expected) v w so same = absurd so
 tells_leaf slots t word seen at words Long v w so same = same

@@ -5,7 +5,7 @@ use Rattle.std.proofs.lemmas.Bool.{cases_lt}
 use Rattle.homes.specs.declared.places.At.{At}
 use Rattle.snapshot_store.specs.Places.{page as page_words}
 use Rattle.engine_pages.specs.declared.view.KeptWhy.{KeptWhy}
-use Rattle.engine_pages.specs.declared.view.KeptWhy.TheVariants.{Locked, Unlike, Under, Changed, Long}
+use Rattle.engine_pages.specs.declared.view.KeptWhy.TheVariants.{Locked, Unlike, UnlikeAt, Under, Changed, Long}
 use Rattle.engine_pages.specs.declared.view.Read.{Read}
 use Rattle.engine_pages.specs.declared.view.View.{View}
 use Rattle.engine_pages.specs.Layout.{page_at}
@@ -274,6 +274,7 @@ pub tells_inner : (slots t word seen at : ℕ) (words : List ℕ) (why : KeptWhy
     → IsInnerCause slots t words why word seen → read_of w.reads at ≡ read_of v.reads at → TellsAbove why at seen v w
 tells_inner slots t word seen at words Locked v w so same = same
 tells_inner slots t word seen at words Unlike v w so same = same
+tells_inner slots t word seen at words (UnlikeAt key) v w so same = absurd so
 tells_inner slots t word seen at words Under v w so same = same
 tells_inner slots t word seen at words (Changed expected) v w so same = absurd so
 tells_inner slots t word seen at words Long v w so same = absurd so

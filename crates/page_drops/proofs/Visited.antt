@@ -12,7 +12,7 @@ use Rattle.drop_core.specs.Event.{without}
 use Rattle.drop_core.specs.Table.{has_slot}
 use Rattle.engine_pages.specs.declared.view.KeptPage.{KeptPage}
 use Rattle.engine_pages.specs.declared.view.KeptWhy.{KeptWhy}
-use Rattle.engine_pages.specs.declared.view.KeptWhy.TheVariants.{Locked, Unlike, Under, Changed, Long}
+use Rattle.engine_pages.specs.declared.view.KeptWhy.TheVariants.{Locked, Unlike, UnlikeAt, Under, Changed, Long}
 use Rattle.engine_pages.specs.declared.view.Read.{Read}
 use Rattle.engine_pages.specs.declared.view.Swung.{Swung}
 use Rattle.engine_pages.specs.declared.view.View.{View}
@@ -166,6 +166,7 @@ module _ (B : Type 0) (f : B → ℕ) (g : B → List KeptPage) (h : B → List 
       → IsSightBefore why read → Told
   above_by Locked is cause gone prior = above_shut is cause gone
   above_by Unlike is cause gone prior = absurd cause
+  above_by (UnlikeAt key) is cause gone prior = absurd cause
   above_by Under is cause gone prior = absurd cause
   above_by (Changed e) is cause gone prior = above_turned e gone.0 is cause gone.1 gone.2 gone.3 prior
   above_by Long is cause gone prior = absurd cause
@@ -295,6 +296,8 @@ pub kept_sight : (at t page before word seen : ℕ) (why : KeptWhy) (u b : View)
 kept_sight at t page before word seen Locked u b tells was led names how =
     (was.0, tells ∙ was.1, leads_so before (was.0).seen t page was.2 led names, tt)
 kept_sight at t page before word seen Unlike u b tells was led names how =
+    (was.0, tells ∙ was.1, leads_so before (was.0).seen t page was.2 led names, tt)
+kept_sight at t page before word seen (UnlikeAt key) u b tells was led names how =
     (was.0, tells ∙ was.1, leads_so before (was.0).seen t page was.2 led names, tt)
 kept_sight at t page before word seen Under u b tells was led names how =
     (was.0, tells ∙ was.1, leads_so before (was.0).seen t page was.2 led names, tt)

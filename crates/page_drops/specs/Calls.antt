@@ -16,7 +16,7 @@ use Rattle.commit_core.specs.declared.seat.Stage.TheVariants.{Idle}
 use Rattle.engine_pages.specs.declared.view.Dropped.{Dropped as Counts}
 use Rattle.engine_pages.specs.declared.view.KeptPage.{KeptPage}
 use Rattle.engine_pages.specs.declared.view.KeptWhy.{KeptWhy}
-use Rattle.engine_pages.specs.declared.view.KeptWhy.TheVariants.{Locked, Unlike, Under, Changed, Long}
+use Rattle.engine_pages.specs.declared.view.KeptWhy.TheVariants.{Locked, Unlike, UnlikeAt, Under, Changed, Long}
 use Rattle.engine_pages.specs.declared.view.Lead.{Lead}
 use Rattle.engine_pages.specs.declared.view.Read.{Read}
 use Rattle.engine_pages.specs.declared.view.Role.TheVariants.{Keeper}
@@ -208,6 +208,7 @@ HasHeld sp at page (Some held) v w = HasIn sp at page held v w
 abbrev pub IsCauseAbove : ℕ → KeptWhy → ℕ → ℕ → Type 0
 IsCauseAbove at Locked word seen = (word ≡ at) × (2 ^ 60 ≤ seen)
 IsCauseAbove at Unlike word seen = ⊥
+IsCauseAbove at (UnlikeAt key) word seen = ⊥
 IsCauseAbove at Under word seen = ⊥
 IsCauseAbove at (Changed expected) word seen = (word ≡ at) × (seen ≢ expected)
 IsCauseAbove at Long word seen = ⊥
@@ -216,6 +217,7 @@ IsCauseAbove at Long word seen = ⊥
 abbrev pub IsGoneFor : KeptWhy → List ℕ → List ℕ → List ℕ → Type 0
 IsGoneFor Locked holds old new = new ≡ old
 IsGoneFor Unlike holds old new = new ≡ old
+IsGoneFor (UnlikeAt key) holds old new = new ≡ old
 IsGoneFor Under holds old new = new ≡ old
 IsGoneFor (Changed expected) holds old new =
     (t : ℕ) × (half_of expected ≡ Some t) × (has_slot holds t ≡ false) × (new ≡ t ∷ old)

@@ -10,7 +10,7 @@ use Rattle.commit_core.specs.declared.seat.Stage.TheVariants.{Idle}
 use Rattle.drop_core.specs.Event.{without}
 use Rattle.drop_core.specs.Table.{at_index}
 use Rattle.engine_pages.specs.declared.view.KeptWhy.{KeptWhy}
-use Rattle.engine_pages.specs.declared.view.KeptWhy.TheVariants.{Locked, Unlike, Under, Changed, Long}
+use Rattle.engine_pages.specs.declared.view.KeptWhy.TheVariants.{Locked, Unlike, UnlikeAt, Under, Changed, Long}
 use Rattle.engine_pages.specs.declared.view.Lead.{Lead}
 use Rattle.engine_pages.specs.declared.view.Read.{Read}
 use Rattle.engine_pages.specs.declared.view.Role.TheVariants.{Keeper}
@@ -94,6 +94,7 @@ IsInnerCause slots t words Locked word seen =
     (j : ℕ) × (j < array_fan) × (word ≡ page_at slots t j) × (2 ^ 60 ≤ seen)
 IsInnerCause slots t words Unlike word seen =
     (j : ℕ) × (j < array_fan) × (word ≡ page_at slots t j) × (seen < 2 ^ 32) × (seen ≢ get_or words j 0)
+IsInnerCause slots t words (UnlikeAt key) word seen = ⊥
 IsInnerCause slots t words Under word seen =
     (j : ℕ) × (j < array_fan) × (word ≡ page_at slots t j) × ((u : ℕ) × (half_of seen ≡ Some u))
 IsInnerCause slots t words (Changed expected) word seen = ⊥

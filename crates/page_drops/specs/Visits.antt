@@ -7,7 +7,7 @@ use Rattle.snapshot_store.specs.ArrayPages.{last_at}
 use Rattle.snapshot_store.specs.Places.{page as page_words}
 use Rattle.engine_pages.specs.declared.view.KeptPage.{KeptPage}
 use Rattle.engine_pages.specs.declared.view.KeptWhy.{KeptWhy}
-use Rattle.engine_pages.specs.declared.view.KeptWhy.TheVariants.{Locked, Unlike, Under, Changed, Long}
+use Rattle.engine_pages.specs.declared.view.KeptWhy.TheVariants.{Locked, Unlike, UnlikeAt, Under, Changed, Long}
 use Rattle.engine_pages.specs.declared.view.Read.{Read}
 use Rattle.engine_pages.specs.declared.view.Swung.{Swung}
 use Rattle.engine_pages.specs.declared.view.View.{View}
@@ -105,6 +105,7 @@ LeadsSo t page seen = (half_of seen ≡ Some t) × (0 < page → page_half seen 
 abbrev pub IsKeptSight : KeptWhy → ℕ → ℕ → ℕ → ℕ → ℕ → Type 0
 IsKeptSight Locked word at t page seen = LeadsSo t page seen
 IsKeptSight Unlike word at t page seen = LeadsSo t page seen
+IsKeptSight (UnlikeAt key) word at t page seen = LeadsSo t page seen
 IsKeptSight Under word at t page seen = LeadsSo t page seen
 IsKeptSight (Changed expected) word at t page seen = (word ≡ at) × (half_of expected ≡ Some t) × (seen ≢ expected)
 IsKeptSight Long word at t page seen = LeadsSo t page seen
@@ -121,6 +122,7 @@ IsSight (Some t) (Some k) at page seen = IsKeptSight k.why k.word at t page seen
 abbrev pub IsSightBefore : KeptWhy → Read → Type 0
 IsSightBefore Locked r = ⊤
 IsSightBefore Unlike r = ⊤
+IsSightBefore (UnlikeAt key) r = ⊤
 IsSightBefore Under r = ⊤
 IsSightBefore (Changed expected) r = r.was ≡ Some expected
 IsSightBefore Long r = ⊤

@@ -1,6 +1,5 @@
 // All pages of arrays are gone over.
 ghost use Rattle.std.specs.Prelude.{◌≡◌, ◌-◌, ◌<◌, ◌∷◌, [], length, IfErr, OnOk};
-ghost use Rattle.serial_model.specs.Decls.{AreDecls};
 ghost use Rattle.engine_pages.specs.declared.view.KeptPage.{KeptPage};
 ghost use Rattle.engine_pages.specs.declared.view.Role.TheVariants.{Keeper};
 ghost use Rattle.engine_pages.specs.Layout.{root_at};

@@ -10,6 +10,7 @@ ghost use Rattle.page_drops.specs.Works.{KeepsReads, KeepsReadsBut, TellsAbove};
 
 use crate::noting::Kept;
 use crate::records::{keep, word_at};
+use dual_pointer::{SHUT, SLOT};
 use engine_pages::{Engine, KeptWhy, Pass, retire};
 use homes::{At, Span, Spot};
 use pointer_swings::{descend, reopen, shut, swing};
@@ -18,10 +19,6 @@ use pointer_swings::{descend, reopen, shut, swing};
 pub(crate) const POINTERS: u32 = 64;
 
 const PARTS: u64 = 64;
-
-const SLOT: u64 = 1 << 32;
-
-const SHUT: u64 = 1 << 60;
 
 /// An interior page in a slot, over these keys, and the snapshot page that it is compared with, or 0.
 #[derive(Clone, Copy)]

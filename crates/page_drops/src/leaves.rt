@@ -1,7 +1,6 @@
 // A leaf is compared with a snapshot's, locked, and opened again.
-ghost use Rattle.std.specs.Prelude.{◌≡◌, ◌+◌, ◌^◌, ◌<◌, ◌≤◌, [], IfErr, OnOk};
+ghost use Rattle.std.specs.Prelude.{◌≡◌, ◌≤◌, [], IfErr, OnOk};
 ghost use Rattle.engine_pages.specs.Passes.{view, IsPassOf};
-ghost use Rattle.engine_pages.specs.Resident.{array_word};
 ghost use Rattle.snapshot_store.specs.Places.{page as page_words};
 ghost use Rattle.page_drops.specs.Leaves.{AtLeaf, AreLow, HasComparedAll, HasMoved, HasRow, KeepsSeen, MetOthers};
 ghost use Rattle.page_drops.specs.Works.{IsSeenStill, KeepsLeaf, KeepsReads, SawAlone, SawMore};

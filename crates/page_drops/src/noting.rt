@@ -1,5 +1,5 @@
 // Pages that are kept, noted as such.
-ghost use Rattle.std.specs.Prelude.{◌≡◌, ◌<◌};
+ghost use Rattle.std.specs.Prelude.{◌≡◌};
 ghost use Rattle.engine_pages.specs.declared.view.Role.TheVariants.{Keeper};
 ghost use Rattle.engine_pages.specs.Passes.{view, IsPassOf};
 ghost use Rattle.page_drops.specs.Works.{note_of, noted, HasSeenLast, IsKeepDue};

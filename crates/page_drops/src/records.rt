@@ -1,5 +1,5 @@
 // A record of a leaf is compared with a snapshot's, locked, and opened again.
-ghost use Rattle.std.specs.Prelude.{◌≡◌, ◌*◌, ◌^◌, ◌<◌, ◌≤◌, [], length, get_or, IfErr, OnOk};
+ghost use Rattle.std.specs.Prelude.{◌≡◌, ◌^◌, ◌<◌, ◌≤◌, [], length, get_or, IfErr, OnOk};
 ghost use Rattle.engine_pages.specs.declared.view.Role.TheVariants.{Keeper};
 ghost use Rattle.engine_pages.specs.Layout.{page_at};
 ghost use Rattle.engine_pages.specs.Passes.{view, IsPassOf};
@@ -62,8 +62,9 @@ pub fn word_of(engine: &Engine, pass: &mut Pass, page: u32, index: u32) -> u64
     load_resident(engine, pass, page, index)
 }
 
-/// Notes that a page is kept for the word that was seen last: for a lock only where it is none of the pass's own, and
-/// for a change only where the pass had met another word right before.
+/// Notes that a page is kept for the word that was seen last: for a lock only where it is none of the pass's own, for
+/// what stands at a key of a tree only where the pass knows the key there, or that it isn't there, and for a change only
+/// where the pass had met another word right before.
 pub fn keep(engine: &Engine, pass: &mut Pass, word: u32, seen: u64, why: KeptWhy) -> Kept
     requires of { IsPassOf engine.now pass.old }
     requires keeper { (view pass.old).role ≡ Keeper }

@@ -13,14 +13,11 @@ use crate::dropping::drop_leaf;
 use crate::inner::{Inner, POINTERS, child_of, drop_inner, part_of};
 use crate::noting::Kept;
 use crate::records::{Leaf, keep, word_at};
+use dual_pointer::{SHUT, SLOT};
 use engine_pages::{Engine, KeptWhy, Pass, enter, follow, leave};
 use homes::{At, Span, Spot};
 use pointer_swings::{let_go, renew};
 use std::thread::yield_now;
-
-const SLOT: u64 = 1 << 32;
-
-const SHUT: u64 = 1 << 60;
 
 /// Once in so many pages the pass gives its core away, where other threads wait for one.
 const TURN: u32 = 512;

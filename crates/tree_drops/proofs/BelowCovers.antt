@@ -6,19 +6,17 @@ use Rattle.std.specs.List.{Contains, slice_get}
 use Rattle.lists.specs.Elements.{at_below, in_cases, in_none}
 use Rattle.serial_model.specs.declared.key.Key.{Key}
 use Rattle.homes.specs.declared.places.Span.{Span}
-use Rattle.homes.specs.Homes.{has_key}
 use Rattle.snapshot_store.specs.declared.place.PagePlace.{PagePlace}
 use Rattle.snapshot_store.specs.Places.{Found, page as page_words}
 use Rattle.snapshot_store.specs.TreePages.{Record, record_for}
 use Rattle.engine_pages.specs.declared.layout.Layout.{Layout}
 use Rattle.engine_pages.specs.declared.view.Head.{Head}
 use Rattle.engine_pages.specs.declared.view.KeptWhy.{KeptWhy}
-use Rattle.engine_pages.specs.declared.view.KeptWhy.TheVariants.{Unlike}
+use Rattle.engine_pages.specs.declared.view.KeptWhy.TheVariants.{Unlike, UnlikeAt}
 use Rattle.engine_pages.specs.declared.view.View.{View}
 use Rattle.engine_pages.specs.Layout.{page_at}
 use Rattle.engine_pages.specs.Resident.{tree_below}
 use Rattle.pointer_swings.specs.Children.{CanDescendTree, HasDescendedTree, begin_in, end_in, keys_of}
-use Rattle.tree_heads.specs.Headers.{count_of}
 use Rattle.chain_steps.specs.declared.halves.Half.{Half}
 use Rattle.chain_steps.specs.Below.{IsStoredBelow}
 use Rattle.chain_steps.specs.Swings.{HasKeyIn}
@@ -27,12 +25,11 @@ use Rattle.page_drops.specs.Works.{HasGlanced}
 use Rattle.tree_drops.specs.declared.covering.StoredPage.{StoredPage}
 use Rattle.tree_drops.specs.declared.taking.Root.{Root}
 use Rattle.tree_drops.specs.Belows.{CanGoBelow, HasMisshapen}
-use Rattle.tree_drops.specs.Chains.{ChainsOn, OnlyChains}
+use Rattle.tree_drops.specs.Chains.{OnlyChains}
 use Rattle.tree_drops.specs.ChainKeys.{key_in, CoversChildren, CoversRest, HasCoveredFrom, HasCoveredPage, HasCoveredRest, HasOpenedBelow}
-use Rattle.tree_drops.specs.ChainKeys.{HasOpenedChild, IsCoveredOr, IsInnerOr, IsInnerPage, IsUncovered, IsUncoveredCause, KeepsUncovered}
-use Rattle.tree_drops.specs.ChainKeys.{LacksFrom}
+use Rattle.tree_drops.specs.ChainKeys.{HasOpenedChild, IsCoveredOr, IsInnerOr, IsInnerPage}
 use Rattle.tree_drops.specs.Leaves.{rest_of, HasCount, KeptForHeader}
-use Rattle.tree_drops.specs.Taking.{all_headers, all_slots, keys_in, CanCover, Covers, HasCovered, IsCoverCause, IsLacking, IsLeafOf}
+use Rattle.tree_drops.specs.Taking.{all_slots, keys_in, CanCover, Covers, HasCovered, IsCoverCause, IsStoredThere, KeepsUncovered}
 use Rattle.tree_drops.proofs.BelowKeys.{glanced_reads, take_on}
 use Rattle.tree_drops.proofs.BelowLaws.{can_child, descends_below, keys_are}
 use Rattle.tree_drops.proofs.Chaining.{chained_below, chained_glanced, chained_self, chained_then, keeps_chain, keeps_later}
@@ -57,6 +54,8 @@ cover_on root halves headers sp page v w only reads can = record {
   take = take_on root halves headers (17 * suc (length halves)) v w only reads can.take;
   below = below_on sp page v w only can.below;
   storage = can.storage;
+  from = can.from;
+  to = can.to;
 }
 
 pub key_back : (slots : List ℕ) (k : Key) (v w : View) → OnlyChains v w → HasKeyIn w slots k → HasKeyIn v slots k
@@ -92,92 +91,50 @@ covered_later root halves headers sp key v w only h =
 
 -- ---- the chain is kept
 
-module _ (root : Root) (halves : List Half) (headers : List ℕ) (sp : Span) (page : ℕ) (k : Kept) (v u w : View) (only : OnlyChains v u)
-    (reads : u.reads ≡ v.reads) where
+module _ (root : Root) (sp : Span) (page : ℕ) (k : Kept) (v u w : View) (only : OnlyChains v u) (reads : u.reads ≡ v.reads) where
   abbrev Cause : KeptWhy → ℕ → ℕ → Type 0
-  Cause why word seen = IsUncoveredCause v.layout.slots root halves headers v.heads v.pages sp page why word
+  Cause why word seen = IsCoverCause v.layout.slots root v.pages sp page why word
 
   -- for the header of the first page
-  pub kept_first : HasMisshapen v.pages ⊎ IsUncovered root halves headers v.heads v.pages sp page → KeptForHeader root.slot k u w
-      → w.reads ≡ u.reads → KeepsUncovered root halves headers sp page k v w
-  kept_first cause h more = (
-    keeps_later (λ (why : KeptWhy) word seen. (why ≡ Unlike) × (word ≡ page_at u.layout.slots root.slot 0)) Cause k v u w only
+  kept_for : (reason : KeptWhy) → ((why : KeptWhy) → why ≡ reason → ((why ≡ Unlike) × HasMisshapen v.pages)
+      ⊎ ((key : Key) × (why ≡ UnlikeAt key) × IsStoredThere v.pages sp page key))
+      → KeptForHeader root.slot reason k u w → w.reads ≡ u.reads → KeepsUncovered root sp page k v w
+  kept_for reason so h more = (
+    keeps_later (λ (why : KeptWhy) word seen. (why ≡ reason) × (word ≡ page_at u.layout.slots root.slot 0)) Cause k v u w only
         (λ c. record {
-          unlike = c.0;
           place = c.1 ∙ ap (λ (l : Layout). page_at l.slots root.slot 0) (layout_chained v u only.looks.on);
-          cause = cause;
+          cause = so k.why c.0;
         })
-        (keeps_chain (λ (why : KeptWhy) word seen. (why ≡ Unlike) × (word ≡ page_at u.layout.slots root.slot 0))
-        (λ (why : KeptWhy) word seen. (why ≡ Unlike) × (word ≡ page_at u.layout.slots root.slot 0)) k u w (λ c. c) h),
+        (keeps_chain (λ (why : KeptWhy) word seen. (why ≡ reason) × (word ≡ page_at u.layout.slots root.slot 0))
+        (λ (why : KeptWhy) word seen. (why ≡ reason) × (word ≡ page_at u.layout.slots root.slot 0)) k u w (λ c. c) h),
     more ∙ reads,
   )
 
+  -- since a page is misshapen
+  pub kept_first : HasMisshapen v.pages → KeptForHeader root.slot Unlike k u w → w.reads ≡ u.reads → KeepsUncovered root sp page k v w
+  kept_first odd h more = kept_for Unlike (λ why is. inl (is, odd)) h more
+
+  -- or since a key of the snapshot is in no leaf
+  pub kept_missing : (key : Key) → IsStoredThere v.pages sp page key → KeptForHeader root.slot (UnlikeAt key) k u w
+      → w.reads ≡ u.reads → KeepsUncovered root sp page k v w
+  kept_missing key there h more = kept_for (UnlikeAt key) (λ why is. inr (key, is, there)) h more
+
   -- for what is below another page
-  pub kept_later : (own : Span) (n : ℕ)
-      → (IsUncovered root halves headers v.heads v.pages own n → IsUncovered root halves headers v.heads v.pages sp page)
-      → KeepsUncovered root halves headers own n k u w → KeepsUncovered root halves headers sp page k v w
+  pub kept_later : (own : Span) (n : ℕ) → ((key : Key) → IsStoredThere v.pages own n key → IsStoredThere v.pages sp page key)
+      → KeepsUncovered root own n k u w → KeepsUncovered root sp page k v w
   kept_later own n up h = (
-    keeps_later (λ (why : KeptWhy) word seen. IsUncoveredCause u.layout.slots root halves headers u.heads u.pages own n why word) Cause k v u w only
+    keeps_later (λ (why : KeptWhy) word seen. IsCoverCause u.layout.slots root u.pages own n why word) Cause k v u w only
         (λ c. record {
-          unlike = c.unlike;
           place = c.place ∙ ap (λ (l : Layout). page_at l.slots root.slot 0) (layout_chained v u only.looks.on);
           cause = elim c.cause [
-            | inl odd ↦ inl (subst (λ ps. HasMisshapen ps) (pages_chained v u only.looks.on) odd)
+            | inl odd ↦ inl (odd.0, subst (λ ps. HasMisshapen ps) (pages_chained v u only.looks.on) odd.1)
             | inr more ↦
-                inr (up (subst (λ (hs : List Head). IsUncovered root halves headers hs v.pages own n) only.looks.heads
-                (subst (λ ps. IsUncovered root halves headers u.heads ps own n) (pages_chained v u only.looks.on) more)))
+                inr (more.0, more.1, up more.0 (subst (λ ps. IsStoredThere ps own n more.0) (pages_chained v u only.looks.on) more.2))
           ];
         })
         h.0,
     h.1 ∙ reads,
   )
-
--- the keys of a leaf whose header is locked are what the pass knows of it
-lacking : (root : Root) (halves : List Half) (headers : List ℕ) (sp : Span) (page key : ℕ) (v w : View)
-    → CanCover root halves headers sp page v → ChainsOn v w → (h : Half) (leaf : IsLeafOf root halves headers h) (x : Head)
-    → Contains v.heads x → x.slot ≡ h.slot → has_key x.keys (key_in sp key) ≡ false
-    → IsLacking w.known h.slot (count_of leaf.header) (key_in sp key)
-lacking root halves headers sp page key v w can on h leaf x has slot none =
-    let own = can.take.taken.head x has in
-    let same : own.index ≡ leaf.index =
-    can.take.chain.once own.index leaf.index own.half h own.header leaf.header own.page leaf.page (sym own.slot ∙ slot) in
-    let at : slice_get (all_headers headers) leaf.index ≡ Some own.header =
-    subst (λ i. slice_get (all_headers headers) i ≡ Some own.header) same own.page.header in
-    let there = leaf.page.header in
-    let header : own.header ≡ leaf.header = cc in record {
-      leaf = record { slot = own.half.slot; keys = x.keys };
-      has = on.known (record { slot = own.half.slot; keys = x.keys }) own.knows;
-      slot = sym own.slot ∙ slot;
-      all = own.are.long ∙ ap (λ (n : ℕ). count_of n) header;
-      none = none;
-    }
-
--- the cause as it is told
-pub kept_cover : (root : Root) (halves : List Half) (headers : List ℕ) (sp : Span) (page : ℕ) (k : Kept) (v w : View)
-    → CanCover root halves headers sp page v → KeepsUncovered root halves headers sp page k v w
-    → HasCovered root halves headers sp page (Err k) v w
-kept_cover root halves headers sp page k v w can h = (
-  keeps_later (λ (why : KeptWhy) word seen. IsUncoveredCause v.layout.slots root halves headers v.heads v.pages sp page why word)
-      (λ (why : KeptWhy) word seen. IsCoverCause v.layout.slots root halves headers w.known v.pages sp page why word) k v v w
-      (chained_self v)
-      (λ c. record {
-        unlike = c.unlike;
-        place = c.place;
-        cause = elim c.cause [
-          | inl odd ↦ inl odd
-          | inr x ↦ inr (
-            x.key,
-            x.found,
-            x.stored,
-            λ g leaf low high.
-                let lacks = x.none g leaf low high in
-                lacking root halves headers sp page x.key v w can h.0.looks.on g leaf lacks.0 lacks.1 lacks.2 lacks.3,
-          )
-        ];
-      })
-      h.0,
-  h.1,
-)
 
 -- ---- a leaf's records
 
@@ -194,30 +151,18 @@ found_some (x ∷ rs) r has = by_test (eqb x.key r.key) refl (λ more. found_som
       | inr more ↦ rest more
     ]
 
-pub lacks_leaf : (root : Root) (halves : List Half) (headers : List ℕ) (sp : Span) (key : ℕ) (v : View)
-    → sp.storage ≡ (keys_in root).storage → LacksFrom root halves headers 0 key v → (h : Half) → IsLeafOf root halves headers h → h.low ≤ key
-    → key ≤ h.high → (x : Head) × Contains v.heads x × (x.slot ≡ h.slot) × (has_key x.keys (key_in sp key) ≡ false)
-lacks_leaf root halves headers sp key v same lacks h leaf low high =
-    let x = lacks leaf.index h leaf.header (omega arith) leaf.page leaf.leaf low high in (
-      x.0,
-      x.1,
-      x.2,
-      subst (λ (n : ℕ). has_key (x.0).keys (let k : Key = record { storage = n; key = key } in k) ≡ false) (sym same) x.3,
-    )
-
--- the record with this index is of a key that no leaf has
-pub uncovered_here : (root : Root) (halves : List Half) (headers : List ℕ) (leaf : StoredPage) (index key : ℕ) (v w : View)
-    → OnlyChains v w → leaf.span.storage ≡ (keys_in root).storage → HasCount v.pages leaf.span leaf.page leaf.count → index < leaf.count
-    → key ≡ get_or (page_words v.pages leaf.page) (16 + 3 * index) 0 → IsCoveredOr root halves headers leaf.span key false w
-    → IsUncovered root halves headers v.heads v.pages leaf.span leaf.page
-uncovered_here root halves headers leaf index key v w only same count less is lacks =
+-- the record with this index is there
+pub stored_here : (leaf : StoredPage) (index key : ℕ) (v : View) → HasCount v.pages leaf.span leaf.page leaf.count → index < leaf.count
+    → key ≡ get_or (page_words v.pages leaf.page) (16 + 3 * index) 0 → (leaf.span).low ≤ key → key ≤ (leaf.span).high
+    → IsStoredThere v.pages leaf.span leaf.page (key_in leaf.span key)
+stored_here leaf index key v count less is from to =
     let words : List ℕ = page_words v.pages leaf.page in
     let x = found_some (rest_of words 0 leaf.count) (record_at words index) (rest_has words 0 leaf.count index (omega arith) (omega (arith, less))) in
     record {
-      key = key;
+      storage = refl;
+      from = from;
+      to = to;
       found = x.0;
-      from = lacks.0;
-      to = lacks.1;
       stored = (
         0,
         record {
@@ -226,9 +171,6 @@ uncovered_here root halves headers leaf index key v w only same count less is la
               ∙ (ap (λ n. record_for (rest_of words 0 leaf.count) n) is ∙ x.1);
         },
       );
-      none = λ h own low high.
-          let y = lacks_leaf root halves headers leaf.span key w same lacks.2 h own low high in
-          (y.0, subst (λ (l : List Head). Contains l y.0) only.looks.heads y.1, y.2, y.3);
     }
 
 pub rest_none : (root : Root) (halves : List Half) (leaf : StoredPage) (index : ℕ) (v : View) → index ≡ leaf.count
@@ -274,7 +216,7 @@ pub rest_then : (root : Root) (halves : List Half) (headers : List ℕ) (leaf : 
 rest_then root halves headers leaf index here (Ok x) v u w only reads same other is covered h =
     (chained_then v u w only h.0, rest_more root halves headers leaf index here v u only same other is covered h.1, h.2 ∙ reads)
 rest_then root halves headers leaf index here (Err k) v u w only reads same other is covered h =
-    kept_later root halves headers leaf.span leaf.page k v u w only reads leaf.span leaf.page (λ x. x) h
+    kept_later root leaf.span leaf.page k v u w only reads leaf.span leaf.page (λ key x. x) h
 
 no_place : (l : List PagePlace) (i : ℕ) (q : PagePlace) → l ≡ [] → slice_get l i ≡ Some q → ⊥
 no_place [] i q none at = cc
@@ -300,21 +242,18 @@ covers_blank root halves sp page v none =
 
 -- ---- the children of a page
 
-pub uncovered_up : (root : Root) (halves : List Half) (headers : List ℕ) (heads : List Head) (pages : List (List ℕ)) (sp own : Span)
-    (page n j : ℕ) (q : PagePlace)
-    → slice_get (tree_below pages sp page) j ≡ Some q → sp.low ≤ q.low → q.high ≤ sp.high → own ≡ keys_of sp q → n ≡ q.number
-    → IsUncovered root halves headers heads pages own n → IsUncovered root halves headers heads pages sp page
-uncovered_up root halves headers heads pages sp own page n j q at low high same number x =
-    let y = subst (λ (z : Span). IsUncovered root halves headers heads pages z q.number) same
-    (subst (λ m. IsUncovered root halves headers heads pages own m) number x) in
+pub stored_up : (pages : List (List ℕ)) (sp own : Span) (page n j : ℕ) (q : PagePlace) → slice_get (tree_below pages sp page) j ≡ Some q
+    → sp.low ≤ q.low → q.high ≤ sp.high → own ≡ keys_of sp q → n ≡ q.number → (key : Key) → IsStoredThere pages own n key
+    → IsStoredThere pages sp page key
+stored_up pages sp own page n j q at low high same number key x =
+    let y = subst (λ (z : Span). IsStoredThere pages z q.number key) same (subst (λ m. IsStoredThere pages own m key) number x) in
     let from = y.from in
     let to = y.to in record {
-      key = y.key;
-      found = y.found;
+      storage = y.storage;
       from = omega (arith, from, low);
       to = omega (arith, to, high);
+      found = y.found;
       stored = (suc y.stored.0, inr (q, record { index = j; at = at; from = y.from; to = y.to }, y.stored.1));
-      none = y.none;
     }
 
 -- a page that is gone into is covered as soon as its children are
@@ -434,7 +373,7 @@ pub earlier_page : (root : Root) (halves : List Half) (headers : List ℕ) (sp :
 earlier_page root halves headers sp page (Ok count) v u w only reads h =
     (chained_then v u w only h.0, inner_back root halves sp page count v u only h.1, h.2 ∙ reads)
 earlier_page root halves headers sp page (Err k) v u w only reads h =
-    kept_later root halves headers sp page k v u w only reads sp page (λ x. x) h
+    kept_later root sp page k v u w only reads sp page (λ key x. x) h
 
 pub inner_on : (page count : ℕ) (v w : View) → OnlyChains v w → IsInnerPage v.pages page count → IsInnerPage w.pages page count
 inner_on page count v w only inner = subst (λ ps. IsInnerPage ps page count) (sym (pages_chained v w only.looks.on)) inner
@@ -478,6 +417,14 @@ module _ (root : Root) (halves : List Half) (headers : List ℕ) (page : StoredP
     take = take_on root halves headers (17 * suc (length halves)) v w goes stays can.take;
     below = can_child page.span own page.page index n v w can.below same h;
     storage = ap (λ (z : Span). z.storage) same ∙ can.storage;
+    from =
+        let low : own.low ≡ (h.child).low = ap (λ (z : Span). z.low) keys_same in
+        let all = can.from in
+        let part = h.part.from in omega (arith, low, all, part);
+    to =
+        let high : own.high ≡ (h.child).high = ap (λ (z : Span). z.high) keys_same in
+        let all = can.to in
+        let part = h.part.to in omega (arith, high, all, part);
   }
 
   pub opened_child : (count : ℕ) (z : View) → IsInnerPage v.pages page.page page.count
@@ -502,8 +449,8 @@ module _ (root : Root) (halves : List Half) (headers : List ℕ) (page : StoredP
   pub kept_child : (k : Kept) (z : View) → HasCoveredPage root halves headers own n (Err k) w z
       → HasOpenedBelow root halves headers page index (Err k) v z
   kept_child k z found =
-      kept_later root halves headers page.span page.page k v w z goes stays own n
-      (uncovered_up root halves headers v.heads v.pages page.span own page.page n index h.child h.at h.part.from h.part.to keys_same h.says) found
+      kept_later root page.span page.page k v w z goes stays own n
+      (stored_up v.pages page.span own page.page n index h.child h.at h.part.from h.part.to keys_same h.says) found
 
 -- behind a look
 pub opened_earlier : (root : Root) (halves : List Half) (headers : List ℕ) (page : StoredPage) (index : ℕ) (r : Result StoredPage Kept)
@@ -526,7 +473,7 @@ opened_earlier root halves headers page index (Ok child) v u w only reads h =
       long = subst (λ ps. length (tree_below ps page.span page.page) ≡ page.count) pages h.long;
     }
 opened_earlier root halves headers page index (Err k) v u w only reads h =
-    kept_later root halves headers page.span page.page k v u w only reads page.span page.page (λ x. x) h
+    kept_later root page.span page.page k v u w only reads page.span page.page (λ key x. x) h
 
 -- ---- all pages below
 
@@ -535,8 +482,8 @@ pub from_below : (root : Root) (halves : List Half) (headers : List ℕ) (page c
     → HasOpenedChild root halves headers page index v child u → HasCoveredFrom root halves headers child 0 (Err k) u w
     → HasCoveredFrom root halves headers page index (Err k) v w
 from_below root halves headers page child index k v u w h below =
-    kept_later root halves headers page.span page.page k v u w h.only h.reads child.span child.page
-    (uncovered_up root halves headers v.heads v.pages page.span child.span page.page child.page index h.place h.at h.low h.high h.span h.number) below
+    kept_later root page.span page.page k v u w h.only h.reads child.span child.page
+    (stored_up v.pages page.span child.span page.page child.page index h.place h.at h.low h.high h.span h.number) below
 
 pub from_more : (root : Root) (halves : List Half) (headers : List ℕ) (page child : StoredPage) (index : ℕ) (r : Result (Unit {0}) Kept)
     (v u z w : View) → HasOpenedChild root halves headers page index v child u
@@ -548,14 +495,14 @@ from_more root halves headers page child index (Ok x) v u z w h below rest = (
   rest.2 ∙ (below.2 ∙ h.reads),
 )
 from_more root halves headers page child index (Err k) v u z w h below rest =
-    kept_later root halves headers page.span page.page k v z w (chained_then v u z h.only below.0) (below.2 ∙ h.reads) page.span page.page
-    (λ x. x) rest
+    kept_later root page.span page.page k v z w (chained_then v u z h.only below.0) (below.2 ∙ h.reads) page.span page.page
+    (λ key x. x) rest
 
 pub covered_all : (root : Root) (halves : List Half) (headers : List ℕ) (sp : Span) (page count : ℕ) (r : Result (Unit {0}) Kept) (v u w : View)
-    → CanCover root halves headers sp page v → HasCoveredPage root halves headers sp page (Ok count) v u
+    → HasCoveredPage root halves headers sp page (Ok count) v u
     → HasCoveredFrom root halves headers (record { span = sp; page = page; count = count }) 0 r u w
     → HasCovered root halves headers sp page r v w
-covered_all root halves headers sp page count (Ok x) v u w can h rest = (
+covered_all root halves headers sp page count (Ok x) v u w h rest = (
   chained_then v u w h.0 rest.0,
   covers_inner root halves sp page count v h.1 record {
     each = λ j q more less at.
@@ -565,5 +512,5 @@ covered_all root halves headers sp page count (Ok x) v u w can h rest = (
   },
   rest.2 ∙ h.2,
 )
-covered_all root halves headers sp page count (Err k) v u w can h rest =
-    kept_cover root halves headers sp page k v w can (kept_later root halves headers sp page k v u w h.0 h.2 sp page (λ x. x) rest)
+covered_all root halves headers sp page count (Err k) v u w h rest =
+    kept_later root sp page k v u w h.0 h.2 sp page (λ key x. x) rest

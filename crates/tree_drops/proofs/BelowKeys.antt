@@ -31,7 +31,7 @@ use Rattle.tree_drops.proofs.TakenUnits.{same_page, taken_looked}
 pub take_on : (root : Root) (halves : List Half) (headers : List ℕ) (p : ℕ) (v w : View) → OnlyChains v w → w.reads ≡ v.reads
     → CanTake root halves headers p v → CanTake root halves headers p w
 take_on root halves headers p v w only reads can = record {
-  chain = whole_on root halves headers v w only.looks.on can.chain;
+  chain = whole_on root halves headers v w only.looks.on only.holds.ways can.chain;
   most = can.most;
   taken = taken_looked root halves headers p v w only.looks
       (λ i h n at less. ap (λ (rs : List Read). seen_at rs (page_at w.layout.slots h.slot 0)) reads

@@ -14,7 +14,6 @@ use Rattle.engine_pages.specs.declared.view.Inner.{Inner}
 use Rattle.engine_pages.specs.declared.view.KeptPage.{KeptPage}
 use Rattle.engine_pages.specs.declared.view.KeptWhy.{KeptWhy}
 use Rattle.engine_pages.specs.declared.view.KeptWhy.TheVariants.{Changed}
-use Rattle.engine_pages.specs.declared.view.Known.{Known}
 use Rattle.engine_pages.specs.declared.view.Swung.{Swung}
 use Rattle.engine_pages.specs.declared.view.View.{View}
 use Rattle.engine_pages.specs.declared.view.Way.{Way}
@@ -147,24 +146,59 @@ out_again count n v w is =
       more = record { drawn = front_refl v.history; decided = front_refl v.decided; touched = λ z has. inl has };
     }
 
+-- slots in front of others, in the other order, are held with them
+pub held_in : (slots before holds : List ℕ) → holds ≡ reverse slots ++ before → (u : ℕ) → Contains slots u → has_slot holds u ≡ true
+held_in slots before holds same u has =
+    ap (λ l. has_slot l u) same ∙ has_in (reverse slots ++ before) u (front_in (reverse slots) (to_reverse slots u has))
+  where
+    front_in : (xs : List ℕ) → Contains xs u → Contains (xs ++ before) u
+    front_in [] has = absurd (in_none u has)
+    front_in (x ∷ xs) has = elim (in_cases u x xs has) [
+      | inl one ↦ subst (λ z. Contains (x ∷ (xs ++ before)) z) one (in_head x (xs ++ before))
+      | inr more ↦ in_tail u x (xs ++ before) (front_in xs more)
+    ]
+
+    to_reverse : (xs : List ℕ) (u : ℕ) → Contains xs u → Contains (reverse xs) u
+    to_reverse [] u has = absurd (in_none u has)
+    to_reverse (x ∷ xs) u has =
+        subst (λ l. Contains l u) (sym (reverse-append (x ∷ []) xs))
+        (elim (in_cases u x xs has) [
+          | inl one ↦ subst (λ z. Contains (reverse xs ++ x ∷ []) z) one (last_in (reverse xs) x)
+          | inr more ↦ old_in (reverse xs) x u (to_reverse xs u more)
+        ])
+      where
+        last_in : (ys : List ℕ) (y : ℕ) → Contains (ys ++ y ∷ []) y
+        last_in [] y = in_head y []
+        last_in (z ∷ ys) y = in_tail y z (ys ++ y ∷ []) (last_in ys y)
+
+        old_in : (ys : List ℕ) (y q : ℕ) → Contains ys q → Contains (ys ++ y ∷ []) q
+        old_in [] y q has = absurd (in_none q has)
+        old_in (z ∷ ys) y q has = elim (in_cases q z ys has) [
+          | inl one ↦ subst (λ p. Contains (z ∷ (ys ++ y ∷ [])) p) one (in_head z (ys ++ y ∷ []))
+          | inr more ↦ in_tail q z (ys ++ y ∷ []) (old_in ys y q more)
+        ]
+
 -- ---- where a chain is kept since a word had changed, that was another one
 
 header_other : (slots u word seen expected : ℕ) → IsHeaderCause slots u (Changed expected) word seen → seen ≢ expected
 header_other slots u word seen expected h = h.1
 
-whole_other : (slots : ℕ) (root : Root) (halves : List Half) (splits : List ℕ) (known : List Known) (v : View) (word seen expected : ℕ)
-    → IsWholeCause slots root halves splits known v (Changed expected) word seen → seen ≢ expected
-whole_other slots root halves splits known v word seen expected (inl held) = elim held.2 [
+whole_other : (slots : ℕ) (root : Root) (halves : List Half) (splits : List ℕ) (v : View) (word seen expected : ℕ)
+    → IsWholeCause slots root halves splits v (Changed expected) word seen → seen ≢ expected
+whole_other slots root halves splits v word seen expected (inl held) = elim held.2 [
   | inl header ↦ header.1
   | inr parted ↦ absurd (let why = parted.0 in cc)
 ]
-whole_other slots root halves splits known v word seen expected (inr (inl long)) = absurd (let why = long.0 in cc)
-whole_other slots root halves splits known v word seen expected (inr (inr some)) = elim some.2 [
+whole_other slots root halves splits v word seen expected (inr (inl long)) = absurd (let why = long.0 in cc)
+whole_other slots root halves splits v word seen expected (inr (inr some)) = elim some.2 [
   | inl header ↦ header.2.1
   | inr rest ↦ elim rest [
     | inl record_cause ↦ record_cause.2.cause.1
     | inr last ↦ elim last [
-      | inl cover ↦ absurd (let why = cover.unlike in cc)
+      | inl cover ↦ elim cover.cause [
+        | inl odd ↦ absurd (let why = odd.0 in cc)
+        | inr lacks ↦ absurd (let why = lacks.1 in cc)
+      ]
       | inr turned ↦ λ same. turned.2 (same ∙ expected_is turned.1)
     ]
   ]
@@ -195,35 +229,7 @@ module _ (root : Root) (header : ℕ) (halves : List Half) (splits : List ℕ) (
       ]
 
   held_slot : (holds : List ℕ) → holds ≡ a.grip.holds → (u : ℕ) → Contains slots u → has_slot holds u ≡ true
-  held_slot holds same u has =
-      ap (λ l. has_slot l u) (same ∙ h.holds) ∙ has_in (reverse slots ++ v.grip.holds) u (front_in (reverse slots) (to_reverse slots u has))
-    where
-      front_in : (xs : List ℕ) → Contains xs u → Contains (xs ++ v.grip.holds) u
-      front_in [] has = absurd (in_none u has)
-      front_in (x ∷ xs) has = elim (in_cases u x xs has) [
-        | inl one ↦ subst (λ z. Contains (x ∷ (xs ++ v.grip.holds)) z) one (in_head x (xs ++ v.grip.holds))
-        | inr more ↦ in_tail u x (xs ++ v.grip.holds) (front_in xs more)
-      ]
-
-      to_reverse : (xs : List ℕ) (u : ℕ) → Contains xs u → Contains (reverse xs) u
-      to_reverse [] u has = absurd (in_none u has)
-      to_reverse (x ∷ xs) u has =
-          subst (λ l. Contains l u) (sym (reverse-append (x ∷ []) xs))
-          (elim (in_cases u x xs has) [
-            | inl one ↦ subst (λ z. Contains (reverse xs ++ x ∷ []) z) one (last_in (reverse xs) x)
-            | inr more ↦ old_in (reverse xs) x u (to_reverse xs u more)
-          ])
-        where
-          last_in : (ys : List ℕ) (y : ℕ) → Contains (ys ++ y ∷ []) y
-          last_in [] y = in_head y []
-          last_in (z ∷ ys) y = in_tail y z (ys ++ y ∷ []) (last_in ys y)
-
-          old_in : (ys : List ℕ) (y q : ℕ) → Contains ys q → Contains (ys ++ y ∷ []) q
-          old_in [] y q has = absurd (in_none q has)
-          old_in (z ∷ ys) y q has = elim (in_cases q z ys has) [
-            | inl one ↦ subst (λ p. Contains (z ∷ (ys ++ y ∷ [])) p) one (in_head z (ys ++ y ∷ []))
-            | inr more ↦ in_tail q z (ys ++ y ∷ []) (old_in ys y q more)
-          ]
+  held_slot holds same u has = held_in slots v.grip.holds holds (same ∙ h.holds) u has
 
   -- the first page isn't among them
   first_other : has_slot slots t ≡ false
@@ -253,11 +259,11 @@ module _ (root : Root) (header : ℕ) (halves : List Half) (splits : List ℕ) (
   abbrev Row : Option KeptPage → MetPages
   Row note = row_of (root.target).at (keys_in root) (root.target).page note halves splits
 
-  was_split : (known : List Known) (note : Option KeptPage) → (note ≡ None → (2 ≤ length halves) × (length halves < 63))
-      → ((k : KeptPage) → note ≡ Some k → IsWholeCause v.layout.slots root halves splits known v k.why k.word k.seen)
+  was_split : (note : Option KeptPage) → (note ≡ None → (2 ≤ length halves) × (length halves < 63))
+      → ((k : KeptPage) → note ≡ Some k → IsWholeCause v.layout.slots root halves splits v k.why k.word k.seen)
       → WasSplit v.layout.slots t (root.target).epoch v.pages
       (page_met (root.target).at (keys_in root) (root.target).page t note) (Row note)
-  was_split known note many why = record {
+  was_split note many why = record {
     once = λ u. once_with u t v.grip.holds slots (slots_in (Row note))
         (slots_row (root.target).at (keys_in root) (root.target).page note halves splits) h.fresh can.work.held;
     each = each_half t (root.target).at (keys_in root) (root.target).page note halves splits v a h;
@@ -266,7 +272,7 @@ module _ (root : Root) (header : ℕ) (halves : List Half) (splits : List ℕ) (
         let long = length_row (root.target).at (keys_in root) (root.target).page note halves splits in
         let low = x.0 in
         let high = x.1 in (omega (arith, long, low), omega (arith, long, high));
-    cause = λ k is. elim (cause_met root note halves splits v a v h v.layout.slots known k.why k.word k.seen (why k is)) [
+    cause = λ k is. elim (cause_met root note halves splits v a v h v.layout.slots k.why k.word k.seen (why k is)) [
       | inl cause ↦ inl cause
       | inr turned ↦ inr record {
         expected = root.word;
@@ -281,7 +287,7 @@ module _ (root : Root) (header : ℕ) (halves : List Half) (splits : List ℕ) (
   -- ---- it was kept
 
   module _ (k : Kept) (e : View) (same : a ≡ e) (looks : ChainLooks v e)
-      (noted : NotedFor (IsWholeCause v.layout.slots root halves splits e.known v) k v e) (count n : ℕ) (g : View)
+      (noted : NotedFor (IsWholeCause v.layout.slots root halves splits v) k v e) (count n : ℕ) (g : View)
       (many : count ≡ length halves) (again : g ≡ noted_again count n e) where
     abbrev note : KeptPage
     note = noted.page
@@ -340,9 +346,9 @@ module _ (root : Root) (header : ℕ) (halves : List Half) (splits : List ℕ) (
     e_reads = left_reads slots g ∙ ap (λ (z : View). z.reads) again
 
     other_word : (why : KeptWhy) (word seen expected : ℕ) → why ≡ Changed expected
-        → IsWholeCause v.layout.slots root halves splits e.known v why word seen → seen ≢ expected
-    other_word why word seen expected is cause = whole_other v.layout.slots root halves splits e.known v word seen expected
-        (subst (λ y. IsWholeCause v.layout.slots root halves splits e.known v y word seen) is cause)
+        → IsWholeCause v.layout.slots root halves splits v why word seen → seen ≢ expected
+    other_word why word seen expected is cause = whole_other v.layout.slots root halves splits v word seen expected
+        (subst (λ y. IsWholeCause v.layout.slots root halves splits v y word seen) is cause)
 
     module _ (old new : Dropped) (w : View) (tells : TellsPointer (root.target).at root.word k v e)
         (beside : KeepsBeside root halves v e) (leaves : w ≡ left t mid)
@@ -370,10 +376,10 @@ module _ (root : Root) (header : ℕ) (halves : List Half) (splits : List ℕ) (
           let sight = sight_noted (λ x. ⊤) target.place (keys_in root) target.at t target.page root.word target.epoch v e can.work
           k note told tells
           (λ is. other_word k.why k.word k.seen root.word is noted.so) in
-          let split = was_split e.known (Some note) (λ is. absurd (cc))
-          (λ x is. subst (λ (y : KeptPage). IsWholeCause v.layout.slots root halves splits e.known v y.why y.word y.seen)
+          let split = was_split (Some note) (λ is. absurd (cc))
+          (λ x is. subst (λ (y : KeptPage). IsWholeCause v.layout.slots root halves splits v y.why y.word y.seen)
           (let one : note ≡ x = cc in one)
-          (subst (λ (y : KeptPage). IsWholeCause v.layout.slots root halves splits e.known v y.why y.word y.seen) (sym told) noted.so)) in record {
+          (subst (λ (y : KeptPage). IsWholeCause v.layout.slots root halves splits v y.why y.word y.seen) (sym told) noted.so)) in record {
             below = Row (Some note);
             note = Some note;
             mid = mid;
@@ -632,7 +638,7 @@ module _ (root : Root) (header : ℕ) (halves : List Half) (splits : List ℕ) (
       ended_dropped =
           let target = root.target in
           let slots_are = slots_row target.at (keys_in root) target.page None halves splits in
-          let split = was_split v.known None (λ is. many) (λ x is. absurd (cc)) in
+          let split = was_split None (λ is. many) (λ x is. absurd (cc)) in
           let front : IsFront v.pages w.pages = subst (λ ps. IsFront v.pages ps) (sym (ap (λ (z : View). z.pages) leaves)) last_over.front in record {
             below = Row None;
             note = None;

@@ -1,5 +1,5 @@
 -- All pages of a chain are held: what was found in them is what locking them asks, and what work on it comes to.
-use Rattle.std.proofs.Common.{◌≡◌, ◌≢◌, ◌⊎◌, inl, inr, ℕ, zero, suc, ◌+◌, ◌<◌, ◌≤◌, Bool, true, false, true≢false, ltb, ltb-true, ltb-false}
+use Rattle.std.proofs.Common.{◌≡◌, ◌≢◌, ◌⊎◌, inl, inr, ℕ, zero, suc, ◌+◌, ◌<◌, ◌≤◌, Bool, true, false, true≢false}
 use Rattle.std.proofs.Common.{List, [], ◌∷◌, ◌++◌, length, refl, sym, ap, ◌∙◌, subst, arith, Some}
 use Rattle.std.specs.Prelude.{Err, Ok, Result, ◌||◌, ◌==◌}
 use Rattle.std.specs.List.{Contains, slice_get}
@@ -24,12 +24,13 @@ use Rattle.page_drops.specs.declared.noting.Kept.{Kept}
 use Rattle.page_drops.specs.Works.{read_of, IsOutside}
 use Rattle.page_drops.proofs.Entries.{seen_same}
 use Rattle.tree_drops.specs.declared.taking.Root.{Root}
-use Rattle.tree_drops.specs.Chains.{first_page, span_in, split_header, way_in, AreFound, AreFresh, AreHeld, CanGather, HasGathered}
-use Rattle.tree_drops.specs.Chains.{IsBeside, IsEarlier, IsFoundSo, IsHoldCause, IsUnsplit, NotedFor}
+use Rattle.tree_drops.specs.Chains.{first_page, span_in, split_header, way_in, AreFound, AreFresh, AreHeld, CameOf, CanGather}
+use Rattle.tree_drops.specs.Chains.{ChainsOn, HasGathered, IsBeside, IsEarlier, IsFoundSo, IsHoldCause, IsUnsplit, NotedFor}
 use Rattle.tree_drops.specs.Leaves.{AtTree}
 use Rattle.tree_drops.specs.Releases.{CanWorkChain, HasKeptLong, HasWorkedChain, HoldsHalves, IsHalfless, IsLongSo, IsWholeCause}
-use Rattle.tree_drops.specs.Taking.{all_headers, all_pages, all_slots, keys_in, AreApart, AreTaken, CanTake, HasTaken, IsKnownPage}
+use Rattle.tree_drops.specs.Taking.{all_slots, keys_in, AreApart, AreTaken, CanTake, HasTaken, IsKnownPage}
 use Rattle.tree_drops.specs.Taking.{IsLeafOf, IsPageAt, IsTakeCause, IsWholeChain, KeepsBeside}
+use Rattle.tree_drops.specs.Visits.{IsNarrower}
 use Rattle.tree_drops.proofs.Chaining.{chain_then, layout_chained, lead_chained, pages_chained, past_chained, role_chained}
 use Rattle.tree_drops.proofs.Chaining.{tree_at_chained, tree_chained}
 use Rattle.tree_drops.proofs.ChainLeft.{fresh_in, fresh_other}
@@ -89,9 +90,24 @@ slots_have (g ∷ hs) h has = elim (in_cases h g hs has) [
   | inr more ↦ in_tail h.slot g.slot (slots_of hs) (slots_have hs h more)
 ]
 
+-- a slot of a list is one of the list with one more at its end
+slots_more : (hs : List Half) (t u : ℕ) → has_slot (slots_of hs) u ≡ true → has_slot (slots_of hs ++ t ∷ []) u ≡ true
+slots_more [] t u has = absurd (true≢false (sym has))
+slots_more (h ∷ hs) t u has = by_test (h.slot == u) has (slots_more hs t u)
+  where
+    by_test : (c : Bool) → (c || has_slot (slots_of hs) u) ≡ true
+        → (has_slot (slots_of hs) u ≡ true → has_slot (slots_of hs ++ t ∷ []) u ≡ true)
+        → (c || has_slot (slots_of hs ++ t ∷ []) u) ≡ true
+    by_test true here rest = refl
+    by_test false here rest = rest here
+
 append_to : (xs ys zs : List Way) → xs ++ (ys ++ zs) ≡ (xs ++ ys) ++ zs
 append_to [] ys zs = refl
 append_to (x ∷ xs) ys zs = ap (λ l. x ∷ l) (append_to xs ys zs)
+
+-- what a half came of is known still
+came_on : (t : ℕ) (halves : List Half) (g : Half) (u : ℕ) (v w : View) → ChainsOn v w → CameOf t halves g u v → CameOf t halves g u w
+came_on t halves g u v w on c = record { moved = c.moved; has = on.moved c.moved c.has; slot = c.slot; leads = c.leads }
 
 -- ---- all pages are held
 
@@ -150,7 +166,7 @@ module _ (root : Root) (header : ℕ) (v : View) (can : CanWorkChain root header
     ours = held.ours;
     inside = λ h has. let x = held.inside h has in (x.0, x.1, x.2);
     paired = held.paired;
-    came = λ j h u at split. (held.came j h u at split).0;
+    came = held.came;
   }
 
   -- ---- a word was seen meanwhile for which it is kept
@@ -195,11 +211,12 @@ module _ (root : Root) (header : ℕ) (v : View) (can : CanWorkChain root header
                 let y = held.inside g has in
                 (y.0, y.1, subst (λ (l : Layout). g.slot < l.slots) (sym (layout_chained a w h.looks.on)) y.2);
             paired = held.paired;
-            came = λ j g u at split. (held.came j g u at split).0;
+            came = λ j g u at split.
+                let one = held.came j g u at split in (one.0, came_on root.slot halves g u a w h.looks.on one.1);
           },
           (
             chain_then v a w held.looks h.looks,
-            noted_between (IsLongSo a.layout.slots root) (IsWholeCause v.layout.slots root halves splits w.known v) k v a w w kept h.kept refl
+            noted_between (IsLongSo a.layout.slots root) (IsWholeCause v.layout.slots root halves splits v) k v a w w kept h.kept refl
                 (λ so. inr (inl (
                   so.0,
                   so.1 ∙ ap (λ (l : Layout). page_at l.slots root.slot 0) layout,
@@ -381,6 +398,17 @@ module _ (root : Root) (header : ℕ) (v : View) (can : CanWorkChain root header
               subst (λ z. has_slot (all_slots root halves) z ≡ true) half.4
               (slot_in halves root.slot half.1 (among_at halves half.0 half.1 half.3))
 
+      -- what it holds besides is round the chain
+      ways : (x : Way) → Contains a.ways x → (has_slot (all_slots root halves) x.slot ≡ true) ⊎ IsNarrower x.span (keys_in root)
+      ways x has = elim (in_either held.added v.ways x (subst (λ (l : List Way). Contains l x) held.ways has)) [
+        | inl new ↦ inl (slots_more halves root.slot x.slot (held.ours x new))
+        | inr old ↦ elim (can.work.narrow x old) [
+          | inl first ↦
+              inl (subst (λ z. has_slot (all_slots root halves) z ≡ true) (sym (ap (λ (z : Way). z.slot) first)) (first_in halves root.slot))
+          | inr wide ↦ inr wide
+        ]
+      ]
+
       whole : IsWholeChain root halves headers a
       whole = record {
         tree = tree;
@@ -397,6 +425,7 @@ module _ (root : Root) (header : ℕ) (v : View) (can : CanWorkChain root header
         each = each;
         once = once;
         parts = parts;
+        ways = ways;
       }
 
       no_heads : (x : Head) → Contains a.heads x → ⊥
@@ -445,34 +474,6 @@ module _ (root : Root) (header : ℕ) (v : View) (can : CanWorkChain root header
           let p = leaf_half x.index h x.header x.page x.leaf in
           found.whole x.index h p.0 (unsplit x.index x.header p.1 x.leaf) j s at is
 
-      halfless_leaf : (h : Half) → Contains (all_pages root halves) h → IsHalfless splits h.slot → IsLeafOf root halves headers h
-      halfless_leaf h has none =
-          let at = index_of (all_pages root halves) h has in
-          let less = at.1 in
-          let n = some_at (all_headers headers) at.0 (omega (
-            arith,
-            less,
-            same,
-            longer Half halves (first_page root.slot (keys_in root)),
-            longer ℕ headers split_header,
-          )) in
-          by_test at.0 n.0 (record { page = at.2; header = n.1 }) (ltb n.0 moved_bit) refl
-        where
-          longer : (A : Type 0) (xs : List A) (y : A) → length (xs ++ y ∷ []) ≡ suc (length xs)
-          longer A [] y = refl
-          longer A (x ∷ xs) y = ap suc (longer A xs y)
-
-          by_test : (i n : ℕ) → IsPageAt root halves headers i h n → (c : Bool) → ltb n moved_bit ≡ c → IsLeafOf root halves headers h
-          by_test i n at true e = record { index = i; header = n; page = at; leaf = ltb-true n moved_bit e }
-          by_test i n at false e = absurd (elim (page_cases i h n at) [
-            | inl half ↦
-                let j = found.halved i h n half.0 half.1 (ltb-false n moved_bit e) in
-                none j.0 h.slot j.1 refl
-            | inr first ↦
-                let j = found.top in
-                none j.0 root.slot j.1 (ap (λ (z : Half). z.slot) first.1)
-          ])
-
       pub worked_untaken : (k : Kept) (w : View) → a.kept ≡ v.kept → HasTaken root halves headers (Err k) a w
           → HasWorkedChain root halves (Err k) v w
       worked_untaken k w kept (keeps, (tells, beside)) = (
@@ -487,18 +488,19 @@ module _ (root : Root) (header : ℕ) (v : View) (can : CanWorkChain root header
               let y = held.inside g has in
               (y.0, y.1, subst (λ (l : Layout). g.slot < l.slots) (sym (layout_chained a w keeps.looks.on)) y.2);
           paired = held.paired;
-          came = λ j g u at split. (held.came j g u at split).0;
+          came = λ j g u at split.
+              let one = held.came j g u at split in (one.0, came_on root.slot halves g u a w keeps.looks.on one.1);
         },
         (
           chain_then v a w held.looks keeps.looks,
-          noted_between (IsTakeCause a.layout.slots root halves headers w.known a.pages)
-              (IsWholeCause v.layout.slots root halves splits w.known v) k v a w w kept keeps.kept refl
+          noted_between (IsTakeCause a.layout.slots root halves headers a.pages)
+              (IsWholeCause v.layout.slots root halves splits v) k v a w w kept keeps.kept refl
               (λ so. inr (inr (
                 headers,
-                (leaf_halfless, halfless_leaf),
-                subst (λ ps. IsTakeCause v.layout.slots root halves headers w.known ps k.why k.word k.seen)
+                leaf_halfless,
+                subst (λ ps. IsTakeCause v.layout.slots root halves headers ps k.why k.word k.seen)
                     (pages_chained v a held.looks.on)
-                    (subst (λ (l : Layout). IsTakeCause l.slots root halves headers w.known a.pages k.why k.word k.seen) layout so),
+                    (subst (λ (l : Layout). IsTakeCause l.slots root halves headers a.pages k.why k.word k.seen) layout so),
               ))),
           tells_around (root.target).at root.word k v a w w pointer_stays refl tells,
           beside_then root halves v a w layout beside_held beside,

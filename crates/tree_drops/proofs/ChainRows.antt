@@ -189,7 +189,7 @@ module _ (t at : ℕ) (sp : Span) (page : ℕ) (note : Option KeptPage) (halves 
         is = ap (λ (z : MetPage). z.slot) r.is;
         split = r.split;
         half = ap (λ (z : MetPage). z.half) r.is;
-        of = before_row j r.split (holds.came j r.half r.split r.at_half r.at_split);
+        of = before_row j r.split (holds.came j r.half r.split r.at_half r.at_split).0;
         storage = ap (λ (z : MetPage). z.span.storage) r.is;
         from = subst (λ (z : MetPage). sp.low ≤ z.span.low) (sym r.is) inside.0;
         to = subst (λ (z : MetPage). z.span.high ≤ sp.high) (sym r.is) inside.1;

@@ -14,6 +14,7 @@ use Rattle.drop_core.specs.Table.{has_slot}
 use Rattle.engine_pages.specs.declared.layout.Layout.{Layout}
 use Rattle.engine_pages.specs.declared.view.Head.{Head}
 use Rattle.engine_pages.specs.declared.view.View.{View}
+use Rattle.engine_pages.specs.declared.view.Way.{Way}
 use Rattle.engine_pages.specs.Layout.{page_at, words_of}
 use Rattle.engine_pages.specs.Pages.{is_array, is_tree, root_span}
 use Rattle.engine_pages.specs.Layout.{root_at}
@@ -74,9 +75,9 @@ known_page_on root halves h n v w on k = record {
   split = λ moved. let s = k.split moved in (s.0, (s.1.0, on.moved s.1.0 s.1.1, s.1.2, s.1.3, s.1.4));
 }
 
-pub whole_on : (root : Root) (halves : List Half) (headers : List ℕ) (v w : View) → ChainsOn v w
+pub whole_on : (root : Root) (halves : List Half) (headers : List ℕ) (v w : View) → ChainsOn v w → w.ways ≡ v.ways
     → IsWholeChain root halves headers v → IsWholeChain root halves headers w
-whole_on root halves headers v w on c =
+whole_on root halves headers v w on ways c =
     let layout = layout_chained v w on in record {
       tree = tree_chained root.slot (root.target).page (keys_in root) v w on c.tree;
       place = place_chained (root.target).place (keys_in root) (root.target).at v w on c.place;
@@ -92,6 +93,7 @@ whole_on root halves headers v w on c =
       each = λ i h n at. known_page_on root halves h n v w on (c.each i h n at);
       once = c.once;
       parts = c.parts;
+      ways = λ x has. c.ways x (subst (λ (l : List Way). Contains l x) ways has);
     }
 
 -- ---- slots of pages

@@ -10,7 +10,6 @@ use Rattle.drop_core.specs.Table.{has_slot}
 use Rattle.engine_pages.specs.declared.layout.Layout.{Layout}
 use Rattle.engine_pages.specs.declared.view.Head.{Head}
 use Rattle.engine_pages.specs.declared.view.KeptWhy.{KeptWhy}
-use Rattle.engine_pages.specs.declared.view.Known.{Known}
 use Rattle.engine_pages.specs.declared.view.View.{View}
 use Rattle.engine_pages.specs.Layout.{page_at}
 use Rattle.engine_pages.specs.Steps.{seen_at}
@@ -32,7 +31,7 @@ use Rattle.tree_drops.specs.Taking.{HasTaken, HasUndone}
 use Rattle.tree_drops.specs.Taking.{IsPageAt, IsPageCause, IsTakeCause, IsThatPage, IsWholeChain, KeepsBeside}
 use Rattle.tree_drops.proofs.Chaining.{chains_self, chains_then, holds_self, holds_then, layout_chained, pages_chained}
 use Rattle.tree_drops.proofs.Chaining.{tree_chained}
-use Rattle.tree_drops.proofs.ChainSwung.{page_slot, whole_on}
+use Rattle.tree_drops.proofs.ChainSwung.{known_page_on, page_slot, whole_on}
 use Rattle.tree_drops.proofs.ChainUndo.{can_open_recorded, undone_headed, undone_recorded, undone_sealed}
 use Rattle.tree_drops.proofs.Heads.{tells_around}
 use Rattle.tree_drops.proofs.TakenUnits.{key_new, key_untaken, same_page, taken_headed, taken_nothing, taken_recorded, taken_sealed}
@@ -178,7 +177,8 @@ module _ (root : Root) (halves : List Half) (headers : List ℕ) (i j : ℕ) (pa
         new = λ k key.
             key_new root halves headers i j h n v can.chain that.at unit can.taken r x.0 k next leaf x.1 x.2
             (subst (λ ks. slice_get ks r ≡ Some k) (known_keys_are x.0 x.1 x.2) key);
-        own = key_untaken root halves headers i j h n v can.chain that.at unit can.taken r next;
+        own = key_untaken root halves headers i j h n v can.chain that.at unit can.taken r next x;
+        head = x;
       }
 
   pub work_can : CanWorkOn root page j v
@@ -198,7 +198,7 @@ module _ (root : Root) (halves : List Half) (headers : List ℕ) (i j : ℕ) (pa
 
   -- ---- what comes of it
 
-  module _ (w : View) (reads : KeepsReads h.slot v w) (on : ChainsOn v w) where
+  module _ (w : View) (reads : KeepsReads h.slot v w) (on : ChainsOn v w) (holds : HoldsSame v w) where
     seen_next : (k : ℕ) (g : Half) (m : ℕ) → IsPageAt root halves headers k g m → p + 1 ≤ 17 * k
         → seen_at w.reads (page_at w.layout.slots g.slot 0) ≡ seen_at v.reads (page_at v.layout.slots g.slot 0)
     seen_next = seen_on root halves headers i h n v w can.chain that.at reads (layout_chained v w on) (p + 1) (omega arith)
@@ -210,7 +210,7 @@ module _ (root : Root) (halves : List Half) (headers : List ℕ) (i j : ℕ) (pa
 
     next_with : i < suc (length halves) → AreTaken root halves headers (p + 1) w → CanTake root halves headers (p + 1) w
     next_with few taken = record {
-      chain = whole_on root halves headers v w on can.chain;
+      chain = whole_on root halves headers v w on holds.ways can.chain;
       most = omega (arith, few, unit);
       taken = taken;
       met = met_still;
@@ -222,29 +222,29 @@ module _ (root : Root) (halves : List Half) (headers : List ℕ) (i j : ℕ) (pa
       by_done : (d : Done) → HasDone root own j d v w → CanTake root halves headers (p + 1) w
       by_done Nothing s =
           subst (λ (z : View). CanTake root halves headers (p + 1) z) (sym s.0)
-          (next_with v (reads_self h.slot v) (chains_self v) few
+          (next_with v (reads_self h.slot v) (chains_self v) (holds_self v) few
           (taken_nothing root halves headers i j h n v can.chain that.at unit can.taken s.1 s.2))
       by_done Sealed s =
-          next_with w s.0.reads s.0.on few
+          next_with w s.0.reads s.0.on s.0.holds few
           (taken_sealed root halves headers i j h n v can.chain that.at unit can.taken own w refl s.2 s.1 s.0
-          (seen_next w s.0.reads s.0.on))
+          (seen_next w s.0.reads s.0.on s.0.holds))
       by_done Headed s =
-          next_with w s.0.reads s.0.on few
+          next_with w s.0.reads s.0.on s.0.holds few
           (taken_headed root halves headers i j h n v can.chain that.at unit can.taken own w refl refl refl s.2 s.1 s.0
-          (seen_next w s.0.reads s.0.on))
+          (seen_next w s.0.reads s.0.on s.0.holds))
       by_done (Recorded key word) s =
           let r = s.0 in
           let x = head_here (let next = s.1 in omega (arith, next)) s.2 in
-          next_with w s.4.reads s.4.on few
+          next_with w s.4.reads s.4.on s.4.holds few
           (taken_recorded root halves headers i j h n v can.chain that.at unit can.taken own w r word x.0 key refl s.1 s.2 x.1 x.2
           (subst (λ ks. slice_get ks r ≡ Some key) (known_keys_are x.0 x.1 x.2) (s.4.at (known_keys x.0 x.1 x.2))) s.4
-          (seen_next w s.4.reads s.4.on))
+          (seen_next w s.4.reads s.4.on s.4.holds))
 
   -- ---- it is kept at this unit
 
-  cause_of : (known : List Known) (why : KeptWhy) (word seen : ℕ) → IsPageCause v.layout.slots root own v.pages why word seen
-      → IsTakeCause v.layout.slots root halves headers known v.pages why word seen
-  cause_of known why word seen (inl header) = inl (h, page_among, header)
+  cause_of : (why : KeptWhy) (word seen : ℕ) → IsPageCause v.layout.slots root own v.pages why word seen
+      → IsTakeCause v.layout.slots root halves headers v.pages why word seen
+  cause_of why word seen (inl header) = inl (h, page_among, header)
     where
       at_among : (hs : List Half) (k : ℕ) (g : Half) → slice_get hs k ≡ Some g → Contains hs g
       at_among [] k g at = absurd (cc)
@@ -253,10 +253,10 @@ module _ (root : Root) (halves : List Half) (headers : List ℕ) (i j : ℕ) (pa
 
       page_among : Contains (all_pages root halves) h
       page_among = at_among (all_pages root halves) i h that.at.page
-  cause_of known why word seen (inr (inl both)) =
+  cause_of why word seen (inr (inl both)) =
       inr (inl (h, record { index = i; header = n; page = that.at; leaf = both.0 }, both.1))
-  cause_of known why word seen (inr (inr other)) =
-      inr (inr (inl record { unlike = other.0; place = other.1; cause = inl other.2 }))
+  cause_of why word seen (inr (inr other)) =
+      inr (inr (inl record { place = other.1; cause = inl (other.0, other.2) }))
 
   pub kept_here : (k : Kept) (w : View) → KeepsChain (IsPageCause v.layout.slots root page v.pages) k v w × KeepsReads page.slot v w
       → HasTaken root halves headers (Err k) v w
@@ -270,7 +270,7 @@ module _ (root : Root) (halves : List Half) (headers : List ℕ) (i j : ℕ) (pa
             page = h'.0.kept.page;
             is = h'.0.kept.is;
             told = h'.0.kept.told;
-            so = cause_of w.known k.why k.word k.seen h'.0.kept.so;
+            so = cause_of k.why k.word k.seen h'.0.kept.so;
           };
         },
         (
@@ -281,13 +281,12 @@ module _ (root : Root) (halves : List Half) (headers : List ℕ) (i j : ℕ) (pa
 
   -- ---- or behind it
 
-  cause_back : (known later : List Known) (w : View) → ChainsOn v w → later ≡ known → (why : KeptWhy) (word seen : ℕ)
-      → IsTakeCause w.layout.slots root halves headers known w.pages why word seen
-      → IsTakeCause v.layout.slots root halves headers later v.pages why word seen
-  cause_back known later w on same why word seen so =
-      subst (λ (xs : List Known). IsTakeCause v.layout.slots root halves headers xs v.pages why word seen) (sym same)
-      (subst (λ ps. IsTakeCause v.layout.slots root halves headers known ps why word seen) (pages_chained v w on)
-      (subst (λ (l : Layout). IsTakeCause l.slots root halves headers known w.pages why word seen) (layout_chained v w on) so))
+  cause_back : (w : View) → ChainsOn v w → (why : KeptWhy) (word seen : ℕ)
+      → IsTakeCause w.layout.slots root halves headers w.pages why word seen
+      → IsTakeCause v.layout.slots root halves headers v.pages why word seen
+  cause_back w on why word seen so =
+      subst (λ ps. IsTakeCause v.layout.slots root halves headers ps why word seen) (pages_chained v w on)
+      (subst (λ (l : Layout). IsTakeCause l.slots root halves headers w.pages why word seen) (layout_chained v w on) so)
 
   -- what is around a unit of work
   pub record IsAround (w : View) : Type 0 where
@@ -337,7 +336,7 @@ module _ (root : Root) (halves : List Half) (headers : List ℕ) (i j : ℕ) (pa
       by_done : ChainsOn v e → (d : Done) → HasDone root own j d v w → CanUndo root own j d e
       by_done all Nothing s = tt
       by_done all Sealed s =
-          let known = (whole_on root halves headers v e all can.chain).each i h n that.at in
+          let known = known_page_on root halves h n v e all (can.chain.each i h n that.at) in
           let split = known.split s.1 in
           let keys = known.keys in record {
             page = (tree_chained h.slot (root.target).page (span_in (keys_in root) h) v e all own_tree).over;
@@ -415,24 +414,24 @@ module _ (root : Root) (halves : List Half) (headers : List ℕ) (i j : ℕ) (pa
               let before = x.5 in absurd (omega (arith, before, index, first))
 
       by_done : ChainsOn v e → (d : Done) → HasDone root own j d v w → HasUndone own j d e z
-          → KeepsChain (IsTakeCause v.layout.slots root halves headers z.known v.pages) k v z × KeepsReads h.slot e z
+          → KeepsChain (IsTakeCause v.layout.slots root halves headers v.pages) k v z × KeepsReads h.slot e z
       by_done all Nothing s u =
-          subst (λ (y : View). KeepsChain (IsTakeCause v.layout.slots root halves headers y.known v.pages) k v y × KeepsReads h.slot e y)
+          subst (λ (y : View). KeepsChain (IsTakeCause v.layout.slots root halves headers v.pages) k v y × KeepsReads h.slot e y)
           (sym u)
-          (subst (λ (y : View). KeepsChain (IsTakeCause y.layout.slots root halves headers e.known y.pages) k y e) s.0 h'.0, reads_self h.slot e)
+          (subst (λ (y : View). KeepsChain (IsTakeCause y.layout.slots root halves headers y.pages) k y e) s.0 h'.0, reads_self h.slot e)
       by_done all Sealed s u = (
-        undone_sealed (IsTakeCause w.layout.slots root halves headers e.known w.pages)
-            (IsTakeCause v.layout.slots root halves headers z.known v.pages) k own
+        undone_sealed (IsTakeCause w.layout.slots root halves headers w.pages)
+            (IsTakeCause v.layout.slots root halves headers v.pages) k own
             (page_at e.layout.slots h.slot 0) split_header v w e z s.0 (low_seals s.2) h'.0 u
-            (cause_back e.known z.known w s.0.on (ap (λ (y : View). y.known) u) k.why k.word k.seen),
+            (cause_back w s.0.on k.why k.word k.seen),
         reads_more h.slot 0 (page_at e.layout.slots h.slot 0) split_header e e z (omega arith) refl (reads_self h.slot e)
             (ap (λ (y : View). y.reads) u),
       )
       by_done all Headed s u = (
-        undone_headed (IsTakeCause w.layout.slots root halves headers e.known w.pages)
-            (IsTakeCause v.layout.slots root halves headers z.known v.pages) k own
+        undone_headed (IsTakeCause w.layout.slots root halves headers w.pages)
+            (IsTakeCause v.layout.slots root halves headers v.pages) k own
             (page_at e.layout.slots h.slot 0) n v w e z s.0 (low_heads s.2) h'.0 u
-            (cause_back e.known z.known w s.0.on (ap (λ (y : View). y.known) u) k.why k.word k.seen),
+            (cause_back w s.0.on k.why k.word k.seen),
         reads_more h.slot 0 (page_at e.layout.slots h.slot 0) n e e z (omega arith) refl (reads_self h.slot e)
             (ap (λ (y : View). y.reads) u),
       )
@@ -445,9 +444,9 @@ module _ (root : Root) (halves : List Half) (headers : List ℕ) (i j : ℕ) (pa
           let tree = tree_chained h.slot (root.target).page (span_in (keys_in root) h) v e all own_tree in
           let at = page_at e.layout.slots h.slot (17 + 3 * r) in
           let is : z ≡ reopened key at word e = opened_is key at word e z tree.idle (u r s.1) in (
-            undone_recorded (IsTakeCause w.layout.slots root halves headers e.known w.pages)
-                (IsTakeCause v.layout.slots root halves headers z.known v.pages) k root own r at word key v w e z s.4 h'.0 is
-                (cause_back e.known z.known w s.4.on (ap (λ (y : View). y.known) is) k.why k.word k.seen),
+            undone_recorded (IsTakeCause w.layout.slots root halves headers w.pages)
+                (IsTakeCause v.layout.slots root halves headers v.pages) k root own r at word key v w e z s.4 h'.0 is
+                (cause_back w s.4.on k.why k.word k.seen),
             reads_more h.slot (17 + 3 * r) at word e e z (omega (arith, few, next, low)) refl (reads_self h.slot e)
                 (ap (λ (y : View). y.reads) is),
           )

@@ -10,20 +10,23 @@ use Rattle.homes.specs.Homes.{has_key}
 use Rattle.dual_pointer.specs.Installs.{tree_records}
 use Rattle.snapshot_store.specs.Places.{page as page_words}
 use Rattle.snapshot_store.specs.TreePages.{Record}
+use Rattle.engine_pages.specs.declared.layout.Layout.{Layout}
 use Rattle.engine_pages.specs.declared.view.KeptWhy.{KeptWhy}
-use Rattle.engine_pages.specs.declared.view.KeptWhy.TheVariants.{Unlike}
+use Rattle.engine_pages.specs.declared.view.KeptWhy.TheVariants.{UnlikeAt}
+use Rattle.engine_pages.specs.declared.view.Read.{Read}
 use Rattle.engine_pages.specs.declared.view.View.{View}
 use Rattle.engine_pages.specs.Layout.{page_at}
+use Rattle.engine_pages.specs.Steps.{seen_at}
 use Rattle.page_drops.specs.declared.noting.Kept.{Kept}
-use Rattle.page_drops.specs.Works.{HasGlanced}
-use Rattle.tree_drops.specs.Leaves.{has_key_from, rest_of, CoversAll, HasCount, IsHeadUnlike, IsKeyOf, IsKnownCause, IsLeafCause}
-use Rattle.tree_drops.specs.Leaves.{KeptForHeader, KnowsKeys}
+use Rattle.page_drops.specs.Works.{HasGlanced, LacksKey}
+use Rattle.tree_drops.specs.Leaves.{has_key_from, rest_of, CoversAll, HasCount, IsCauseAt, IsKeyLacking, IsKeyOf, IsKeyUnlike}
+use Rattle.tree_drops.specs.Leaves.{IsLeafCause, IsSeenWhole, KeptForHeader, KnowsKeys}
 use Rattle.tree_drops.specs.Works.{KeepsIt, OnlyLooks, WorksOn}
 use Rattle.tree_drops.proofs.Founds.{record_at, rest_first}
-use Rattle.tree_drops.proofs.Heads.{known_back}
+use Rattle.tree_drops.proofs.Heads.{cause_back}
 use Rattle.tree_drops.proofs.KeyLists.{here_from, next_from, none_from, other_keys}
 use Rattle.tree_drops.proofs.Places.{key_is}
-use Rattle.tree_drops.proofs.Works.{keeps_then, keys_worked, only_glanced, works_self}
+use Rattle.tree_drops.proofs.Works.{keeps_then, keys_worked, layout_worked, only_glanced}
 
 -- ---- results
 
@@ -117,35 +120,70 @@ rest_has words j (suc n) i low less =
         in_tail (record_at words i) (record_at words j) (rest_of words (j + 1) n) (later (omega (arith, more)))
 
 -- where one isn't, the page is kept for its header
-pub keeps_header : (t page epoch count records i key : ℕ) (sp : Span) (k : Kept) (v w z : View) (x : KnowsKeys t sp count v) → OnlyLooks v w
+pub keeps_header : (t page epoch records i key : ℕ) (sp : Span) (k : Kept) (v w z : View) → OnlyLooks v w
     → HasCount v.pages sp page records → i < records → key ≡ get_or (page_words v.pages page) (16 + 3 * i) 0
-    → has_key (x.leaf).keys (record { storage = sp.storage; key = key }) ≡ false → KeptForHeader t k w z
-    → KeepsIt (IsKnownCause t sp page epoch v z) k v z
-keeps_header t page epoch count records i key sp k v w z x only counted less is none keeps =
-    keeps_then (λ why word seen. (why ≡ Unlike) × (word ≡ page_at w.layout.slots t 0)) (IsKnownCause t sp page epoch v z) k v w z only
+    → KeptForHeader t (UnlikeAt (record { storage = sp.storage; key = key })) k w z → KeepsIt (IsCauseAt t sp page epoch v) k v z
+keeps_header t page epoch records i key sp k v w z only counted less is keeps =
+    let of : Key = record { storage = sp.storage; key = key } in
+    keeps_then (λ why word seen. (why ≡ UnlikeAt of) × (word ≡ page_at w.layout.slots t 0)) (IsCauseAt t sp page epoch v) k v w z only
     (λ so.
-    let head : IsHeadUnlike v.layout.slots t sp page (page_words v.pages page) (x.leaf).keys (tree_records v.pages page) k.word = record {
+    let lacking : IsKeyLacking v.layout.slots t of (tree_records v.pages page) k.word = record {
       place = so.1 ∙ ap (λ (y : View). page_at y.layout.slots t 0) only.looks.works.worked;
-      unlike = inr record {
-        other = record_at (page_words v.pages page) i;
-        has = subst (λ l. Contains l (record_at (page_words v.pages page) i)) (sym counted.records)
-            (rest_has (page_words v.pages page) 0 records i (omega arith) (omega (arith, less)));
-        none = ap (λ (n : ℕ). has_key (x.leaf).keys (let q : Key = record { storage = sp.storage; key = n } in q)) (sym is) ∙ none;
-      };
-    } in (
-      x.leaf,
-      keeps.looks.works.known x.leaf (only.looks.works.known x.leaf x.has),
-      x.slot,
-      subst (λ (y : KeptWhy). IsLeafCause v.layout.slots t sp v.pages page epoch (x.leaf).keys y k.word k.seen) (sym so.0) (inr (inr head)),
-    ))
+      other = record_at (page_words v.pages page) i;
+      has = subst (λ l. Contains l (record_at (page_words v.pages page) i)) (sym counted.records)
+          (rest_has (page_words v.pages page) 0 records i (omega arith) (omega (arith, less)));
+      same = is;
+    } in
+    let unlike : IsKeyUnlike v.layout.slots t sp of (tree_records v.pages page) epoch k.word k.seen =
+    record { storage = refl; how = inr (inr lacking) } in
+    subst (λ (y : KeptWhy). IsLeafCause v.layout.slots t sp v.pages page epoch y k.word k.seen) (sym so.0) unlike)
     keeps
 
+-- a header that was seen is so behind looks that note no word
+pub seen_whole_on : (t count : ℕ) (v w : View) → OnlyLooks v w → w.reads ≡ v.reads → IsSeenWhole t count v → IsSeenWhole t count w
+seen_whole_on t count v w only reads m = (
+  m.0,
+  ap (λ (l : Layout). seen_at w.reads (page_at l.slots t 0)) (layout_worked v w only.looks.works)
+      ∙ (ap (λ (rs : List Read). seen_at rs (page_at v.layout.slots t 0)) reads ∙ m.1),
+  m.2,
+  m.3,
+)
+
+-- and the pass knows all keys of the leaf, and that it isn't one of them
+pub lacks_known : (t count : ℕ) (sp : Span) (k : Key) (v w : View) (x : KnowsKeys t sp count v) → OnlyLooks v w → w.reads ≡ v.reads
+    → IsSeenWhole t count v → has_key (x.leaf).keys k ≡ false → LacksKey w k t
+lacks_known t count sp k v w x only reads m lacks =
+    let seen = seen_whole_on t count v w only reads m in inr record {
+      leaf = x.leaf;
+      has = only.looks.works.known x.leaf x.has;
+      slot = x.slot;
+      header = seen.0;
+      met = seen.1;
+      whole = seen.2;
+      all = x.are.long ∙ sym seen.3;
+      none = lacks;
+    }
+
+-- so it is behind a look
+pub lacks_glanced : (t : ℕ) (k : Key) (v w : View) → HasGlanced v w → LacksKey v k t → LacksKey w k t
+lacks_glanced t k v w h (inl x) = inl (x.0, subst (λ (z : View). Contains z.heads x.0) (sym h.is) x.1, x.2, x.3)
+lacks_glanced t k v w h (inr x) = inr record {
+  leaf = x.leaf;
+  has = subst (λ (z : View). Contains z.known x.leaf) (sym h.is) x.has;
+  slot = x.slot;
+  header = x.header;
+  met = subst (λ (z : View). seen_at z.reads (page_at z.layout.slots t 0) ≡ Some x.header) (sym h.is) x.met;
+  whole = x.whole;
+  all = x.all;
+  none = x.none;
+}
+
 -- causes, told of an earlier view
-pub earlier : (t page epoch : ℕ) (sp : Span) (k : Kept) (v u w : View) → OnlyLooks v u → KeepsIt (IsKnownCause t sp page epoch u w) k u w
-    → KeepsIt (IsKnownCause t sp page epoch v w) k v w
+pub earlier : (t page epoch : ℕ) (sp : Span) (k : Kept) (v u w : View) → OnlyLooks v u → KeepsIt (IsCauseAt t sp page epoch u) k u w
+    → KeepsIt (IsCauseAt t sp page epoch v) k v w
 earlier t page epoch sp k v u w only h =
-    keeps_then (IsKnownCause t sp page epoch u w) (IsKnownCause t sp page epoch v w) k v u w only
-    (known_back t page epoch sp v u w w only.looks.works (works_self w) k.why k.word k.seen) h
+    keeps_then (IsCauseAt t sp page epoch u) (IsCauseAt t sp page epoch v) k v u w only
+    (cause_back t page epoch sp v u only.looks.works k.why k.word k.seen) h
 
 -- what a result that is known tells
 pub err_is : (r : Result (Unit {0}) Kept) (P : Kept → Type 0) (k : Kept) → IfErr r P → r ≡ Err k → P k

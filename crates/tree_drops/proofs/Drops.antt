@@ -16,13 +16,13 @@ use Rattle.page_records.specs.Locks.{opened, took_at}
 use Rattle.page_drops.specs.declared.noting.Kept.{Kept}
 use Rattle.page_drops.specs.Works.{KeepsReads}
 use Rattle.page_drops.proofs.Entries.{reads_more, reads_self}
-use Rattle.tree_drops.specs.Leaves.{AtTree, CanDropFrom, HasDropped, HasTaken, IsCauseBelow, IsKnownCause}
+use Rattle.tree_drops.specs.Leaves.{AtTree, CanDropFrom, HasDropped, HasTaken, IsCauseBelow, IsCauseAt}
 use Rattle.tree_drops.specs.Leaves.{IsNew, KnowsKeys, LocksMore}
 use Rattle.tree_drops.specs.Works.{KeepsIt, OnlyLooks}
-use Rattle.tree_drops.proofs.Heads.{below_back, known_back}
+use Rattle.tree_drops.proofs.Heads.{below_back, cause_back}
 use Rattle.tree_drops.proofs.Swung.{can_lead_worked, dropped_on, keeps_open, locked_next, new_here}
 use Rattle.tree_drops.proofs.Works.{keeps_then, opened_is, past_worked, reopened, tree_worked}
-use Rattle.tree_drops.proofs.Works.{works_opened, works_self, works_then}
+use Rattle.tree_drops.proofs.Works.{works_then}
 
 -- ---- what is known
 
@@ -92,29 +92,28 @@ reads_reopened t i at word k v w few place is =
 
 -- a cause of a leaf is one below a pointer
 pub below_known : (t page epoch at before : ℕ) (sp : Span) (k : Kept) (v u w : View) → OnlyLooks v u
-    → KeepsIt (IsKnownCause t sp page epoch u w) k u w → KeepsIt (IsCauseBelow t sp page epoch at before v w) k v w
+    → KeepsIt (IsCauseAt t sp page epoch u) k u w → KeepsIt (IsCauseBelow t sp page epoch at before v) k v w
 below_known t page epoch at before sp k v u w only h =
-    keeps_then (IsKnownCause t sp page epoch u w) (IsCauseBelow t sp page epoch at before v w) k v u w only
-    (λ so. inl (known_back t page epoch sp v u w w only.looks.works (works_self w) k.why k.word k.seen so)) h
+    keeps_then (IsCauseAt t sp page epoch u) (IsCauseBelow t sp page epoch at before v) k v u w only
+    (λ so. inl (cause_back t page epoch sp v u only.looks.works k.why k.word k.seen so)) h
 
 -- what was kept in between
 pub below_open : (t page epoch at before place word n : ℕ) (sp : Span) (kept : Kept) (k : Key) (v u a e w : View) → OnlyLooks v u
-    → HasTaken t page n k word u a → IsNew k u → KeepsIt (IsCauseBelow t sp page epoch at before a e) kept a e → w ≡ reopened k place word e
-    → KeepsIt (IsCauseBelow t sp page epoch at before v w) kept v w
+    → HasTaken t page n k word u a → IsNew k u → KeepsIt (IsCauseBelow t sp page epoch at before a) kept a e → w ≡ reopened k place word e
+    → KeepsIt (IsCauseBelow t sp page epoch at before v) kept v w
 below_open t page epoch at before place word n sp kept k v u a e w only taken new keeps is =
-    let opens = works_opened k place word e w is in
-    keeps_then (IsCauseBelow t sp page epoch at before u w) (IsCauseBelow t sp page epoch at before v w) kept v u w only
-    (below_back t page epoch at before sp v u w w only.looks.works (works_self w) kept.why kept.word kept.seen)
-    (keeps_open (IsCauseBelow t sp page epoch at before a e) (IsCauseBelow t sp page epoch at before u w) kept k (spot t n) place word u a e w
+    keeps_then (IsCauseBelow t sp page epoch at before u) (IsCauseBelow t sp page epoch at before v) kept v u w only
+    (below_back t page epoch at before sp v u only.looks.works kept.why kept.word kept.seen)
+    (keeps_open (IsCauseBelow t sp page epoch at before a) (IsCauseBelow t sp page epoch at before u) kept k (spot t n) place word u a e w
     taken.more new keeps is
-    (below_back t page epoch at before sp u a e w taken.more.works opens kept.why kept.word kept.seen))
+    (below_back t page epoch at before sp u a taken.more.works kept.why kept.word kept.seen))
 
 pub known_open : (t page epoch place word n : ℕ) (sp : Span) (kept : Kept) (k : Key) (v u e w : View) → LocksMore k (spot t n) word v u
-    → IsNew k v → KeepsIt (IsKnownCause t sp page epoch u e) kept u e → w ≡ reopened k place word e
-    → KeepsIt (IsKnownCause t sp page epoch v w) kept v w
+    → IsNew k v → KeepsIt (IsCauseAt t sp page epoch u) kept u e → w ≡ reopened k place word e
+    → KeepsIt (IsCauseAt t sp page epoch v) kept v w
 known_open t page epoch place word n sp kept k v u e w more new keeps is =
-    keeps_open (IsKnownCause t sp page epoch u e) (IsKnownCause t sp page epoch v w) kept k (spot t n) place word v u e w more new keeps is
-    (known_back t page epoch sp v u e w more.works (works_opened k place word e w is) kept.why kept.word kept.seen)
+    keeps_open (IsCauseAt t sp page epoch u) (IsCauseAt t sp page epoch v) kept k (spot t n) place word v u e w more new keeps is
+    (cause_back t page epoch sp v u more.works kept.why kept.word kept.seen)
 
 -- ---- it is dropped, behind one more
 

@@ -1,5 +1,5 @@
 -- What a note of a page of a tree that is kept asks: somebody else's lock, or a change that was seen.
-use Rattle.std.proofs.Common.{◌≡◌, ◌≢◌, inl, ℕ, ◌+◌, ◌*◌, ◌<◌, ◌^◌, Bool, true, false, cond, List, []}
+use Rattle.std.proofs.Common.{◌≡◌, ◌≢◌, inl, inr, ℕ, ◌+◌, ◌*◌, ◌<◌, ◌^◌, Bool, true, false, cond, List, []}
 use Rattle.std.proofs.Common.{eq-eqb, Some, Option, true≢false, refl, sym, ap, ◌∙◌, subst, arith}
 use Rattle.std.specs.Prelude.{MatchBool, nat_lt}
 use Rattle.std.specs.List.{Contains}
@@ -11,6 +11,8 @@ use Rattle.homes.specs.declared.places.Spot.{Spot}
 use Rattle.homes.specs.Laws.{in_span-parts}
 use Rattle.drop_core.specs.Table.{at_index, has_slot}
 use Rattle.engine_pages.specs.declared.layout.Layout.{Layout}
+use Rattle.engine_pages.specs.declared.view.Head.{Head}
+use Rattle.engine_pages.specs.declared.view.Moved.{Moved}
 use Rattle.engine_pages.specs.declared.view.Read.{Read}
 use Rattle.engine_pages.specs.declared.view.Shut.{Shut}
 use Rattle.engine_pages.specs.declared.view.Took.{Took}
@@ -19,18 +21,22 @@ use Rattle.engine_pages.specs.Layout.{page_at}
 use Rattle.engine_pages.specs.Pages.{decl_of, is_array, is_tree, part_between}
 use Rattle.engine_pages.specs.Pointers.{one_kind}
 use Rattle.engine_pages.specs.Steps.{kept_at, read_at, seen_at, with_read}
-use Rattle.tree_heads.specs.Headers.{HasChildren, HasHeader, HasTwins, Headed, kind_of, moved_bit}
+use Rattle.engine_pages.specs.Words.{spot}
+use Rattle.page_records.specs.Locks.{took_at}
+use Rattle.tree_heads.specs.Headers.{HasChildren, HasHeader, HasTwins, Headed, IsUnmoved, kind_of, moved_bit}
 use Rattle.page_drops.specs.Calls.{IsBare}
-use Rattle.page_drops.specs.Works.{locked_at, read_of, HasGlanced, IsForeign}
+use Rattle.page_drops.specs.Works.{locked_at, read_of, HasGlanced, IsForeign, IsKeyDue}
 use Rattle.page_drops.proofs.Dues.{no_more}
 use Rattle.page_drops.proofs.Entries.{entry_of, other_entry, own_entry, seen_of, seen_same}
 use Rattle.page_drops.proofs.Holds.{Looked}
 use Rattle.tree_drops.specs.Branches.{AtBranch, OnlyGoes}
-use Rattle.tree_drops.specs.Leaves.{AreKeys, AreLocked, AtTree, CanDropFrom, IsUntaken}
+use Rattle.tree_drops.specs.Leaves.{AreKeys, AreLocked, AtTree, CanDropFrom, IsKeyOf, IsUntaken}
 use Rattle.tree_drops.specs.Visits.{CanVisit}
 use Rattle.tree_drops.specs.Works.{IsSeenAt, KeepsHead, OnlyLooks}
 use Rattle.tree_drops.proofs.KeyLists.{has_at}
 use Rattle.tree_drops.proofs.Parts.{branch_here, branch_on}
+use Rattle.tree_drops.proofs.TreeHolds.{place_in}
+use Rattle.tree_drops.proofs.Works.{key_worked}
 
 -- ---- a record
 
@@ -60,11 +66,20 @@ row_untaken x sp at t page word epoch count n v u can only = record {
       (row_apart t page n count sp can.head.keys v can.tree can.are can.locked y
       (subst (λ (l : List Took). Contains l y) only.looks.took has));
   shuts = ap (λ (z : View). z.shuts) only.looks.works.worked ∙ can.shuts;
+  alive = λ y has slot. (
+    can.head,
+    subst (λ (l : List Head). Contains l can.head) (sym only.looks.heads) can.has,
+    can.slot,
+  );
 }
 
 -- where nothing is locked, each is
-pub none_taken : (t i : ℕ) (v : View) → v.took ≡ [] → v.shuts ≡ [] → IsUntaken t i v
-none_taken t i v took shuts = record { records = λ x has. absurd (no_more x v.took took has); shuts = shuts }
+pub none_taken : (t i : ℕ) (v : View) → v.took ≡ [] → v.shuts ≡ [] → IsUnmoved v t → IsUntaken t i v
+none_taken t i v took shuts whole = record {
+  records = λ x has. absurd (no_more x v.took took has);
+  shuts = shuts;
+  alive = λ x has same. absurd (whole x has same);
+}
 
 -- behind a look, too
 pub still_untaken : (t i : ℕ) (v u : View) → OnlyLooks v u → IsUntaken t i v → IsUntaken t i u
@@ -73,11 +88,18 @@ still_untaken t i v u only own = record {
       subst (λ (z : View). page_at z.layout.slots t (17 + 3 * i) ≢ locked_at z x) (sym only.looks.works.worked)
       (own.records x (subst (λ (l : List Took). Contains l x) only.looks.took has));
   shuts = ap (λ (z : View). z.shuts) only.looks.works.worked ∙ own.shuts;
+  alive = λ x has same.
+      let h = own.alive x (subst (λ (l : List Moved). Contains l x) (ap (λ (z : View). z.moved) only.looks.works.worked) has) same in
+      (h.0, subst (λ (l : List Head). Contains l h.0) (sym only.looks.heads) h.1, h.2);
 }
 
 -- a record's word is no header's
-no_head : (slots t u i : ℕ) → i < 16 → page_at slots t (17 + 3 * i) ≡ page_at slots u 0 → ⊥
+pub no_head : (slots t u i : ℕ) → i < 16 → page_at slots t (17 + 3 * i) ≡ page_at slots u 0 → ⊥
 no_head slots t u i few same = omega (arith, few, same)
+
+-- two words of records, in the same place
+one_slot : (slots t u i j : ℕ) → i < 16 → j < 16 → page_at slots t (17 + 3 * i) ≡ page_at slots u (17 + 3 * j) → u ≡ t
+one_slot slots t u i j few less same = omega (arith, few, less, same)
 
 -- a lock of such a record is somebody else's
 pub record_foreign : (t i at seen : ℕ) (v u : View) → OnlyLooks v u → i < 16 → at ≡ page_at v.layout.slots t (17 + 3 * i)
@@ -90,29 +112,84 @@ record_foreign t i at seen v u only few place own =
       heads = λ x has same. no_head u.layout.slots t x.slot i few (sym here ∙ same);
       sealed = λ s has same. absurd (no_head u.layout.slots t s i few (sym here ∙ same));
       shuts = λ x has. absurd (no_more x u.shuts now.shuts has);
+      alive = λ x j has less same.
+          let slot : x.slot ≡ t = one_slot u.layout.slots t x.slot i j few less (sym here ∙ same) in
+          let h = now.alive x has slot in inr (inr (h.0, h.1, h.2 ∙ sym slot));
+    }
+
+-- ---- a record that is unlike, at its key
+
+-- where its word stands in a later view, by the slot of the leaf that is known
+word_known : (t i at : ℕ) (sp : Span) (k : Key) (v u : View) → OnlyLooks v u → at ≡ page_at v.layout.slots t (17 + 3 * i)
+    → (x : IsKeyOf t sp i k u) → at ≡ page_at u.layout.slots (x.leaf).slot (17 + 3 * i)
+word_known t i at sp k v u only place x =
+    place
+    ∙ (ap (λ (l : Layout). page_at l.slots t (17 + 3 * i)) (sym (ap (λ (z : View). z.layout) only.looks.works.worked))
+    ∙ ap (λ (s : ℕ). page_at u.layout.slots s (17 + 3 * i)) (sym x.slot))
+
+-- by its word: the pass knows its key, and of no split of its leaf
+pub word_due : (t i at : ℕ) (sp : Span) (k : Key) (v u : View) → OnlyLooks v u → i < 16 → at ≡ page_at v.layout.slots t (17 + 3 * i)
+    → IsKeyOf t sp i k v → IsUntaken t i v → IsKeyDue u k at
+word_due t i at sp k v u only few place x own =
+    let y = key_worked t i sp k v u only.looks.works x in
+    let now = still_untaken t i v u only own in inl record {
+      leaf = y.leaf;
+      has = y.has;
+      index = i;
+      few = few;
+      at = y.at;
+      place = inl (word_known t i at sp k v u only place y);
+      alive = λ z has same. let h = now.alive z has (same ∙ y.slot) in inl (h.0, h.1, h.2 ∙ sym y.slot);
+    }
+
+-- by its value: the pass has locked the record
+pub value_due : (t i at n : ℕ) (sp : Span) (k : Key) (v u : View) → OnlyLooks v u → i < 16 → at ≡ page_at v.layout.slots t (17 + 3 * i)
+    → IsKeyOf t sp i k v → Contains v.took (took_at k (spot t i) n) → IsKeyDue u k (at + 1)
+value_due t i at n sp k v u only few place x took =
+    let y = key_worked t i sp k v u only.looks.works x in
+    let here = word_known t i at sp k v u only place y in inl record {
+      leaf = y.leaf;
+      has = y.has;
+      index = i;
+      few = few;
+      at = y.at;
+      place = inr (omega (arith, here));
+      alive = λ z has same. inr (
+        took_at k (spot t i) n,
+        subst (λ (l : List Took). Contains l (took_at k (spot t i) n)) (sym only.looks.took) took,
+        ap (λ (s : ℕ). spot s i) (sym y.slot),
+      );
     }
 
 -- ---- a header, and the pointer that is gone over
 
 -- of a leaf that wasn't split
-pub header_foreign : (v : View) (word seen : ℕ) → IsBare v → seen < 2 ^ 62 → IsForeign v word seen
-header_foreign v word seen bare low = record {
+pub header_foreign : (v : View) (t word seen : ℕ) → IsBare v → seen < 2 ^ 62 → word ≡ page_at v.layout.slots t 0
+    → IsForeign v word seen
+header_foreign v t word seen bare low place = record {
   records = λ x has. absurd (no_more x v.took bare.took has);
   heads = λ x has. absurd (no_more x v.heads bare.heads has);
   sealed = λ s has same. inl low;
   shuts = λ x has. absurd (no_more x v.shuts bare.shuts has);
+  alive = λ x j has less same. absurd (no_head v.layout.slots x.slot t j less (sym same ∙ place));
 }
 
 -- none of a split leaf is locked while pointers are gone over
 pub pointer_foreign : (epoch : ℕ) (x : At) (sp : Span) (at page n : ℕ) (was : Option ℕ) (v u : View)
-    → CanVisit x sp at page epoch v → Looked at n was v.grip.holds v.ways v u → IsForeign u at n
-pointer_foreign epoch x sp at page n was v u can l =
+    → CanVisit x sp at page epoch v → Looked at n was v.grip.holds v.ways v u → u.inners ≡ v.inners → IsForeign u at n
+pointer_foreign epoch x sp at page n was v u can l inners =
     let went = (l.over).went in record {
       records = λ y has. absurd (no_more y u.took (ap (λ (z : View). z.took) went ∙ can.bare.took) has);
       heads = λ y has. absurd (no_more y u.heads (ap (λ (z : View). z.heads) went ∙ can.bare.heads) has);
       sealed = λ t has same.
           absurd (true≢false (sym has ∙ ap (λ (s : List ℕ). has_slot s t) (ap (λ (z : View). z.sealed) went ∙ can.unsealed)));
       shuts = λ y has. absurd (no_more y u.shuts (ap (λ (z : View). z.shuts) went ∙ can.bare.shuts) has);
+      alive = λ y j has less same.
+          inr (inl (
+            x,
+            sp,
+            place_in x sp at v u l.over (λ z own. subst (λ ws. Contains ws z) (sym l.path) own) inners can.place,
+          ));
     }
 
 -- ---- a pointer of an interior page
@@ -142,6 +219,7 @@ branch_foreign t page count j at seen sp part u x less few span here took mine =
         branch_here t page count j at sp part u x less span here,
         λ same. other_place t j m.0 m.1 (same ∙ m.2),
       );
+  alive = λ y k has low same. inr (inl (at_index t j, part, branch_here t page count j at sp part u x less span here));
 }
 
 -- so it is behind a look

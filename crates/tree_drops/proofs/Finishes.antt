@@ -4,7 +4,6 @@ use Rattle.std.proofs.lemmas.List.{append-nil}
 use Rattle.std.specs.Prelude.{Err, IfErr, Ok, OnOk, Result}
 use Rattle.std.specs.List.{Contains}
 use Rattle.lists.specs.Fronts.{front_refl}
-use Rattle.serial_model.specs.declared.key.Key.{Key}
 use Rattle.homes.specs.declared.places.At.{At}
 use Rattle.homes.specs.declared.places.Span.{Span}
 use Rattle.snapshot_store.specs.Places.{page as page_words}
@@ -93,16 +92,14 @@ pub note_of_told : (k : Kept) (note : KeptPage) → note ≡ record { step = not
 note_of_told k note told = told
 
 -- a cause of a leaf, told of its note
-leaf_cause : (slots t : ℕ) (sp : Span) (pages : List (List ℕ)) (page epoch at word : ℕ) (v w : View) (k : Kept) (note : KeptPage)
+leaf_cause : (slots t : ℕ) (sp : Span) (pages : List (List ℕ)) (page epoch at word : ℕ) (v : View) (k : Kept) (note : KeptPage)
     → v.layout.slots ≡ slots → v.pages ≡ pages → IsNoteOf k note → half_of word ≡ Some t
-    → IsCauseBelow t sp page epoch at word v w k.why k.word k.seen → IsLeafKept slots t sp pages page epoch at note
-leaf_cause slots t sp pages page epoch at word v w k note one two told led cause = elim cause [
-  | inl so ↦ inl (
-    (so.0).keys,
-    subst (λ (p : KeptPage). IsLeafCause slots t sp pages page epoch (so.0).keys p.why p.word p.seen) (sym told)
-        (subst (λ (n : ℕ). IsLeafCause n t sp pages page epoch (so.0).keys k.why k.word k.seen) one
-        (subst (λ ps. IsLeafCause v.layout.slots t sp ps page epoch (so.0).keys k.why k.word k.seen) two so.3)),
-  )
+    → IsCauseBelow t sp page epoch at word v k.why k.word k.seen → IsLeafKept slots t sp pages page epoch at note
+leaf_cause slots t sp pages page epoch at word v k note one two told led cause = elim cause [
+  | inl so ↦
+      inl (subst (λ (p : KeptPage). IsLeafCause slots t sp pages page epoch p.why p.word p.seen) (sym told)
+      (subst (λ (n : ℕ). IsLeafCause n t sp pages page epoch k.why k.word k.seen) one
+      (subst (λ ps. IsLeafCause v.layout.slots t sp ps page epoch k.why k.word k.seen) two so)))
   | inr turn ↦ inr record {
     expected = word;
     why = ap (λ (p : KeptPage). p.why) told ∙ turn.1;
@@ -113,11 +110,11 @@ leaf_cause slots t sp pages page epoch at word v w k note one two told led cause
 ]
 
 -- where it was kept since a word had changed, that was another
-leaf_other : (t : ℕ) (sp : Span) (page epoch at word : ℕ) (v w : View) (k : Kept)
-    → IsCauseBelow t sp page epoch at word v w k.why k.word k.seen → k.why ≡ Changed word → k.seen ≢ word
-leaf_other t sp page epoch at word v w k cause is = elim cause [
+leaf_other : (t : ℕ) (sp : Span) (page epoch at word : ℕ) (v : View) (k : Kept)
+    → IsCauseBelow t sp page epoch at word v k.why k.word k.seen → k.why ≡ Changed word → k.seen ≢ word
+leaf_other t sp page epoch at word v k cause is = elim cause [
   | inl so ↦
-      let changed = subst (λ (y : KeptWhy). IsLeafCause v.layout.slots t sp v.pages page epoch (so.0).keys y k.word k.seen) is so.3 in
+      let changed = subst (λ (y : KeptWhy). IsLeafCause v.layout.slots t sp v.pages page epoch y k.word k.seen) is so in
       changed.1
   | inr turn ↦ turn.2
 ]
@@ -127,17 +124,17 @@ module _ (x : At) (sp : Span) (at t page word epoch : ℕ) (v w : View) (can : C
   abbrev Cause : KeptPage → Type 0
   Cause = IsLeafKept v.layout.slots t sp v.pages page epoch at
 
-  pub leaf_kept : (k : Kept) → KeepsIt (IsCauseBelow t sp page epoch at word v w) k v w → TellsPointer at word k v w
+  pub leaf_kept : (k : Kept) → KeepsIt (IsCauseBelow t sp page epoch at word v) k v w → TellsPointer at word k v w
       → (note : KeptPage) × IsNoteOf k note × HasFinished Cause t at page (Some note) v w
   leaf_kept k h tells =
       let worked = h.looks.works.worked in (
         h.kept.page,
         h.kept.told,
         finished_note Cause x sp at t page word epoch v w can k h.kept.page
-            (over_kept (IsCauseBelow t sp page epoch at word v w) k v w h) h.kept.is (ap (λ (z : View). z.gone) worked)
+            (over_kept (IsCauseBelow t sp page epoch at word v) k v w h) h.kept.is (ap (λ (z : View). z.gone) worked)
             (ap (λ (z : View). z.swung) worked) reads (ap (λ (z : View). z.inners) worked) h.kept.told tells
-            (leaf_other t sp page epoch at word v w k h.kept.cause-is)
-            (leaf_cause v.layout.slots t sp v.pages page epoch at word v w k h.kept.page refl refl h.kept.told can.drop.leads
+            (leaf_other t sp page epoch at word v k h.kept.cause-is)
+            (leaf_cause v.layout.slots t sp v.pages page epoch at word v k h.kept.page refl refl h.kept.told can.drop.leads
             h.kept.cause-is),
       )
 
@@ -148,7 +145,7 @@ module _ (x : At) (sp : Span) (at t page word epoch : ℕ) (v w : View) (can : C
       (ap (λ (z : View). z.swung) h.is) reads (ap (λ (z : View). z.inners) h.is)
 
   pub leaf_taken : (r : Result (Unit {0}) Kept) → OnOk r (HasDropped t at page v w)
-      → IfErr r (λ k. KeepsIt (IsCauseBelow t sp page epoch at word v w) k v w) → IfErr r (λ k. TellsPointer at word k v w)
+      → IfErr r (λ k. KeepsIt (IsCauseBelow t sp page epoch at word v) k v w) → IfErr r (λ k. TellsPointer at word k v w)
       → HasTakenLeaf sp at page epoch t r v w
   leaf_taken (Ok u) drops keeps tells = leaf_dropped drops
   leaf_taken (Err k) drops keeps tells = leaf_kept k keeps tells
@@ -295,13 +292,13 @@ taken_then sp at page epoch t (Err k) v u w h taken = (
 )
 
 -- a leaf that was noted, for one of its causes
-pub taken_noted : (x : At) (sp : Span) (at t page word epoch : ℕ) (keys : List Key) (k : Kept) (v w : View)
-    → CanWork x sp at t page word epoch v → HasNotedPage (IsLeafCause v.layout.slots t sp v.pages page epoch keys) t k v w
+pub taken_noted : (x : At) (sp : Span) (at t page word epoch : ℕ) (k : Kept) (v w : View)
+    → CanWork x sp at t page word epoch v → HasNotedPage (IsLeafCause v.layout.slots t sp v.pages page epoch) t k v w
     → ((e : ℕ) → k.why ≡ Changed e → ⊥) → HasTakenLeaf sp at page epoch t (Err k) v w
-taken_noted x sp at t page word epoch keys k v w can h other = (
+taken_noted x sp at t page word epoch k v w can h other = (
   h.note,
   h.told,
   finished_note (IsLeafKept v.layout.slots t sp v.pages page epoch at) x sp at t page word epoch v w can k h.note h.over h.kept
       h.gone h.swung (reads_but t at v w h.reads) h.inners h.told (inl (h.reads at can.drop.apart))
-      (λ is. absurd (other word is)) (inl (keys, h.so)),
+      (λ is. absurd (other word is)) (inl h.so),
 )

@@ -13,7 +13,6 @@ use Rattle.dual_pointer.specs.Installs.{tree_records}
 use Rattle.snapshot_store.specs.TreePages.{Record}
 use Rattle.engine_pages.specs.declared.layout.Layout.{Layout}
 use Rattle.engine_pages.specs.declared.view.Head.{Head}
-use Rattle.engine_pages.specs.declared.view.Known.{Known}
 use Rattle.engine_pages.specs.declared.view.KeptWhy.{KeptWhy}
 use Rattle.engine_pages.specs.declared.view.KeptWhy.TheVariants.{Changed}
 use Rattle.engine_pages.specs.declared.view.View.{View}
@@ -25,7 +24,7 @@ use Rattle.page_drops.specs.Works.{read_of, IsOutside, KeepsReads, KeepsReadsBut
 use Rattle.page_drops.proofs.Entries.{reads_more, reads_self, seen_same}
 use Rattle.tree_heads.specs.Headers.{count_of, open_word}
 use Rattle.tree_heads.specs.Heads.{CanOpenHeader, HasHead, HeadLocked, head_opened, lock_bit}
-use Rattle.tree_drops.specs.Leaves.{AreKeys, AreLocked, AtTree, CanDrop, CanDropFrom, HasCount, IsCauseBelow, IsKnownCause}
+use Rattle.tree_drops.specs.Leaves.{AreKeys, AreLocked, AtTree, CanDrop, CanDropFrom, HasCount, IsCauseBelow, IsCauseAt}
 use Rattle.tree_drops.specs.Leaves.{IsLeafCause, KnowsKeys}
 use Rattle.tree_drops.specs.Works.{KeepsIt, LooksOn, OnlyLooks, TellsPointer, WorksOn}
 use Rattle.tree_drops.proofs.Swung.{can_lead_worked, lead_worked, pointer_worked}
@@ -194,27 +193,21 @@ keeps_head cause other kept t at n sp v b c e w only none h keeps is so =
 -- ---- causes, told of other views
 
 -- the header was found to be another
-pub head_changed : (t page epoch count at seen before : ℕ) (sp : Span) (v z : View) → KnowsKeys t sp count v
-    → ((y : Known) → Contains v.known y → Contains z.known y) → at ≡ page_at v.layout.slots t 0 → seen ≢ before
-    → IsKnownCause t sp page epoch v z (Changed before) at seen
-head_changed t page epoch count at seen before sp v z x known place other =
-    (x.leaf, known x.leaf x.has, x.slot, (inl place, other))
+pub head_changed : (t page epoch at seen before : ℕ) (sp : Span) (v : View) → at ≡ page_at v.layout.slots t 0 → seen ≢ before
+    → IsCauseAt t sp page epoch v (Changed before) at seen
+head_changed t page epoch at seen before sp v place other = (inl place, other)
 
-pub known_back : (t page epoch : ℕ) (sp : Span) (v c e w : View) → WorksOn v c → WorksOn e w → (why : KeptWhy) (word seen : ℕ)
-    → IsKnownCause t sp page epoch c e why word seen → IsKnownCause t sp page epoch v w why word seen
-known_back t page epoch sp v c e w first last why word seen so = (
-  so.0,
-  last.known so.0 so.1,
-  so.2,
-  subst (λ ps. IsLeafCause v.layout.slots t sp ps page epoch (so.0).keys why word seen) (pages_worked v c first)
-      (subst (λ (l : Layout). IsLeafCause l.slots t sp c.pages page epoch (so.0).keys why word seen) (layout_worked v c first) so.3),
-)
+pub cause_back : (t page epoch : ℕ) (sp : Span) (v c : View) → WorksOn v c → (why : KeptWhy) (word seen : ℕ)
+    → IsCauseAt t sp page epoch c why word seen → IsCauseAt t sp page epoch v why word seen
+cause_back t page epoch sp v c first why word seen so =
+    subst (λ ps. IsLeafCause v.layout.slots t sp ps page epoch why word seen) (pages_worked v c first)
+    (subst (λ (l : Layout). IsLeafCause l.slots t sp c.pages page epoch why word seen) (layout_worked v c first) so)
 
-pub below_back : (t page epoch at before : ℕ) (sp : Span) (v c e w : View) → WorksOn v c → WorksOn e w → (why : KeptWhy) (word seen : ℕ)
-    → IsCauseBelow t sp page epoch at before c e why word seen → IsCauseBelow t sp page epoch at before v w why word seen
-below_back t page epoch at before sp v c e w first last why word seen (inl so) =
-    inl (known_back t page epoch sp v c e w first last why word seen so)
-below_back t page epoch at before sp v c e w first last why word seen (inr so) = inr so
+pub below_back : (t page epoch at before : ℕ) (sp : Span) (v c : View) → WorksOn v c → (why : KeptWhy) (word seen : ℕ)
+    → IsCauseBelow t sp page epoch at before c why word seen → IsCauseBelow t sp page epoch at before v why word seen
+below_back t page epoch at before sp v c first why word seen (inl so) =
+    inl (cause_back t page epoch sp v c first why word seen so)
+below_back t page epoch at before sp v c first why word seen (inr so) = inr so
 
 -- ---- what was read of the pointer, and of other words
 

@@ -8,6 +8,7 @@ use Rattle.homes.specs.Homes.{has_key, in_span}
 use Rattle.homes.specs.Laws.{in_span-parts}
 use Rattle.snapshot_store.specs.TreePages.{record_for}
 use Rattle.engine_pages.specs.declared.layout.Layout.{Layout}
+use Rattle.engine_pages.specs.declared.view.Head.{Head}
 use Rattle.engine_pages.specs.declared.view.KeptWhy.{KeptWhy}
 use Rattle.engine_pages.specs.declared.view.KeptWhy.TheVariants.{Unlike}
 use Rattle.engine_pages.specs.declared.view.Took.{Took}
@@ -101,7 +102,7 @@ module _ (root : Root) (page : ChainPage) (r : ℕ) (v a : View) (can : CanTakeK
 
     -- ---- a page of the snapshot is misshapen
 
-    pub misshapen_kept : (k : Kept) (c : View) → HasMisshapen a.pages → KeptForHeader root.slot k b c → c.reads ≡ b.reads
+    pub misshapen_kept : (k : Kept) (c : View) → HasMisshapen a.pages → KeptForHeader root.slot Unlike k b c → c.reads ≡ b.reads
         → HasWorked root page (suc r) (Err k) v c
     misshapen_kept k c bad h reads = (
       keeps_later (IsPageCause v.layout.slots root page v.pages) (IsPageCause v.layout.slots root page v.pages) k v b c only_b (λ so. so)
@@ -155,11 +156,16 @@ module _ (root : Root) (page : ChainPage) (r : ℕ) (v a : View) (can : CanTakeK
             let old = can.own.records x (subst (λ (l : List Took). Contains l x) only_b.looks.took has) in
             subst (λ (z : View). page_at z.layout.slots page.slot (17 + 3 * r) ≢ locked_at z x) (sym only_b.looks.on.chains) old;
         shuts = ap (λ (z : View). z.shuts) only_b.looks.on.chains ∙ can.own.shuts;
+        alive = λ x has same. (
+          can.head.0,
+          subst (λ (l : List Head). Contains l can.head.0) (sym only_b.looks.heads) can.head.1,
+          can.head.2,
+        );
       }
 
       -- a cause of the record, told of the first view
       cause_back : (slots : ℕ) (ps : List (List ℕ)) → slots ≡ v.layout.slots → ps ≡ v.pages → (why : KeptWhy) (word seen : ℕ)
-          → IsRecordCause slots page.slot r (record_for (tree_records ps stored.page) key.key) (root.target).epoch why word seen
+          → IsRecordCause slots page.slot r key (record_for (tree_records ps stored.page) key.key) (root.target).epoch why word seen
           → IsPageCause v.layout.slots root page v.pages why word seen
       cause_back slots ps one two why word seen so =
           inr (inl (
@@ -173,20 +179,20 @@ module _ (root : Root) (page : ChainPage) (r : ℕ) (v a : View) (can : CanTakeK
               below = subst (λ qs. IsStoredIn qs whole number key.key (record_for (tree_records v.pages stored.page) key.key)) a_pages
                   (found.stored (record_for (tree_records v.pages stored.page) key.key)
                   (ap (λ qs. record_for (tree_records qs stored.page) key.key) a_pages));
-              cause = subst (λ qs. IsRecordCause v.layout.slots page.slot r (record_for (tree_records qs stored.page) key.key)
+              cause = subst (λ qs. IsRecordCause v.layout.slots page.slot r key (record_for (tree_records qs stored.page) key.key)
                   (root.target).epoch why word seen) two
-                  (subst (λ n. IsRecordCause n page.slot r (record_for (tree_records ps stored.page) key.key) (root.target).epoch why word seen)
+                  (subst (λ n. IsRecordCause n page.slot r key (record_for (tree_records ps stored.page) key.key) (root.target).epoch why word seen)
                   one so);
             },
           ))
 
       pub compare_kept : (k : Kept) (c : View)
-          → KeepsIt (IsRecordCause b.layout.slots page.slot r (record_for (tree_records b.pages stored.page) key.key) (root.target).epoch) k b c
+          → KeepsIt (IsRecordCause b.layout.slots page.slot r key (record_for (tree_records b.pages stored.page) key.key) (root.target).epoch) k b c
           → KeepsReads page.slot b c → HasWorked root page (suc r) (Err k) v c
       compare_kept k c h reads = (
         keeps_later (IsPageCause v.layout.slots root page v.pages) (IsPageCause v.layout.slots root page v.pages) k v b c only_b (λ so. so)
             (keeps_chain
-            (IsRecordCause b.layout.slots page.slot r (record_for (tree_records b.pages stored.page) key.key) (root.target).epoch)
+            (IsRecordCause b.layout.slots page.slot r key (record_for (tree_records b.pages stored.page) key.key) (root.target).epoch)
             (IsPageCause v.layout.slots root page v.pages) k b c
             (cause_back b.layout.slots b.pages (ap (λ (l : Layout). l.slots) b_layout) b_pages k.why k.word k.seen) h),
         reads_then page.slot v b c b_layout (reads_same page.slot v b b_reads) reads,
@@ -233,12 +239,12 @@ module _ (root : Root) (page : ChainPage) (r : ℕ) (v a : View) (can : CanTakeK
         past_d = subst (λ n. (root.target).epoch ≤ n) (sym (ap (λ (z : View). z.past) only_d.looks.on.chains)) can.past
 
         pub take_kept : (k : Kept) (e : View)
-            → KeepsIt (IsRecordCause d.layout.slots page.slot r (record_for (tree_records d.pages stored.page) key.key) (root.target).epoch)
+            → KeepsIt (IsRecordCause d.layout.slots page.slot r key (record_for (tree_records d.pages stored.page) key.key) (root.target).epoch)
             k d e → KeepsReads page.slot d e → HasWorked root page (suc r) (Err k) v e
         take_kept k e h reads = (
           keeps_later (IsPageCause v.layout.slots root page v.pages) (IsPageCause v.layout.slots root page v.pages) k v d e only_d (λ so. so)
               (keeps_chain
-              (IsRecordCause d.layout.slots page.slot r (record_for (tree_records d.pages stored.page) key.key) (root.target).epoch)
+              (IsRecordCause d.layout.slots page.slot r key (record_for (tree_records d.pages stored.page) key.key) (root.target).epoch)
               (IsPageCause v.layout.slots root page v.pages) k d e
               (cause_back d.layout.slots d.pages (ap (λ (l : Layout). l.slots) d_layout) d_pages k.why k.word k.seen) h),
           reads_then page.slot v d e d_layout d_reads reads,

@@ -8,6 +8,7 @@ pub mod ChainRows
 pub mod ChainEnds
 pub mod ChainLeft
 pub mod ChainDone
+pub mod HalfNotes
 pub mod ChainVisited
 pub mod KeyTakes
 pub mod Founds
@@ -41,6 +42,7 @@ pub mod FoundPages
 pub mod BelowLaws
 pub mod BelowKeys
 pub mod BelowCovers
+pub mod LacksKeys
 pub mod SlotRows
 pub mod SplitPages
 pub mod NextPages

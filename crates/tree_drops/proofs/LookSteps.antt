@@ -25,6 +25,7 @@ use Rattle.tree_drops.specs.declared.chains.Split.{Split}
 use Rattle.tree_drops.specs.Chains.{span_in, CanEnter, CanLook, CanPart, HasEnteredSo, HasLooked, HasParted}
 use Rattle.tree_drops.specs.Chains.{IsSplitAt}
 use Rattle.tree_drops.proofs.Chaining.{layout_chained, role_chained}
+use Rattle.tree_drops.proofs.Dues.{no_head}
 use Rattle.tree_drops.proofs.NextPages.{at_page, headed_children, headed_leaf, headed_twins, high_twins, keys_leaf}
 use Rattle.tree_drops.proofs.NextPages.{kept_look, last_now, looked_both, looked_leaf, looked_parted, looked_turned}
 use Rattle.tree_drops.proofs.NextPages.{low_leaf, split_glanced, HasHeaded}
@@ -97,6 +98,10 @@ module _ (t : ℕ) (sp : Span) (halves : List Half) (splits headers : List ℕ) 
               absurd (true≢false (sym has ∙ ap (λ (l : List ℕ). has_slot l s) (looks.sealed ∙ can.bare.sealed)));
           shuts = λ y has.
               absurd (no_more y u.shuts (ap (λ (z : View). z.shuts) looks.on.chains ∙ can.bare.shuts) has);
+          alive = λ y j has less same-word.
+              absurd (no_head u.layout.slots y.slot h.slot j less
+              (sym same-word
+              ∙ (place ∙ ap (λ (l : Layout). page_at l.slots h.slot 0) (sym (layout_chained v u looks.on)))));
         }
 
     pub other_ends : (k : Kept) (w : View) → kind_of n ≢ 1 → k ≡ record { word = at; seen = n; why = Unlike } → IsNoted k u w

@@ -16,7 +16,7 @@ use Rattle.engine_pages.specs.declared.layout.Layout.{Layout}
 use Rattle.engine_pages.specs.declared.view.Inner.{Inner}
 use Rattle.engine_pages.specs.declared.view.KeptPage.{KeptPage}
 use Rattle.engine_pages.specs.declared.view.KeptWhy.{KeptWhy}
-use Rattle.engine_pages.specs.declared.view.KeptWhy.TheVariants.{Changed, Locked, Long, Unlike, Under}
+use Rattle.engine_pages.specs.declared.view.KeptWhy.TheVariants.{Changed, Locked, Long, Unlike, UnlikeAt, Under}
 use Rattle.engine_pages.specs.declared.view.Read.{Read}
 use Rattle.engine_pages.specs.declared.view.View.{View}
 use Rattle.engine_pages.specs.Layout.{page_at}
@@ -364,6 +364,7 @@ module _ (x : At) (sp : Span) (at page epoch : ℕ) (old new : Dropped) (k : Kep
       → IsSightBefore why read → HasVisited sp at page epoch old v new w
   above_by Locked is cause gone prior = above_shut is cause gone
   above_by Unlike is cause gone prior = absurd cause
+  above_by (UnlikeAt key) is cause gone prior = absurd cause
   above_by Under is cause gone prior = absurd cause
   above_by (Changed e) is cause gone prior = above_turned e gone.0 is cause gone.1 gone.2 gone.3 prior
   above_by Long is cause gone prior = absurd cause

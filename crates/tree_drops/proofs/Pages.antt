@@ -18,7 +18,7 @@ use Rattle.engine_pages.specs.declared.view.View.{View}
 use Rattle.engine_pages.specs.Layout.{page_at}
 use Rattle.engine_pages.specs.Slots.{left}
 use Rattle.engine_pages.specs.Steps.{glance}
-use Rattle.tree_heads.specs.Headers.{HasChildren, HasHeader, HasTwins, Headed, count_of, kind_of, moved_bit}
+use Rattle.tree_heads.specs.Headers.{HasChildren, HasHeader, HasTwins, Headed, IsUnmoved, count_of, kind_of, moved_bit}
 use Rattle.page_drops.specs.declared.calls.Dropped.{Dropped}
 use Rattle.page_drops.specs.declared.noting.Kept.{Kept}
 use Rattle.page_drops.specs.Calls.{IsNoteOf}
@@ -104,8 +104,16 @@ module _ (x : At) (sp : Span) (at t page word epoch header place : ℕ) (v a b :
     pub leaf_met : IsSeenAt t 0 header b
     leaf_met = headed_seen t place header sp a b one here (ap (λ (z : View). z.layout) seen.0.over.went) loads
 
-    pub leaf_bits : (header < 2 ^ 61) ⊎ (2 ^ 62 ≤ header)
-    leaf_bits = seen.1.1.0
+    -- a leaf that wasn't split, and none that the pass knows to have been
+    pub leaf_bits : ((header < 2 ^ 61) × IsUnmoved b t) ⊎ (2 ^ 62 ≤ header)
+    leaf_bits = by_test (nat_lt header moved_bit) refl (leaf_of t place header sp a b here one loads)
+      where
+        by_test : (c : Bool) → nat_lt header moved_bit ≡ c
+            → MatchBool c (HasHeader t sp place a header b) (HasTwins t sp place a header b)
+            → ((header < 2 ^ 61) × IsUnmoved b t) ⊎ (2 ^ 62 ≤ header)
+        by_test true e y =
+            inl (y.few, λ m has same. y.unmoved m (subst (λ l. Contains l m) (ap (λ (z : View). z.moved) y.is) has) same)
+        by_test false e y = inr (let most : 2 ^ 62 ≤ header = grind (arith, nat_tests) in most)
 
     -- a leaf that was split, with all that came of it
     pub leaf_chain : (target : Target) → target.place ≡ x → target.span ≡ sp → target.at ≡ at → target.page ≡ page → target.epoch ≡ epoch

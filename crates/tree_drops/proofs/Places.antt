@@ -18,9 +18,7 @@ use Rattle.commit_core.specs.Parts.{IsSameOrAbsent}
 use Rattle.dual_pointer.specs.Installs.{tree_records}
 use Rattle.engine_pages.specs.declared.engine.Engine.{Engine}
 use Rattle.engine_pages.specs.declared.layout.Layout.{Layout}
-use Rattle.engine_pages.specs.declared.view.Known.{Known}
-use Rattle.engine_pages.specs.declared.view.KeptWhy.{KeptWhy}
-use Rattle.engine_pages.specs.declared.view.KeptWhy.TheVariants.{Locked, Unlike, Changed}
+use Rattle.engine_pages.specs.declared.view.KeptWhy.TheVariants.{Locked, UnlikeAt, Changed}
 use Rattle.engine_pages.specs.declared.view.Version.{Version}
 use Rattle.engine_pages.specs.declared.view.View.{View}
 use Rattle.engine_pages.specs.Layout.{page_at}
@@ -39,7 +37,7 @@ use Rattle.tree_heads.specs.Headers.{HasWord}
 use Rattle.tree_records.specs.Held.{LoadedHeld, version_of}
 use Rattle.page_drops.specs.Works.{HasGlanced, KeepsReads}
 use Rattle.tree_drops.specs.declared.stored.Stored.{Stored}
-use Rattle.tree_drops.specs.Leaves.{found_of, AtTree, HasCompared, IsKeyOf, IsKnownCause, IsLeafCause, IsLike}
+use Rattle.tree_drops.specs.Leaves.{found_of, AtTree, HasCompared, IsKeyOf, IsLeafCause, IsLike}
 use Rattle.tree_drops.specs.Leaves.{IsOtherValue, IsStored, IsUnlike, IsValue, KnowsKeys}
 use Rattle.tree_drops.specs.Works.{OnlyLooks}
 use Rattle.tree_drops.proofs.KeyLists.{has_at, key_there}
@@ -89,47 +87,44 @@ key_found t count i at n sp v w x less h =
 
 -- ---- causes
 
-pub known_cause : (t page epoch i word seen : ℕ) (sp : Span) (k : Key) (why : KeptWhy) (v w : View) (x : IsKeyOf t sp i k v)
-    → ((z : Known) → Contains v.known z → Contains w.known z)
-    → IsLeafCause v.layout.slots t sp v.pages page epoch (x.leaf).keys why word seen
-    → IsKnownCause t sp page epoch v w why word seen
-known_cause t page epoch i word seen sp k why v w x known so = (x.leaf, known x.leaf x.has, x.slot, so)
+pub is_locked : (slots t i at seen page epoch : ℕ) (sp : Span) (pages : List (List ℕ)) → i < 16
+    → at ≡ page_at slots t (17 + 3 * i) → (seen / 2 ^ 60) % 2 ≡ 1 → IsLeafCause slots t sp pages page epoch Locked at seen
+is_locked slots t i at seen page epoch sp pages few place odd = (inr (i, few, place), odd)
 
-pub is_locked : (slots t i at seen page epoch : ℕ) (sp : Span) (pages : List (List ℕ)) (keys : List Key) → i < 16
-    → at ≡ page_at slots t (17 + 3 * i) → (seen / 2 ^ 60) % 2 ≡ 1 → IsLeafCause slots t sp pages page epoch keys Locked at seen
-is_locked slots t i at seen page epoch sp pages keys few place odd = (inr (i, few, place), odd)
+pub is_changed : (slots t i at seen before page epoch : ℕ) (sp : Span) (pages : List (List ℕ)) → i < 16
+    → at ≡ page_at slots t (17 + 3 * i) → seen ≢ before → IsLeafCause slots t sp pages page epoch (Changed before) at seen
+is_changed slots t i at seen before page epoch sp pages few place other = (inr (i, few, place), other)
 
-pub is_changed : (slots t i at seen before page epoch : ℕ) (sp : Span) (pages : List (List ℕ)) (keys : List Key) → i < 16
-    → at ≡ page_at slots t (17 + 3 * i) → seen ≢ before → IsLeafCause slots t sp pages page epoch keys (Changed before) at seen
-is_changed slots t i at seen before page epoch sp pages keys few place other = (inr (i, few, place), other)
-
-pub is_unlike : (slots t i at seen page epoch : ℕ) (sp : Span) (pages : List (List ℕ)) (keys : List Key) (k : Key)
-    (s : Option Stored) → slice_get keys i ≡ Some k → at ≡ page_at slots t (17 + 3 * i) → ((seen / 2 ^ 60) % 2 ≡ 1 → ⊥)
+pub is_unlike : (slots t i at seen page epoch : ℕ) (sp : Span) (pages : List (List ℕ)) (k : Key) (s : Option Stored) → i < 16
+    → k.storage ≡ sp.storage → at ≡ page_at slots t (17 + 3 * i) → ((seen / 2 ^ 60) % 2 ≡ 1 → ⊥)
     → IsStored (tree_records pages page) k.key s → IsUnlike (option_map found_of s) epoch seen
-    → IsLeafCause slots t sp pages page epoch keys Unlike at seen
-is_unlike slots t i at seen page epoch sp pages keys k s here place even is other = inl record {
-  index = i;
-  key = k;
-  at = here;
-  place = place;
-  unlocked = omega (arith, even);
-  unlike = subst (λ (o : Option Found). IsUnlike o epoch seen) (sym is) other;
+    → IsLeafCause slots t sp pages page epoch (UnlikeAt k) at seen
+is_unlike slots t i at seen page epoch sp pages k s few storage place even is other = record {
+  storage = storage;
+  how = inl record {
+    index = i;
+    few = few;
+    place = place;
+    unlocked = omega (arith, even);
+    unlike = subst (λ (o : Option Found). IsUnlike o epoch seen) (sym is) other;
+  };
 }
 
-pub is_valued : (slots t i at seen page epoch : ℕ) (sp : Span) (pages : List (List ℕ)) (keys : List Key) (k : Key)
-    (s : Option Stored) → slice_get keys i ≡ Some k → at ≡ page_at slots t (17 + 3 * i)
-    → IsStored (tree_records pages page) k.key s → IsOtherValue (option_map found_of s) seen
-    → IsLeafCause slots t sp pages page epoch keys Unlike (at + 1) seen
-is_valued slots t i at seen page epoch sp pages keys k None here place is other = absurd other
-is_valued slots t i at seen page epoch sp pages keys k (Some s) here place is other = inr (inl record {
-  index = i;
-  key = k;
-  at = here;
-  place = omega (arith, place);
-  stored = found_of s;
-  is = is;
-  unlike = other;
-})
+pub is_valued : (slots t i at seen page epoch : ℕ) (sp : Span) (pages : List (List ℕ)) (k : Key) (s : Option Stored) → i < 16
+    → k.storage ≡ sp.storage → at ≡ page_at slots t (17 + 3 * i) → IsStored (tree_records pages page) k.key s
+    → IsOtherValue (option_map found_of s) seen → IsLeafCause slots t sp pages page epoch (UnlikeAt k) (at + 1) seen
+is_valued slots t i at seen page epoch sp pages k None few storage place is other = absurd other
+is_valued slots t i at seen page epoch sp pages k (Some s) few storage place is other = record {
+  storage = storage;
+  how = inr (inl record {
+    index = i;
+    few = few;
+    place = omega (arith, place);
+    stored = found_of s;
+    is = is;
+    unlike = other;
+  });
+}
 
 -- ---- it was compared
 

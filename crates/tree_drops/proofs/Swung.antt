@@ -159,9 +159,9 @@ saw_other t at page word found u w other h =
 
 pub keeps_changed : (t page epoch at word found : ℕ) (sp : Span) (k : Kept) (u w z : View)
     → k ≡ record { word = at; seen = found; why = Changed word } → found ≢ word → JustSaw u w at found → IsNoted k w z
-    → KeepsIt (IsCauseBelow t sp page epoch at word u z) k u z
+    → KeepsIt (IsCauseBelow t sp page epoch at word u) k u z
 keeps_changed t page epoch at word found sp k u w z is other saw told =
-    keeps_it (IsCauseBelow t sp page epoch at word u z) u w z at found (Changed word) k is saw told (inr (refl, refl, other))
+    keeps_it (IsCauseBelow t sp page epoch at word u) u w z at found (Changed word) k is saw told (inr (refl, refl, other))
 
 pub tells_changed : (t page at word found : ℕ) (k : Kept) (u w z : View)
     → k ≡ record { word = at; seen = found; why = Changed word } → found ≢ word → HasSwung t at page word u found w

@@ -1,5 +1,5 @@
 -- The pointer is swung away from a chain all of which is locked, or was found to be another.
-use Rattle.std.proofs.Common.{◌≡◌, ◌≢◌, inl, inr, ℕ, suc, ◌*◌, ◌<◌, List, length, refl, sym, ap, ◌∙◌, subst, Some, eq-eqb, ne_eqb}
+use Rattle.std.proofs.Common.{◌≡◌, ◌≢◌, inl, inr, ℕ, suc, ◌*◌, ◌<◌, List, length, refl, sym, ap, ◌∙◌, subst, arith, Some, eq-eqb, ne_eqb}
 use Rattle.std.specs.Prelude.{Err, Ok, MatchBool}
 use Rattle.std.specs.List.{Contains}
 use Rattle.homes.specs.declared.places.Span.{Span}
@@ -54,6 +54,8 @@ module _ (root : Root) (halves : List Half) (headers : List ℕ) (v : View)
       lead = can.chain.lead;
     };
     storage = refl;
+    from = omega arith;
+    to = omega arith;
   }
 
   -- a record of the snapshot is in no leaf
@@ -105,7 +107,7 @@ module _ (root : Root) (halves : List Half) (headers : List ℕ) (v : View)
           → IsNoted k z y → HasTaken root halves headers (Err k) v y
       other_kept k y other told notes =
           let is = not_now other in (
-            keeps_noted (IsTakeCause v.layout.slots root halves headers y.known v.pages) at n (Changed root.word) k v z y
+            keeps_noted (IsTakeCause v.layout.slots root halves headers v.pages) at n (Changed root.word) k v z y
                 (chained_then v w z only (chained_read at n w z is)) told notes (inr (inr (inr (refl, refl, other)))),
             (
               inr (

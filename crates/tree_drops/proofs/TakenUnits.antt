@@ -23,6 +23,7 @@ use Rattle.tree_heads.specs.Headers.{count_of, moved_bit}
 use Rattle.chain_steps.specs.declared.halves.Half.{Half}
 use Rattle.chain_steps.specs.Below.{IsStoredIn}
 use Rattle.chain_steps.specs.Swings.{IsLockedBelow}
+use Rattle.page_drops.specs.Works.{HasHeadAt}
 use Rattle.tree_drops.specs.declared.taking.ChainPage.{ChainPage}
 use Rattle.tree_drops.specs.declared.taking.Root.{Root}
 use Rattle.tree_drops.specs.Chains.{span_in, ChainLooks, ChainsOn}
@@ -410,8 +411,8 @@ module _ (root : Root) (halves : List Half) (headers : List ℕ) where
         by_test true locked = absurd (not_taken (t.own k locked))
 
     -- and it is none of the records that are locked
-    pub key_untaken : (r : ℕ) → j ≡ suc r → IsUntaken h.slot r v
-    key_untaken r next = record {
+    pub key_untaken : (r : ℕ) → j ≡ suc r → HasHeadAt v h.slot → IsUntaken h.slot r v
+    key_untaken r next own = record {
       records = λ y has same.
           let z = t.mine y has in
           let x = z.0 in
@@ -426,6 +427,7 @@ module _ (root : Root) (halves : List Half) (headers : List ℕ) where
           (ap (λ n. is_tree v.layout.decls n) inside.0 ∙ chain.tree.over.tree)
           (same ∙ ap (λ (b : Spot). page_at v.layout.slots b.slot (cond (is_array v.layout.decls (y.key).storage) (2 * b.index) (17 + 3 * b.index))) z.1);
       shuts = chain.shuts;
+      alive = λ y has same. own;
     }
       where
         by_kind : (storage i' : ℕ) (g : Half) (m : ℕ) → At i' g m → (q : ℕ) → 17 * i' + suc q < p → q < 16 → (c : Bool)

@@ -1,5 +1,5 @@
 -- What the work on a leaf of a tree asks and comes to, answer by answer.
-use Rattle.std.proofs.Common.{◌≡◌, ◌≢◌, inl, inr, ℕ, zero, suc, ◌/◌, ◌%◌, ◌^◌, ◌<◌, ◌≤◌, List, [], get_or, refl, sym, ap, ◌∙◌}
+use Rattle.std.proofs.Common.{◌≡◌, ◌≢◌, inl, ℕ, zero, suc, ◌/◌, ◌%◌, ◌^◌, ◌<◌, ◌≤◌, List, get_or, refl, sym, ap, ◌∙◌}
 use Rattle.std.proofs.Common.{subst, arith, Option, Some, None}
 use Rattle.std.specs.Prelude.{Err, IfErr, OnOk, Result}
 use Rattle.std.specs.List.{Contains}
@@ -46,17 +46,16 @@ module _ (x : At) (sp : Span) (at t page word epoch header place : ℕ) (k : Kep
   pub taken_locked : k ≡ record { word = place; seen = header; why = Locked } → IsNoted k v w → 2 ^ 60 ≤ header → header < 2 ^ 61
       → HasTakenLeaf sp at page epoch t (Err k) v w
   taken_locked is told high low =
-      taken_noted x sp at t page word epoch [] k v w can
-      (noted_page (IsLeafCause v.layout.slots t sp v.pages page epoch []) t place header Locked k v w is told
+      taken_noted x sp at t page word epoch k v w can
+      (noted_page (IsLeafCause v.layout.slots t sp v.pages page epoch) t place header Locked k v w is told
       (inl here, omega (arith, high, low)))
       (not_changed Locked k place header is locked_apart)
 
   taken_other : k ≡ record { word = place; seen = header; why = Unlike } → IsNoted k v w → IsNoLeaf page (page_words v.pages page)
       → HasTakenLeaf sp at page epoch t (Err k) v w
   taken_other is told none =
-      taken_noted x sp at t page word epoch [] k v w can
-      (noted_page (IsLeafCause v.layout.slots t sp v.pages page epoch []) t place header Unlike k v w is told
-      (inr (inr record { place = here; unlike = inl none })))
+      taken_noted x sp at t page word epoch k v w can
+      (noted_page (IsLeafCause v.layout.slots t sp v.pages page epoch) t place header Unlike k v w is told (here, none))
       (not_changed Unlike k place header is unlike_apart)
 
 -- the snapshot's page is no leaf
@@ -100,7 +99,7 @@ module _ (x : At) (sp : Span) (at t page word epoch count records : ℕ) (v a : 
   }
 
   pub taken_dropped : (r : Result (Unit {0}) Kept) (w : View) → KeepsReadsBut t at a w → OnOk r (HasDropped t at page a w)
-      → IfErr r (λ k. KeepsIt (IsCauseBelow t sp page epoch at word a w) k a w) → IfErr r (λ k. TellsPointer at word k a w)
+      → IfErr r (λ k. KeepsIt (IsCauseBelow t sp page epoch at word a) k a w) → IfErr r (λ k. TellsPointer at word k a w)
       → HasTakenLeaf sp at page epoch t r v w
   taken_dropped r w reads drops keeps tells =
       taken_then sp at page epoch t r v a w glanced

@@ -1,7 +1,6 @@
 -- Work on a page of a tree, step by step.
 use Rattle.std.proofs.Common.{◌≡◌, inl, inr, ℕ, zero, suc, ◌+◌, ◌≤◌, Bool, cond, eqb, ne_eqb, not, List, []}
 use Rattle.std.proofs.Common.{◌∷◌, ◌++◌, filter, length, refl, sym, ap, ◌∙◌, subst, arith, None}
-use Rattle.std.specs.List.{Contains}
 use Rattle.lists.specs.Elements.{in_push_cases, in_push_old}
 use Rattle.serial_model.specs.declared.key.Key.{Key}
 use Rattle.homes.specs.declared.places.Span.{Span}
@@ -11,7 +10,6 @@ use Rattle.commit_core.specs.declared.seat.Seat.{Seat}
 use Rattle.commit_core.specs.declared.seat.Stage.TheVariants.{Idle}
 use Rattle.commit_core.specs.CoreState.{settled, settled_at}
 use Rattle.engine_pages.specs.declared.view.KeptWhy.{KeptWhy}
-use Rattle.engine_pages.specs.declared.view.Known.{Known}
 use Rattle.engine_pages.specs.declared.view.Role.TheVariants.{Keeper}
 use Rattle.engine_pages.specs.declared.view.Touch.{Touch}
 use Rattle.engine_pages.specs.declared.view.View.{View}
@@ -319,7 +317,3 @@ glanced_there page v w h there = subst (λ (z : View). page ≤ length z.pages) 
 
 pub glanced_room : (page : ℕ) (v w : View) → HasGlanced v w → page ≤ v.layout.resident → page ≤ w.layout.resident
 glanced_room page v w h room = subst (λ (z : View). page ≤ z.layout.resident) (sym h.is) room
-
--- a note forgets nothing that is known
-pub noted_known : (u w : View) (k : Kept) → IsNoted k u w → (x : Known) → Contains u.known x → Contains w.known x
-noted_known u w k told x has = subst (λ (z : View). Contains z.known x) (sym told.1) has

@@ -10,7 +10,7 @@ use Rattle.drop_core.specs.Event.{without}
 use Rattle.drop_core.specs.Table.{at_index}
 use Rattle.engine_pages.specs.declared.view.Inner.{Inner}
 use Rattle.engine_pages.specs.declared.view.KeptWhy.{KeptWhy}
-use Rattle.engine_pages.specs.declared.view.KeptWhy.TheVariants.{Locked, Unlike, Under, Changed, Long}
+use Rattle.engine_pages.specs.declared.view.KeptWhy.TheVariants.{Locked, Unlike, UnlikeAt, Under, Changed, Long}
 use Rattle.engine_pages.specs.declared.view.Lead.{Lead}
 use Rattle.engine_pages.specs.declared.view.Read.{Read}
 use Rattle.engine_pages.specs.declared.view.Shut.{Shut}
@@ -101,6 +101,7 @@ IsBranchCause slots t sp pages page Locked word seen =
     (j : ℕ) × (j < tree_fan) × (word ≡ page_at slots t (4 + j)) × (2 ^ 60 ≤ seen)
 IsBranchCause slots t sp pages page Unlike word seen =
     IsPointerUnlike slots t sp pages page word seen ⊎ IsPartUnlike slots t (page_words pages page) word seen
+IsBranchCause slots t sp pages page (UnlikeAt key) word seen = ⊥
 IsBranchCause slots t sp pages page Under word seen =
     (j : ℕ) × (j < tree_fan) × (word ≡ page_at slots t (4 + j)) × ((u : ℕ) × (half_of seen ≡ Some u))
 IsBranchCause slots t sp pages page (Changed expected) word seen = ⊥

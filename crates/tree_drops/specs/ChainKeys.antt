@@ -8,24 +8,19 @@ use Rattle.snapshot_store.specs.declared.place.PagePlace.{PagePlace}
 use Rattle.snapshot_store.specs.Places.{Found, page as page_words}
 use Rattle.snapshot_store.specs.TreePages.{record_for}
 use Rattle.engine_pages.specs.declared.view.Head.{Head}
-use Rattle.engine_pages.specs.declared.view.KeptWhy.{KeptWhy}
-use Rattle.engine_pages.specs.declared.view.KeptWhy.TheVariants.{Unlike}
 use Rattle.engine_pages.specs.declared.view.View.{View}
-use Rattle.engine_pages.specs.Layout.{page_at}
 use Rattle.engine_pages.specs.Resident.{tree_below}
 use Rattle.pointer_swings.specs.Children.{keys_of}
 use Rattle.tree_heads.specs.Headers.{count_of, moved_bit}
 use Rattle.chain_steps.specs.declared.halves.Half.{Half}
-use Rattle.chain_steps.specs.Below.{IsStoredIn}
 use Rattle.chain_steps.specs.Swings.{HasKeyIn}
 use Rattle.page_drops.specs.declared.noting.Kept.{Kept}
 use Rattle.tree_drops.specs.declared.covering.StoredPage.{StoredPage}
 use Rattle.tree_drops.specs.declared.taking.ChainPage.{ChainPage}
 use Rattle.tree_drops.specs.declared.taking.Root.{Root}
-use Rattle.tree_drops.specs.Belows.{HasMisshapen}
-use Rattle.tree_drops.specs.Chains.{KeepsChain, OnlyChains}
+use Rattle.tree_drops.specs.Chains.{OnlyChains}
 use Rattle.tree_drops.specs.Leaves.{rest_of, AtTree, KnowsKeys}
-use Rattle.tree_drops.specs.Taking.{all_slots, keys_in, CanCover, Covers, IsLeafOf, IsPageAt}
+use Rattle.tree_drops.specs.Taking.{all_slots, keys_in, CanCover, Covers, IsPageAt, KeepsUncovered}
 
 -- ---- a key of a chain
 
@@ -68,33 +63,6 @@ IsCoveredOr root halves headers sp key true v = sp.low ≤ key → key ≤ sp.hi
     → HasKeyIn v (all_slots root halves) (key_in (keys_in root) key)
 IsCoveredOr root halves headers sp key false v = (sp.low ≤ key) × (key ≤ sp.high) × LacksFrom root halves headers 0 key v
 
--- ---- why the snapshot isn't covered
-
--- The snapshot has a record of this key of the span, below the page with this number, and no leaf of the chain has it,
--- each of whose headers is locked.
-pub record IsUncovered (root : Root) (halves : List Half) (headers : List ℕ) (heads : List Head) (pages : List (List ℕ))
-    (sp : Span) (page : ℕ) : Type 0 where
-  pub key : ℕ
-  pub found : Found
-  pub from : sp.low ≤ key
-  pub to : key ≤ sp.high
-  pub stored : IsStoredIn pages sp page key (Some found)
-  pub none : (h : Half) → IsLeafOf root halves headers h → h.low ≤ key → key ≤ h.high
-      → (x : Head) × Contains heads x × (x.slot ≡ h.slot) × (has_key x.keys (key_in sp key) ≡ false)
-
--- the header of the chain's first page was seen, and so it is, or a page of the snapshot is misshapen
-pub record IsUncoveredCause (slots : ℕ) (root : Root) (halves : List Half) (headers : List ℕ) (heads : List Head)
-    (pages : List (List ℕ)) (sp : Span) (page : ℕ) (why : KeptWhy) (word : ℕ) : Type 0 where
-  pub unlike : why ≡ Unlike
-  pub place : word ≡ page_at slots root.slot 0
-  pub cause : HasMisshapen pages ⊎ IsUncovered root halves headers heads pages sp page
-
--- the chain is kept for it
-abbrev pub KeepsUncovered : Root → List Half → List ℕ → Span → ℕ → Kept → View → View → Type 0
-KeepsUncovered root halves headers sp page k v w =
-    KeepsChain (λ why word seen. IsUncoveredCause v.layout.slots root halves headers v.heads v.pages sp page why word) k v w
-    × (w.reads ≡ v.reads)
-
 -- ---- the records of a leaf
 
 -- each record of a leaf of the snapshot from this one on, of a key of its span, is of a key of a leaf of the chain
@@ -107,7 +75,7 @@ CoversRest root halves leaf index v = (n key : ℕ) (f : Found) → index + n �
 abbrev pub HasCoveredRest : Root → List Half → List ℕ → StoredPage → ℕ → Result (Unit {0}) Kept → View → View → Type 0
 HasCoveredRest root halves headers leaf index (Ok u) v w =
     OnlyChains v w × CoversRest root halves leaf index v × (w.reads ≡ v.reads)
-HasCoveredRest root halves headers leaf index (Err k) v w = KeepsUncovered root halves headers leaf.span leaf.page k v w
+HasCoveredRest root halves headers leaf index (Err k) v w = KeepsUncovered root leaf.span leaf.page k v w
 
 -- ---- the pages below an interior one
 
@@ -127,7 +95,7 @@ IsInnerOr root halves sp page count v = IsInnerPage v.pages page count ⊎ ((cou
 abbrev pub HasCoveredPage : Root → List Half → List ℕ → Span → ℕ → Result ℕ Kept → View → View → Type 0
 HasCoveredPage root halves headers sp page (Ok count) v w =
     OnlyChains v w × IsInnerOr root halves sp page count v × (w.reads ≡ v.reads)
-HasCoveredPage root halves headers sp page (Err k) v w = KeepsUncovered root halves headers sp page k v w
+HasCoveredPage root halves headers sp page (Err k) v w = KeepsUncovered root sp page k v w
 
 -- The page below with this index was found to be so.
 pub record HasOpenedChild (root : Root) (halves : List Half) (headers : List ℕ) (page : StoredPage) (index : ℕ) (v : View)
@@ -149,7 +117,7 @@ pub record HasOpenedChild (root : Root) (halves : List Half) (headers : List ℕ
 -- so it was, or the chain is kept
 abbrev pub HasOpenedBelow : Root → List Half → List ℕ → StoredPage → ℕ → Result StoredPage Kept → View → View → Type 0
 HasOpenedBelow root halves headers page index (Ok child) v w = HasOpenedChild root halves headers page index v child w
-HasOpenedBelow root halves headers page index (Err k) v w = KeepsUncovered root halves headers page.span page.page k v w
+HasOpenedBelow root halves headers page index (Err k) v w = KeepsUncovered root page.span page.page k v w
 
 -- what is below the children of a page from this one on is covered
 pub record CoversChildren (root : Root) (halves : List Half) (page : StoredPage) (index : ℕ) (v : View) : Type 0 where
@@ -161,4 +129,4 @@ pub record CoversChildren (root : Root) (halves : List Half) (page : StoredPage)
 abbrev pub HasCoveredFrom : Root → List Half → List ℕ → StoredPage → ℕ → Result (Unit {0}) Kept → View → View → Type 0
 HasCoveredFrom root halves headers page index (Ok u) v w =
     OnlyChains v w × CoversChildren root halves page index v × (w.reads ≡ v.reads)
-HasCoveredFrom root halves headers page index (Err k) v w = KeepsUncovered root halves headers page.span page.page k v w
+HasCoveredFrom root halves headers page index (Err k) v w = KeepsUncovered root page.span page.page k v w

@@ -16,7 +16,8 @@ use Rattle.drop_core.specs.Event.{each_once, without}
 use Rattle.engine_pages.specs.declared.view.Head.{Head}
 use Rattle.engine_pages.specs.declared.view.Known.{Known}
 use Rattle.engine_pages.specs.declared.view.KeptWhy.{KeptWhy}
-use Rattle.engine_pages.specs.declared.view.KeptWhy.TheVariants.{Locked, Unlike, Under, Changed, Long}
+use Rattle.engine_pages.specs.declared.view.KeptWhy.TheVariants.{Locked, Unlike, UnlikeAt, Under, Changed, Long}
+use Rattle.engine_pages.specs.declared.view.Moved.{Moved}
 use Rattle.engine_pages.specs.declared.view.Read.{Read}
 use Rattle.engine_pages.specs.declared.view.Role.TheVariants.{Keeper}
 use Rattle.engine_pages.specs.declared.view.Took.{Took}
@@ -32,11 +33,11 @@ use Rattle.dual_pointer.specs.Copies.{IsLeadOf}
 use Rattle.dual_pointer.specs.Installs.{tree_records}
 use Rattle.page_records.specs.Locks.{took_at, IsOpenWord}
 use Rattle.pointer_swings.specs.TreeSwings.{IsTreeLockedAs}
-use Rattle.tree_heads.specs.Headers.{IsTreeAt}
-use Rattle.page_drops.specs.Works.{locked_at, read_of, IsOutside}
+use Rattle.tree_heads.specs.Headers.{count_of, IsTreeAt}
+use Rattle.page_drops.specs.Works.{locked_at, read_of, HasHeadAt, IsOutside}
 use Rattle.tree_drops.specs.declared.stored.Stored.{Stored}
 use Rattle.page_drops.specs.declared.noting.Kept.{Kept}
-use Rattle.tree_drops.specs.Works.{KeepsIt, OnlyLooks, WorksOn}
+use Rattle.tree_drops.specs.Works.{IsSeenAt, KeepsIt, OnlyLooks, WorksOn}
 
 -- ---- what is asked
 
@@ -128,69 +129,68 @@ abbrev pub IsHeadOrRecord : ℕ → ℕ → ℕ → Type 0
 IsHeadOrRecord slots t word =
     (word ≡ page_at slots t 0) ⊎ ((i : ℕ) × (i < 16) × (word ≡ page_at slots t (17 + 3 * i)))
 
--- A record's word is unlike that of the snapshot's leaf, by the key with its index among these.
-pub record IsWordUnlike (slots t : ℕ) (keys : List Key) (records : List Record) (epoch word seen : ℕ) : Type 0 where
+-- The word of a key's record is unlike that of the snapshot's leaf.
+pub record IsWordUnlike (slots t : ℕ) (key : Key) (records : List Record) (epoch word seen : ℕ) : Type 0 where
   pub index : ℕ
-  pub key : Key
-  pub at : slice_get keys index ≡ Some key
+  pub few : index < 16
   pub place : word ≡ page_at slots t (17 + 3 * index)
   pub unlocked : (seen / 2 ^ 60) % 2 ≡ 0
   pub unlike : IsUnlike (record_for records key.key) epoch seen
 
 -- or its value is
-pub record IsValueUnlike (slots t : ℕ) (keys : List Key) (records : List Record) (word seen : ℕ) : Type 0 where
+pub record IsValueUnlike (slots t : ℕ) (key : Key) (records : List Record) (word seen : ℕ) : Type 0 where
   pub index : ℕ
-  pub key : Key
-  pub at : slice_get keys index ≡ Some key
+  pub few : index < 16
   pub place : word ≡ page_at slots t (18 + 3 * index)
   pub stored : Found
   pub is : record_for records key.key ≡ Some stored
   pub unlike : seen ≢ stored.value
 
--- one of these records is of a key that none of these keys is
-pub record HasOther (sp : Span) (keys : List Key) (records : List Record) : Type 0 where
+-- or the snapshot's leaf has one of a key that this leaf hasn't, whose header was seen
+pub record IsKeyLacking (slots t : ℕ) (key : Key) (records : List Record) (word : ℕ) : Type 0 where
+  pub place : word ≡ page_at slots t 0
   pub other : Record
   pub has : Contains records other
-  pub none : has_key keys (record { storage = sp.storage; key = other.key }) ≡ false
+  pub same : key.key ≡ other.key
 
--- The leaf's header was seen, and the snapshot's page is no leaf, or has a record of another key.
-pub record IsHeadUnlike
-    (slots t : ℕ) (sp : Span) (page : ℕ) (words : List ℕ) (keys : List Key) (records : List Record) (word : ℕ)
-    : Type 0 where
-  pub place : word ≡ page_at slots t 0
-  pub unlike : IsNoLeaf page words ⊎ HasOther sp keys records
+-- so a leaf over these keys is unlike a snapshot's at a key
+pub record IsKeyUnlike (slots t : ℕ) (sp : Span) (key : Key) (records : List Record) (epoch word seen : ℕ) : Type 0 where
+  pub storage : key.storage ≡ sp.storage
+  pub how : IsWordUnlike slots t key records epoch word seen
+      ⊎ (IsValueUnlike slots t key records word seen ⊎ IsKeyLacking slots t key records word)
 
--- Why a leaf with these keys in a slot was kept that is compared with the snapshot page with this number: a word was
--- locked, or had changed since the load before it, or was unlike the snapshot's, or its value was.
-abbrev pub IsLeafCause : ℕ → ℕ → Span → List (List ℕ) → ℕ → ℕ → List Key → KeptWhy → ℕ → ℕ → Type 0
-IsLeafCause slots t sp pages page epoch keys Locked word seen = IsHeadOrRecord slots t word × ((seen / 2 ^ 60) % 2 ≡ 1)
-IsLeafCause slots t sp pages page epoch keys Unlike word seen =
-    IsWordUnlike slots t keys (tree_records pages page) epoch word seen
-    ⊎ (IsValueUnlike slots t keys (tree_records pages page) word seen
-    ⊎ IsHeadUnlike slots t sp page (page_words pages page) keys (tree_records pages page) word)
-IsLeafCause slots t sp pages page epoch keys Under word seen = ⊥
-IsLeafCause slots t sp pages page epoch keys (Changed expected) word seen = IsHeadOrRecord slots t word × (seen ≢ expected)
-IsLeafCause slots t sp pages page epoch keys Long word seen = ⊥
+-- Why a leaf in a slot was kept that is compared with the snapshot page with this number: a word was locked, or had
+-- changed since the load before it; or its header was seen, and the snapshot's page is no leaf; or it is unlike that at a
+-- key. That the record is the key's, or that it has none, is shown by who notes it (`IsKeepDue` of page_drops).
+abbrev pub IsLeafCause : ℕ → ℕ → Span → List (List ℕ) → ℕ → ℕ → KeptWhy → ℕ → ℕ → Type 0
+IsLeafCause slots t sp pages page epoch Locked word seen = IsHeadOrRecord slots t word × ((seen / 2 ^ 60) % 2 ≡ 1)
+IsLeafCause slots t sp pages page epoch Unlike word seen =
+    (word ≡ page_at slots t 0) × IsNoLeaf page (page_words pages page)
+IsLeafCause slots t sp pages page epoch (UnlikeAt key) word seen =
+    IsKeyUnlike slots t sp key (tree_records pages page) epoch word seen
+IsLeafCause slots t sp pages page epoch Under word seen = ⊥
+IsLeafCause slots t sp pages page epoch (Changed expected) word seen = IsHeadOrRecord slots t word × (seen ≢ expected)
+IsLeafCause slots t sp pages page epoch Long word seen = ⊥
 
--- The same of the record with this index alone, where the snapshot has this for its key.
-abbrev pub IsRecordCause : ℕ → ℕ → ℕ → Option Found → ℕ → KeptWhy → ℕ → ℕ → Type 0
-IsRecordCause slots t i o epoch Locked word seen = (word ≡ page_at slots t (17 + 3 * i)) × ((seen / 2 ^ 60) % 2 ≡ 1)
-IsRecordCause slots t i o epoch Unlike word seen =
-    ((word ≡ page_at slots t (17 + 3 * i)) × ((seen / 2 ^ 60) % 2 ≡ 0) × IsUnlike o epoch seen)
-    ⊎ ((word ≡ page_at slots t (18 + 3 * i)) × IsOtherValue o seen)
-IsRecordCause slots t i o epoch Under word seen = ⊥
-IsRecordCause slots t i o epoch (Changed expected) word seen = (word ≡ page_at slots t (17 + 3 * i)) × (seen ≢ expected)
-IsRecordCause slots t i o epoch Long word seen = ⊥
+-- The same of the record with this index alone, of this key, for which the snapshot has this.
+abbrev pub IsRecordCause : ℕ → ℕ → ℕ → Key → Option Found → ℕ → KeptWhy → ℕ → ℕ → Type 0
+IsRecordCause slots t i key o epoch Locked word seen = (word ≡ page_at slots t (17 + 3 * i)) × ((seen / 2 ^ 60) % 2 ≡ 1)
+IsRecordCause slots t i key o epoch Unlike word seen = ⊥
+IsRecordCause slots t i key o epoch (UnlikeAt of) word seen = (of ≡ key)
+    × (((word ≡ page_at slots t (17 + 3 * i)) × ((seen / 2 ^ 60) % 2 ≡ 0) × IsUnlike o epoch seen)
+    ⊎ ((word ≡ page_at slots t (18 + 3 * i)) × IsOtherValue o seen))
+IsRecordCause slots t i key o epoch Under word seen = ⊥
+IsRecordCause slots t i key o epoch (Changed expected) word seen = (word ≡ page_at slots t (17 + 3 * i)) × (seen ≢ expected)
+IsRecordCause slots t i key o epoch Long word seen = ⊥
 
--- so it was kept, with keys that the pass knows
-abbrev pub IsKnownCause : ℕ → Span → ℕ → ℕ → View → View → KeptWhy → ℕ → ℕ → Type 0
-IsKnownCause t sp page epoch v w why word seen = (x : Known) × Contains w.known x × (x.slot ≡ t)
-    × IsLeafCause v.layout.slots t sp v.pages page epoch x.keys why word seen
+-- the first one, with the pages that the pass knows
+abbrev pub IsCauseAt : ℕ → Span → ℕ → ℕ → View → KeptWhy → ℕ → ℕ → Type 0
+IsCauseAt t sp page epoch v why word seen = IsLeafCause v.layout.slots t sp v.pages page epoch why word seen
 
 -- the same, or the pointer above, whose word is here and was this one as the work began, was found to be another
-abbrev pub IsCauseBelow : ℕ → Span → ℕ → ℕ → ℕ → ℕ → View → View → KeptWhy → ℕ → ℕ → Type 0
-IsCauseBelow t sp page epoch at before v w why word seen =
-    IsKnownCause t sp page epoch v w why word seen ⊎ ((word ≡ at) × (why ≡ Changed before) × (seen ≢ before))
+abbrev pub IsCauseBelow : ℕ → Span → ℕ → ℕ → ℕ → ℕ → View → KeptWhy → ℕ → ℕ → Type 0
+IsCauseBelow t sp page epoch at before v why word seen =
+    IsCauseAt t sp page epoch v why word seen ⊎ ((word ≡ at) × (why ≡ Changed before) × (seen ≢ before))
 
 -- ---- one record
 
@@ -215,9 +215,13 @@ CoversAll t sp page count records i v = (x : KnowsKeys t sp count v) (n : ℕ) �
     → Contains (rest_of (page_words v.pages page) i n) r
     → has_key (x.leaf).keys (record { storage = sp.storage; key = r.key }) ≡ true
 
--- the page is kept for the header's word
-abbrev pub KeptForHeader : ℕ → Kept → View → View → Type 0
-KeptForHeader t k v w = KeepsIt (λ why word seen. (why ≡ Unlike) × (word ≡ page_at v.layout.slots t 0)) k v w
+-- the header of the leaf in the slot was last seen or left as that of one that wasn't split, with so many records
+abbrev pub IsSeenWhole : ℕ → ℕ → View → Type 0
+IsSeenWhole t count v = (n : ℕ) × IsSeenAt t 0 n v × (n < 2 ^ 62) × (count_of n ≡ count)
+
+-- the page is kept for the header's word, and for this
+abbrev pub KeptForHeader : ℕ → KeptWhy → Kept → View → View → Type 0
+KeptForHeader t reason k v w = KeepsIt (λ why word seen. (why ≡ reason) × (word ≡ page_at v.layout.slots t 0)) k v w
 
 -- ---- what is locked
 
@@ -236,10 +240,12 @@ pub record LocksMore (k : Key) (x : Spot) (word : ℕ) (v w : View) : Type 0 whe
   pub heads : w.heads ≡ v.heads
   pub kept : w.kept ≡ v.kept
 
--- None of the records that the pass has locked is the one with this index in the slot, and it has shut no pointer.
+-- None of the records that the pass has locked is the one with this index in the slot, and it has shut no pointer. Nor
+-- does it know that the leaf was split, unless it has locked the header.
 pub record IsUntaken (t i : ℕ) (v : View) : Type 0 where
   pub records : (x : Took) → Contains v.took x → page_at v.layout.slots t (17 + 3 * i) ≢ locked_at v x
   pub shuts : v.shuts ≡ []
+  pub alive : (x : Moved) → Contains v.moved x → x.slot ≡ t → HasHeadAt v t
 
 -- The key isn't among those that are locked.
 pub record IsNew (k : Key) (v : View) : Type 0 where

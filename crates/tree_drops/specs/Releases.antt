@@ -5,7 +5,6 @@ use Rattle.homes.specs.declared.places.Span.{Span}
 use Rattle.drop_core.specs.Table.{has_slot}
 use Rattle.engine_rule.specs.JointState.{keeps_word}
 use Rattle.engine_pages.specs.declared.view.KeptWhy.{KeptWhy}
-use Rattle.engine_pages.specs.declared.view.Known.{Known}
 use Rattle.engine_pages.specs.declared.view.KeptWhy.TheVariants.{Long}
 use Rattle.engine_pages.specs.declared.view.View.{View}
 use Rattle.engine_pages.specs.declared.view.Way.{Way}
@@ -19,9 +18,9 @@ use Rattle.chain_steps.specs.Swings.{slots_of}
 use Rattle.page_drops.specs.declared.noting.Kept.{Kept}
 use Rattle.page_drops.specs.Works.{KeepsReads}
 use Rattle.tree_drops.specs.declared.taking.Root.{Root}
-use Rattle.tree_drops.specs.Chains.{AreFresh, ChainLooks, IsEarlier, IsHoldCause, NotedFor}
+use Rattle.tree_drops.specs.Chains.{AreFresh, CameOf, ChainLooks, IsEarlier, IsHoldCause, NotedFor}
 use Rattle.tree_drops.specs.Leaves.{KnowsKeys}
-use Rattle.tree_drops.specs.Taking.{all_pages, keys_in, HasTakenChain, IsLeafOf, IsTakeCause, KeepsBeside}
+use Rattle.tree_drops.specs.Taking.{keys_in, HasTakenChain, IsLeafOf, IsTakeCause, KeepsBeside}
 use Rattle.tree_drops.specs.Turns.{CanWork}
 use Rattle.tree_drops.specs.Works.{TellsPointer}
 
@@ -76,7 +75,7 @@ pub record HoldsHalves (t : ℕ) (sp : Span) (halves : List Half) (splits : List
   pub inside : (h : Half) → Contains halves h → (sp.low ≤ h.low) × (h.high ≤ sp.high) × (h.slot < v.layout.slots)
   pub paired : length splits ≡ length halves
   pub came : (j : ℕ) (h : Half) (u : ℕ) → slice_get halves j ≡ Some h → slice_get splits j ≡ Some u
-      → IsEarlier t halves j u
+      → IsEarlier t halves j u × CameOf t halves h u v
 
 -- no half came of this page
 abbrev pub IsHalfless : List ℕ → ℕ → Type 0
@@ -97,13 +96,12 @@ pub record HasKeptLong (root : Root) (x : Moved) (k : Kept) (v w : View) : Type 
   pub reads : KeepsReads root.slot v w
 
 -- Why a chain is kept: a word that was seen as its pages were held, or its length, or what was seen as they were locked,
--- where the leaves are the pages of which no half came, and these are the keys that the pass knows.
-abbrev pub IsWholeCause : ℕ → Root → List Half → List ℕ → List Known → View → KeptWhy → ℕ → ℕ → Type 0
-IsWholeCause slots root halves splits known v why word seen = IsHoldCause slots root.slot (keys_in root) halves why word seen
+-- where no half came of a leaf.
+abbrev pub IsWholeCause : ℕ → Root → List Half → List ℕ → View → KeptWhy → ℕ → ℕ → Type 0
+IsWholeCause slots root halves splits v why word seen = IsHoldCause slots root.slot (keys_in root) halves why word seen
     ⊎ (((why ≡ Long) × (word ≡ page_at slots root.slot 0) × (2 ^ 62 ≤ seen) × (63 ≤ length halves))
-    ⊎ ((headers : List ℕ) × (((h : Half) → IsLeafOf root halves headers h → IsHalfless splits h.slot)
-    × ((h : Half) → Contains (all_pages root halves) h → IsHalfless splits h.slot → IsLeafOf root halves headers h))
-    × IsTakeCause slots root halves headers known v.pages why word seen))
+    ⊎ ((headers : List ℕ) × ((h : Half) → IsLeafOf root halves headers h → IsHalfless splits h.slot)
+    × IsTakeCause slots root halves headers v.pages why word seen))
 
 -- It is dropped, and its pages are held, or it is kept, and has no lock of it.
 abbrev pub HasWorkedChain : Root → List Half → Result (Unit {0}) Kept → View → View → Type 0
@@ -111,5 +109,5 @@ HasWorkedChain root halves (Ok u) v w = (splits : List ℕ) × (a : View) × Hol
     × (ChainLooks v a × (a.kept ≡ v.kept) × (2 ≤ length halves) × (length halves < 63) × HasTakenChain root halves a w
     × KeepsBeside root halves v w)
 HasWorkedChain root halves (Err k) v w = (splits : List ℕ) × HoldsHalves root.slot (keys_in root) halves splits v w
-    × (ChainLooks v w × NotedFor (IsWholeCause v.layout.slots root halves splits w.known v) k v w
+    × (ChainLooks v w × NotedFor (IsWholeCause v.layout.slots root halves splits v) k v w
     × TellsPointer (root.target).at root.word k v w × KeepsBeside root halves v w)

@@ -1,6 +1,6 @@
 -- What is asked and told of a chain all pages of which are held: they are locked, one after another, as the snapshot has
 -- them, and the pointer is swung away from the first.
-use Rattle.std.specs.Prelude.{◌≡◌, ◌≢◌, ◌⊎◌, ℕ, suc, ◌+◌, ◌*◌, ◌^◌, ◌<◌, ◌≤◌, true, false, List, [], ◌∷◌, ◌++◌, length}
+use Rattle.std.specs.Prelude.{◌≡◌, ◌≢◌, ◌⊎◌, ℕ, suc, ◌+◌, ◌*◌, ◌^◌, ◌<◌, ◌≤◌, true, List, [], ◌∷◌, ◌++◌, length}
 use Rattle.std.specs.Prelude.{slice_get, Some, Contains, Result, Ok, Err, ⊤}
 use Rattle.serial_model.specs.declared.key.Key.{Key}
 use Rattle.homes.specs.declared.places.Span.{Span}
@@ -8,13 +8,13 @@ use Rattle.homes.specs.Homes.{has_key, in_span}
 use Rattle.snapshot_store.specs.Places.{Found}
 use Rattle.drop_core.specs.Table.{has_slot}
 use Rattle.engine_pages.specs.declared.view.Head.{Head}
-use Rattle.engine_pages.specs.declared.view.Known.{Known}
 use Rattle.engine_pages.specs.declared.view.KeptWhy.{KeptWhy}
-use Rattle.engine_pages.specs.declared.view.KeptWhy.TheVariants.{Unlike, Changed}
+use Rattle.engine_pages.specs.declared.view.KeptWhy.TheVariants.{Unlike, UnlikeAt, Changed}
 use Rattle.engine_pages.specs.declared.view.Moved.{Moved}
 use Rattle.engine_pages.specs.declared.view.Role.TheVariants.{Keeper}
 use Rattle.engine_pages.specs.declared.view.Took.{Took}
 use Rattle.engine_pages.specs.declared.view.View.{View}
+use Rattle.engine_pages.specs.declared.view.Way.{Way}
 use Rattle.engine_pages.specs.Layout.{page_at, words_of}
 use Rattle.engine_pages.specs.Pointers.{IsPointerAt, half_of}
 use Rattle.engine_pages.specs.Steps.{seen_at}
@@ -28,7 +28,7 @@ use Rattle.chain_steps.specs.Below.{IsStoredBelow, IsStoredIn}
 use Rattle.chain_steps.specs.Swings.{slots_of, swung_chain, HasKeyIn, IsLockedBelow}
 use Rattle.page_drops.specs.declared.noting.Kept.{Kept}
 use Rattle.page_drops.specs.Calls.{IsElsewhere}
-use Rattle.page_drops.specs.Works.{read_of, IsOutside, KeepsReads}
+use Rattle.page_drops.specs.Works.{read_of, HasHeadAt, IsOutside, KeepsReads}
 use Rattle.page_records.specs.Locks.{opened, took_at, CanOpenAgain}
 use Rattle.tree_drops.specs.declared.taking.ChainPage.{ChainPage}
 use Rattle.tree_drops.specs.declared.taking.Done.{Done}
@@ -38,7 +38,7 @@ use Rattle.tree_drops.specs.Belows.{CanGoBelow, HasMisshapen}
 use Rattle.tree_drops.specs.Chains.{pages_of, span_in, split_header, way_in, ChainsOn, HoldsSame}
 use Rattle.tree_drops.specs.Chains.{KeepsChain, OnlyChains}
 use Rattle.tree_drops.specs.Leaves.{AreKeys, AtTree, IsKeyOf, IsNew, IsUntaken, KnowsKeys}
-use Rattle.tree_drops.specs.Visits.{IsHeaderCause, IsRecordKept}
+use Rattle.tree_drops.specs.Visits.{IsHeaderCause, IsNarrower, IsRecordKept}
 use Rattle.tree_drops.specs.Works.{TellsPointer}
 
 -- ---- the pages
@@ -87,8 +87,8 @@ pub record IsKnownPage (root : Root) (halves : List Half) (h : Half) (n : ℕ) (
 abbrev pub AreApart : Span → Span → Type 0
 AreApart one two = (k : Key) → in_span one k ≡ true → in_span two k ≡ true → ⊥
 
--- All pages of a chain are held, 63 at most; the pointer to the first of them was last seen or left as this word, and
--- stands in none of them.
+-- All pages of a chain are held, 63 at most, and pages round it; the pointer to the first of them was last seen or left
+-- as this word, and stands in none of them.
 pub record IsWholeChain (root : Root) (halves : List Half) (headers : List ℕ) (v : View) : Type 0 where
   pub tree : AtTree root.slot (keys_in root) (root.target).page v
   pub place : IsPointerAt v (root.target).place (keys_in root) (root.target).at
@@ -107,6 +107,8 @@ pub record IsWholeChain (root : Root) (halves : List Half) (headers : List ℕ) 
       → h.slot ≡ g.slot → i ≡ j
   pub parts : (i j : ℕ) (h g : Half) (n m : ℕ) → IsPageAt root halves headers i h n → IsPageAt root halves headers j g m
       → n < moved_bit → m < moved_bit → (i ≡ j → ⊥) → AreApart (span_in (keys_in root) h) (span_in (keys_in root) g)
+  pub ways : (x : Way) → Contains v.ways x
+      → (has_slot (all_slots root halves) x.slot ≡ true) ⊎ IsNarrower x.span (keys_in root)
 
 -- ---- what is locked
 
@@ -172,31 +174,29 @@ pub record IsLeafOf (root : Root) (halves : List Half) (headers : List ℕ) (h :
   pub page : IsPageAt root halves headers index h header
   pub leaf : header < moved_bit
 
--- These are keys that a pass knows of leaves: of the one in the slot all, so many, and this key isn't one of them.
-pub record IsLacking (known : List Known) (t count : ℕ) (k : Key) : Type 0 where
-  pub leaf : Known
-  pub has : Contains known leaf
-  pub slot : leaf.slot ≡ t
-  pub all : length leaf.keys ≡ count
-  pub none : has_key leaf.keys k ≡ false
+-- The snapshot has a record of the key below the page with this number, which stands for these keys.
+pub record IsStoredThere (pages : List (List ℕ)) (sp : Span) (page : ℕ) (key : Key) : Type 0 where
+  pub storage : key.storage ≡ sp.storage
+  pub from : sp.low ≤ key.key
+  pub to : key.key ≤ sp.high
+  pub found : Found
+  pub stored : IsStoredIn pages sp page key.key (Some found)
 
--- A page of the snapshot was misshapen, or it has a record of a key that no leaf has, below the page with this number,
--- which stands for these keys. What the pass knows of the leaves are these keys.
-pub record IsCoverCause (slots : ℕ) (root : Root) (halves : List Half) (headers : List ℕ) (known : List Known)
-    (pages : List (List ℕ)) (sp : Span) (page : ℕ) (why : KeptWhy) (word : ℕ) : Type 0 where
-  pub unlike : why ≡ Unlike
+-- The header of the chain's first page was seen: a page of the snapshot is misshapen, or it has a record below the page
+-- with this number, of a key that no leaf of the chain has, which is shown by who notes it.
+pub record IsCoverCause (slots : ℕ) (root : Root) (pages : List (List ℕ)) (sp : Span) (page : ℕ) (why : KeptWhy) (word : ℕ)
+    : Type 0 where
   pub place : word ≡ page_at slots root.slot 0
-  pub cause : HasMisshapen pages ⊎ ((key : ℕ) × (f : Found) × IsStoredIn pages sp page key (Some f)
-      × ((h : Half) (leaf : IsLeafOf root halves headers h) → h.low ≤ key → key ≤ h.high
-      → IsLacking known h.slot (count_of leaf.header) (record { storage = sp.storage; key = key })))
+  pub cause : ((why ≡ Unlike) × HasMisshapen pages)
+      ⊎ ((key : Key) × (why ≡ UnlikeAt key) × IsStoredThere pages sp page key)
 
--- why a chain all of which is held was kept, of whose leaves the pass knows these keys
-abbrev pub IsTakeCause : ℕ → Root → List Half → List ℕ → List Known → List (List ℕ) → KeptWhy → ℕ → ℕ → Type 0
-IsTakeCause slots root halves headers known pages why word seen =
+-- why a chain all of which is held was kept
+abbrev pub IsTakeCause : ℕ → Root → List Half → List ℕ → List (List ℕ) → KeptWhy → ℕ → ℕ → Type 0
+IsTakeCause slots root halves headers pages why word seen =
     ((h : Half) × Contains (all_pages root halves) h × IsHeaderCause slots h.slot why word seen)
     ⊎ (((h : Half) × IsLeafOf root halves headers h × IsRecordKept slots h.slot (span_in (keys_in root) h) (keys_in root) pages
     (root.target).page (root.target).epoch why word seen)
-    ⊎ (IsCoverCause slots root halves headers known pages (keys_in root) (root.target).page why word
+    ⊎ (IsCoverCause slots root pages (keys_in root) (root.target).page why word
     ⊎ ((word ≡ (root.target).at) × (why ≡ Changed root.word) × (seen ≢ root.word))))
 
 -- what was read of words that stand in no page of the chain is as it was, but for the pointer's
@@ -301,6 +301,7 @@ pub record CanTakeKey (root : Root) (page : ChainPage) (r : ℕ) (v : View) : Ty
   pub index : r < count_of page.header
   pub new : (k : Key) → slice_get (keys.leaf).keys r ≡ Some k → IsNew k v
   pub own : IsUntaken page.slot r v
+  pub head : HasHeadAt v page.slot
 
 -- A unit of work is to be done on a page of a chain that the pass holds.
 pub record CanWorkOn (root : Root) (page : ChainPage) (j : ℕ) (v : View) : Type 0 where
@@ -338,18 +339,23 @@ pub record CanCover (root : Root) (halves : List Half) (headers : List ℕ) (sp 
   pub take : CanTake root halves headers (17 * suc (length halves)) v
   pub below : CanGoBelow sp page v
   pub storage : sp.storage ≡ (keys_in root).storage
+  pub from : (keys_in root).low ≤ sp.low
+  pub to : sp.high ≤ (keys_in root).high
 
 -- each record that the snapshot has below it, of a key of the span, is of a key of a leaf of the chain
 abbrev pub Covers : Root → List Half → Span → ℕ → View → Type 0
 Covers root halves sp page v = (d key : ℕ) (f : Found) → IsStoredBelow d v.pages sp page key (Some f)
     → sp.low ≤ key → key ≤ sp.high → HasKeyIn v (all_slots root halves) (record { storage = sp.storage; key = key })
 
+-- the chain is kept for what is below that page
+abbrev pub KeepsUncovered : Root → Span → ℕ → Kept → View → View → Type 0
+KeepsUncovered root sp page k v w =
+    KeepsChain (λ why word seen. IsCoverCause v.layout.slots root v.pages sp page why word) k v w × (w.reads ≡ v.reads)
+
 -- so it is, or the chain is kept
 abbrev pub HasCovered : Root → List Half → List ℕ → Span → ℕ → Result (Unit {0}) Kept → View → View → Type 0
 HasCovered root halves headers sp page (Ok u) v w = OnlyChains v w × Covers root halves sp page v × (w.reads ≡ v.reads)
-HasCovered root halves headers sp page (Err k) v w =
-    KeepsChain (λ why word seen. IsCoverCause v.layout.slots root halves headers w.known v.pages sp page why word) k v w
-    × (w.reads ≡ v.reads)
+HasCovered root halves headers sp page (Err k) v w = KeepsUncovered root sp page k v w
 
 -- ---- all of it
 
@@ -357,5 +363,5 @@ HasCovered root halves headers sp page (Err k) v w =
 abbrev pub HasTaken : Root → List Half → List ℕ → Result (Unit {0}) Kept → View → View → Type 0
 HasTaken root halves headers (Ok u) v w = HasTakenChain root halves v w × KeepsBeside root halves v w
 HasTaken root halves headers (Err k) v w =
-    KeepsChain (IsTakeCause v.layout.slots root halves headers w.known v.pages) k v w
+    KeepsChain (IsTakeCause v.layout.slots root halves headers v.pages) k v w
     × (TellsPointer (root.target).at root.word k v w × KeepsBeside root halves v w)

@@ -6,13 +6,13 @@ use Rattle.serial_model.specs.declared.key.Key.{Key}
 use Rattle.homes.specs.declared.places.At.{At}
 use Rattle.homes.specs.declared.places.Span.{Span}
 use Rattle.snapshot_store.specs.declared.place.PagePlace.{PagePlace}
-use Rattle.homes.specs.Homes.{has_key, in_span}
+use Rattle.homes.specs.Homes.{in_span}
 use Rattle.snapshot_store.specs.Places.{Found, page as page_words}
 use Rattle.drop_core.specs.Table.{has_slot}
 use Rattle.engine_pages.specs.declared.view.Inner.{Inner}
 use Rattle.engine_pages.specs.declared.view.KeptPage.{KeptPage}
 use Rattle.engine_pages.specs.declared.view.KeptWhy.{KeptWhy}
-use Rattle.engine_pages.specs.declared.view.KeptWhy.TheVariants.{Locked, Unlike, Under, Changed, Long}
+use Rattle.engine_pages.specs.declared.view.KeptWhy.TheVariants.{Locked, Unlike, UnlikeAt, Under, Changed, Long}
 use Rattle.engine_pages.specs.declared.view.Lead.{Lead}
 use Rattle.engine_pages.specs.declared.view.Read.{Read}
 use Rattle.engine_pages.specs.declared.view.Swung.{Swung}
@@ -161,10 +161,10 @@ pub record WasTurned (t : ℕ) (m : MetPage) (below : MetPages) : Type 0 where
   pub is : m.kept ≡ Some kept
   pub cause : HasTurned t m.at kept
 
--- a leaf was kept so, by keys of its own, or since the pointer to it, whose word is here, had changed
+-- a leaf was kept so, or since the pointer to it, whose word is here, had changed
 abbrev pub IsLeafKept : ℕ → ℕ → Span → List (List ℕ) → ℕ → ℕ → ℕ → KeptPage → Type 0
 IsLeafKept slots t sp pages page epoch at k =
-    ((keys : List Key) × IsLeafCause slots t sp pages page epoch keys k.why k.word k.seen) ⊎ HasTurned t at k
+    IsLeafCause slots t sp pages page epoch k.why k.word k.seen ⊎ HasTurned t at k
 
 -- A leaf: nothing is below it, and if it was kept, for cause.
 pub record WasLeaf (slots t epoch : ℕ) (pages : List (List ℕ)) (m : MetPage) (below : MetPages) : Type 0 where
@@ -218,6 +218,7 @@ abbrev pub IsHeaderCause : ℕ → ℕ → KeptWhy → ℕ → ℕ → Type 0
 IsHeaderCause slots u Locked word seen = (word ≡ page_at slots u 0) × ((seen / 2 ^ 60) % 2 ≡ 1)
 IsHeaderCause slots u Unlike word seen = (word ≡ page_at slots u 0)
     × (((seen / 2 ^ 8) % 2 ^ 8 ≢ 1) ⊎ ((2 ^ 62 ≤ seen) × (seen ≢ 2 ^ 62 + 2 ^ 8 + 16)))
+IsHeaderCause slots u (UnlikeAt key) word seen = ⊥
 IsHeaderCause slots u Under word seen = ⊥
 IsHeaderCause slots u (Changed expected) word seen = (word ≡ page_at slots u 0) × (seen ≢ expected)
 IsHeaderCause slots u Long word seen = ⊥
@@ -237,19 +238,17 @@ pub record IsRecordKept (slots u : ℕ) (sp whole : Span) (pages : List (List �
   pub inside : in_span sp key ≡ true
   pub stored : Option Found
   pub below : IsStoredIn pages whole page key.key stored
-  pub cause : IsRecordCause slots u index stored epoch why word seen
+  pub cause : IsRecordCause slots u index key stored epoch why word seen
 
--- The snapshot has a record below that page, of a key that no leaf of the chain has: where one is round it, that has keys
--- without it. The header of the chain's first page was seen.
-pub record IsMissing (slots t : ℕ) (whole : Span) (pages : List (List ℕ)) (page : ℕ) (met : MetPages) (why : KeptWhy) (word : ℕ)
-    : Type 0 where
-  pub unlike : why ≡ Unlike
+-- The snapshot has a record below that page, of a key that no leaf of the chain has, which is shown by who notes it. The
+-- header of the chain's first page was seen.
+pub record IsMissing (slots t : ℕ) (whole : Span) (pages : List (List ℕ)) (page : ℕ) (why : KeptWhy) (word : ℕ) : Type 0 where
   pub place : word ≡ page_at slots t 0
-  pub key : ℕ
+  pub key : Key
+  pub unlike : why ≡ UnlikeAt key
+  pub inside : in_span whole key ≡ true
   pub stored : Found
-  pub below : IsStoredIn pages whole page key (Some stored)
-  pub none : (u : ℕ) (sp : Span) → IsChainLeaf met u sp → sp.low ≤ key → key ≤ sp.high
-      → (keys : List Key) × (has_key keys (record { storage = whole.storage; key = key }) ≡ false)
+  pub below : IsStoredIn pages whole page key.key (Some stored)
 
 -- A published page with these words is a leaf with more records than there is room for, or an interior one without a child,
 -- or with more than there is room for.
@@ -277,7 +276,7 @@ pub record IsLong (slots t : ℕ) (met : MetPages) (why : KeptWhy) (word seen : 
 -- that parts its keys, or for a record of one of its leaves, or since the snapshot has a record that it hasn't.
 abbrev pub IsChainCause : ℕ → ℕ → Span → List (List ℕ) → ℕ → ℕ → MetPages → KeptWhy → ℕ → ℕ → Type 0
 IsChainCause slots t whole pages page epoch met why word seen =
-    IsLong slots t met why word seen ⊎ (IsMissing slots t whole pages page met why word
+    IsLong slots t met why word seen ⊎ (IsMissing slots t whole pages page why word
     ⊎ (IsBelowMisshapen slots t pages why word
     ⊎ (((u : ℕ) × (sp : Span) × IsChainPage met u sp
     × (IsHeaderCause slots u why word seen ⊎ IsPartedOut slots u sp why word seen))

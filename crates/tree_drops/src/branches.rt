@@ -15,6 +15,7 @@ ghost use Rattle.tree_drops.specs.Branches.{IsBranchCause, IsBranchCauseBelow, I
 ghost use Rattle.tree_drops.specs.Works.{TellsPointer};
 
 use crate::dropping::Pointer;
+use dual_pointer::{SHUT, SLOT};
 use engine_pages::{Engine, KeptWhy, Pass, retire};
 use homes::{At, Span, Spot};
 use page_drops::{Kept, keep, word_at, word_of};
@@ -24,10 +25,6 @@ use tree_heads::load_word;
 const SEPARATORS: u32 = 34;
 
 const POINTERS: u32 = 4;
-
-const SLOT: u64 = 1 << 32;
-
-const SHUT: u64 = 1 << 60;
 
 /// An interior page of a tree in a slot, over these keys, with so many children, and the snapshot page that it is
 /// compared with, or 0.

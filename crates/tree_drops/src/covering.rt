@@ -10,12 +10,13 @@ ghost use Rattle.tree_drops.specs.Taking.{CanCover, CanTake, HasCovered};
 
 use crate::belows::keys_below;
 use crate::leaves::search_from;
-use crate::taking::{ChainPage, Root, keep_first, leaf_of, page_of};
+use crate::taking::{ChainPage, Root, keep_first, keep_missing, leaf_of, page_of};
 use chain_steps::Half;
 use engine_pages::{Engine, Pass};
 use homes::Span;
 use page_drops::{Kept, word_of};
 use pointer_swings::descend_tree;
+use serial_model::Key;
 
 const MOVED: u64 = 1 << 62;
 
@@ -127,7 +128,11 @@ fn cover_rest(
     }
     let key = word_of(engine, pass, leaf.page, 16 + 3 * index);
     if !is_covered(engine, pass, root, halves, headers, leaf.span, key) {
-        let other = keep_first(engine, pass, root);
+        let missing = Key {
+            storage: leaf.span.storage,
+            key,
+        };
+        let other = keep_missing(engine, pass, root, missing);
         return Err(other);
     }
     cover_rest(engine, pass, root, halves, headers, leaf, index + 1)

@@ -2,7 +2,7 @@
 ghost use Rattle.std.specs.Prelude.{◌≡◌, ◌^◌, ◌<◌, IfErr, OnOk};
 ghost use Rattle.engine_pages.specs.Passes.{view, IsPassOf};
 ghost use Rattle.page_drops.specs.Works.{KeepsReadsBut};
-ghost use Rattle.tree_heads.specs.Headers.{count_of, kind_of};
+ghost use Rattle.tree_heads.specs.Headers.{count_of, kind_of, IsUnmoved};
 ghost use Rattle.tree_drops.specs.Leaves.{CanDrop, CanDropFrom, HasCount, HasDropped, IsCauseBelow, KnowsKeys};
 ghost use Rattle.tree_drops.specs.Works.{IsSeenAt, KeepsIt, TellsPointer};
 
@@ -30,7 +30,7 @@ fn swing_away(engine: &Engine, pass: &mut Pass, pointer: Pointer, leaf: Leaf) ->
     ensures of { IsPassOf engine.now pass.new }
     ensures drops { OnOk result (HasDropped leaf.slot pointer.at leaf.page (view pass.old) (view pass.new)) }
     ensures keeps { IfErr result (λ k. KeepsIt
-        (IsCauseBelow leaf.slot leaf.span leaf.page leaf.epoch pointer.at pointer.word (view pass.old) (view pass.new))
+        (IsCauseBelow leaf.slot leaf.span leaf.page leaf.epoch pointer.at pointer.word (view pass.old))
         k (view pass.old) (view pass.new)) }
     ensures tells { IfErr result (λ k. TellsPointer pointer.at pointer.word k (view pass.old) (view pass.new)) }
     ensures reads { KeepsReadsBut leaf.slot pointer.at (view pass.old) (view pass.new) }
@@ -71,7 +71,7 @@ fn drop_from(
     ensures of { IsPassOf engine.now pass.new }
     ensures drops { OnOk result (HasDropped leaf.slot pointer.at leaf.page (view pass.old) (view pass.new)) }
     ensures keeps { IfErr result (λ k. KeepsIt
-        (IsCauseBelow leaf.slot leaf.span leaf.page leaf.epoch pointer.at pointer.word (view pass.old) (view pass.new))
+        (IsCauseBelow leaf.slot leaf.span leaf.page leaf.epoch pointer.at pointer.word (view pass.old))
         k (view pass.old) (view pass.new)) }
     ensures tells { IfErr result (λ k. TellsPointer pointer.at pointer.word k (view pass.old) (view pass.new)) }
     ensures reads { KeepsReadsBut leaf.slot pointer.at (view pass.old) (view pass.new) }
@@ -104,6 +104,7 @@ pub(crate) fn drop_leaf(
         (view pass.old) }
     requires count { HasCount (view pass.old).pages leaf.span leaf.page leaf.records }
     requires known { KnowsKeys leaf.slot leaf.span leaf.count (view pass.old) }
+    requires whole { IsUnmoved (view pass.old) leaf.slot }
     requires open { header < 2 ^ 60 }
     requires leaf { kind_of header ≡ 1 }
     requires counted { count_of header ≡ leaf.count }
@@ -111,7 +112,7 @@ pub(crate) fn drop_leaf(
     ensures of { IsPassOf engine.now pass.new }
     ensures drops { OnOk result (HasDropped leaf.slot pointer.at leaf.page (view pass.old) (view pass.new)) }
     ensures keeps { IfErr result (λ k. KeepsIt
-        (IsCauseBelow leaf.slot leaf.span leaf.page leaf.epoch pointer.at pointer.word (view pass.old) (view pass.new))
+        (IsCauseBelow leaf.slot leaf.span leaf.page leaf.epoch pointer.at pointer.word (view pass.old))
         k (view pass.old) (view pass.new)) }
     ensures tells { IfErr result (λ k. TellsPointer pointer.at pointer.word k (view pass.old) (view pass.new)) }
     ensures reads { KeepsReadsBut leaf.slot pointer.at (view pass.old) (view pass.new) }

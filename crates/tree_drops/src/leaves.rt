@@ -2,16 +2,18 @@
 ghost use Rattle.std.specs.Prelude.{◌≡◌, ℕ, ◌<◌, ◌≤◌, true, Contains, IfErr, OnOk};
 ghost use Rattle.homes.specs.Homes.{has_key};
 ghost use Rattle.dual_pointer.specs.Installs.{tree_records};
+ghost use Rattle.engine_pages.specs.declared.view.KeptWhy.TheVariants.{UnlikeAt};
 ghost use Rattle.engine_pages.specs.Passes.{view, IsPassOf};
-ghost use Rattle.page_drops.specs.Works.{HasGlanced, KeepsReads};
+ghost use Rattle.page_drops.specs.Works.{HasGlanced, KeepsReads, LacksKey};
 ghost use Rattle.snapshot_store.specs.TreePages.{Record};
-ghost use Rattle.tree_drops.specs.Leaves.{has_key_from, AtTree, CoversAll, HasCount, IsKnownCause, KeptForHeader};
-ghost use Rattle.tree_drops.specs.Leaves.{IsUntaken, KnowsKeys};
+ghost use Rattle.tree_drops.specs.Leaves.{has_key_from, AtTree, CoversAll, HasCount, IsCauseAt, KeptForHeader};
+ghost use Rattle.tree_drops.specs.Leaves.{IsSeenWhole, IsUntaken, KnowsKeys};
 ghost use Rattle.tree_drops.specs.Works.{KeepsHead, KeepsIt, OnlyLooks};
 
 use crate::records::{Leaf, compare, key_at};
 use engine_pages::{Engine, KeptWhy, Pass};
 use page_drops::{Kept, keep, word_at, word_of};
+use serial_model::Key;
 use tree_heads::load_word;
 
 /// Compares the words of all records with the snapshot's, up to the first that is another or locked.
@@ -23,8 +25,8 @@ pub(crate) fn compare_all(engine: &Engine, pass: &mut Pass, leaf: Leaf) -> Resul
     requires own { (i : ℕ) → i < 16 → IsUntaken leaf.slot i (view pass.old) }
     ensures of { IsPassOf engine.now pass.new }
     ensures looks { OnOk result (OnlyLooks (view pass.old) (view pass.new)) }
-    ensures keeps { IfErr result (λ k. KeepsIt (IsKnownCause leaf.slot leaf.span leaf.page leaf.epoch
-        (view pass.old) (view pass.new)) k (view pass.old) (view pass.new)) }
+    ensures keeps { IfErr result (λ k. KeepsIt (IsCauseAt leaf.slot leaf.span leaf.page leaf.epoch
+        (view pass.old)) k (view pass.old) (view pass.new)) }
     ensures reads { KeepsReads leaf.slot (view pass.old) (view pass.new) }
     ensures head { OnOk result (KeepsHead leaf.slot (view pass.old) (view pass.new)) }
 {
@@ -69,12 +71,13 @@ fn cover_from(engine: &Engine, pass: &mut Pass, leaf: Leaf, index: u32) -> Resul
     requires at { AtTree leaf.slot leaf.span leaf.page (view pass.old) }
     requires count { HasCount (view pass.old).pages leaf.span leaf.page leaf.records }
     requires known { KnowsKeys leaf.slot leaf.span leaf.count (view pass.old) }
+    requires whole { IsSeenWhole leaf.slot leaf.count (view pass.old) }
     requires within { index ≤ leaf.records }
     ensures of { IsPassOf engine.now pass.new }
     ensures looks { OnOk result (OnlyLooks (view pass.old) (view pass.new)) }
     ensures covers { OnOk result (CoversAll leaf.slot leaf.span leaf.page leaf.count leaf.records index (view pass.old)) }
-    ensures keeps { IfErr result (λ k. KeepsIt (IsKnownCause leaf.slot leaf.span leaf.page leaf.epoch
-        (view pass.old) (view pass.new)) k (view pass.old) (view pass.new)) }
+    ensures keeps { IfErr result (λ k. KeepsIt (IsCauseAt leaf.slot leaf.span leaf.page leaf.epoch
+        (view pass.old)) k (view pass.old) (view pass.new)) }
     ensures reads { KeepsReads leaf.slot (view pass.old) (view pass.new) }
     ensures same { OnOk result ((view pass.new).reads ≡ (view pass.old).reads) }
 {
@@ -83,23 +86,28 @@ fn cover_from(engine: &Engine, pass: &mut Pass, leaf: Leaf, index: u32) -> Resul
     }
     let key = word_of(engine, pass, leaf.page, 16 + 3 * index);
     if !search_from(engine, pass, leaf, key, 0) {
-        let other = keep_for_header(engine, pass, leaf);
+        let lacking = Key {
+            storage: leaf.span.storage,
+            key,
+        };
+        let other = keep_for_header(engine, pass, leaf, lacking);
         return Err(other);
     }
     cover_from(engine, pass, leaf, index + 1)
 }
 
-/// Loads the header's word, and notes that the page is kept for it.
-fn keep_for_header(engine: &Engine, pass: &mut Pass, leaf: Leaf) -> Kept
+/// Loads the header's word, and notes that the page is kept for it, since the leaf lacks the key.
+fn keep_for_header(engine: &Engine, pass: &mut Pass, leaf: Leaf, key: Key) -> Kept
     requires of { IsPassOf engine.now pass.old }
     requires at { AtTree leaf.slot leaf.span leaf.page (view pass.old) }
+    requires lacks { LacksKey (view pass.old) key leaf.slot }
     ensures of { IsPassOf engine.now pass.new }
-    ensures keeps { KeptForHeader leaf.slot result (view pass.old) (view pass.new) }
+    ensures keeps { KeptForHeader leaf.slot (UnlikeAt key) result (view pass.old) (view pass.new) }
     ensures reads { KeepsReads leaf.slot (view pass.old) (view pass.new) }
 {
     let at = word_at(engine, leaf.slot, 0);
     let header = load_word(engine, pass, leaf.slot, 0, at);
-    keep(engine, pass, at, header, KeptWhy::Unlike)
+    keep(engine, pass, at, header, KeptWhy::UnlikeAt { key })
 }
 
 /// Each record of the snapshot's leaf is of a key that the leaf has.
@@ -108,13 +116,14 @@ pub(crate) fn cover(engine: &Engine, pass: &mut Pass, leaf: Leaf) -> Result<(), 
     requires at { AtTree leaf.slot leaf.span leaf.page (view pass.old) }
     requires count { HasCount (view pass.old).pages leaf.span leaf.page leaf.records }
     requires known { KnowsKeys leaf.slot leaf.span leaf.count (view pass.old) }
+    requires whole { IsSeenWhole leaf.slot leaf.count (view pass.old) }
     ensures of { IsPassOf engine.now pass.new }
     ensures looks { OnOk result (OnlyLooks (view pass.old) (view pass.new)) }
     ensures covers { OnOk result ((x : KnowsKeys leaf.slot leaf.span leaf.count (view pass.old)) (r : Record)
         → Contains (tree_records (view pass.old).pages leaf.page) r
         → has_key (x.leaf).keys (record { storage = (leaf.span).storage; key = r.key }) ≡ true) }
-    ensures keeps { IfErr result (λ k. KeepsIt (IsKnownCause leaf.slot leaf.span leaf.page leaf.epoch
-        (view pass.old) (view pass.new)) k (view pass.old) (view pass.new)) }
+    ensures keeps { IfErr result (λ k. KeepsIt (IsCauseAt leaf.slot leaf.span leaf.page leaf.epoch
+        (view pass.old)) k (view pass.old) (view pass.new)) }
     ensures reads { KeepsReads leaf.slot (view pass.old) (view pass.new) }
     ensures same { OnOk result ((view pass.new).reads ≡ (view pass.old).reads) }
 {

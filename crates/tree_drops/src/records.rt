@@ -10,7 +10,7 @@ ghost use Rattle.page_records.specs.Locks.{locked, opened, took_at, CanOpenAgain
 ghost use Rattle.pointer_swings.specs.TreeSwings.{IsTreeLockedAs};
 ghost use Rattle.snapshot_store.specs.TreePages.{record_for};
 ghost use Rattle.wire_form.specs.Words.{number_word};
-ghost use Rattle.tree_drops.specs.Leaves.{AtTree, HasCompared, HasCount, IsKeyOf, IsKnownCause, IsLike, KnowsKeys};
+ghost use Rattle.tree_drops.specs.Leaves.{AtTree, HasCompared, HasCount, IsKeyOf, IsCauseAt, IsLike, KnowsKeys};
 ghost use Rattle.tree_drops.specs.Leaves.{HasTaken, IsNew, IsRecordCause, IsUntaken};
 ghost use Rattle.tree_drops.specs.Works.{IsSeenAt, KeepsHead, KeepsIt, OnlyLooks};
 
@@ -74,10 +74,10 @@ pub(crate) fn compare(
     ensures of { IsPassOf engine.now pass.new }
     ensures compares { IfOk result (λ word. HasCompared leaf.page leaf.epoch key
         (view pass.old) word (view pass.new)) }
-    ensures keeps { IfErr result (λ k. KeepsIt (IsKnownCause leaf.slot leaf.span leaf.page leaf.epoch
-        (view pass.old) (view pass.new)) k (view pass.old) (view pass.new)) }
+    ensures keeps { IfErr result (λ k. KeepsIt (IsCauseAt leaf.slot leaf.span leaf.page leaf.epoch
+        (view pass.old)) k (view pass.old) (view pass.new)) }
     ensures reads { KeepsReads leaf.slot (view pass.old) (view pass.new) }
-    ensures causes { IfErr result (λ k. KeepsIt (IsRecordCause (view pass.old).layout.slots leaf.slot index
+    ensures causes { IfErr result (λ k. KeepsIt (IsRecordCause (view pass.old).layout.slots leaf.slot index key
         (record_for (tree_records (view pass.old).pages leaf.page) key.key) leaf.epoch) k (view pass.old) (view pass.new)) }
     ensures seen { IfOk result (λ word. IsSeenAt leaf.slot (17 + 3 * index) word (view pass.new)) }
     ensures head { IfOk result (λ word. KeepsHead leaf.slot (view pass.old) (view pass.new)) }
@@ -94,7 +94,7 @@ pub(crate) fn compare(
         return Err(locked);
     }
     if !is_like(stored, leaf.epoch, word) {
-        let other = keep(engine, pass, at, word, KeptWhy::Unlike);
+        let other = keep(engine, pass, at, word, KeptWhy::UnlikeAt { key });
         return Err(other);
     }
     Ok(word)
@@ -118,10 +118,10 @@ fn lock_record(
     ensures of { IsPassOf engine.now pass.new }
     ensures locks { OnOk result (view pass.new ≡ locked key (spot_of leaf.slot index)
         (page_at (view pass.old).layout.slots leaf.slot (17 + 3 * index)) word (view pass.old)) }
-    ensures keeps { IfErr result (λ k. KeepsIt (IsKnownCause leaf.slot leaf.span leaf.page leaf.epoch
-        (view pass.old) (view pass.new)) k (view pass.old) (view pass.new)) }
+    ensures keeps { IfErr result (λ k. KeepsIt (IsCauseAt leaf.slot leaf.span leaf.page leaf.epoch
+        (view pass.old)) k (view pass.old) (view pass.new)) }
     ensures reads { KeepsReads leaf.slot (view pass.old) (view pass.new) }
-    ensures causes { IfErr result (λ k. KeepsIt (IsRecordCause (view pass.old).layout.slots leaf.slot index
+    ensures causes { IfErr result (λ k. KeepsIt (IsRecordCause (view pass.old).layout.slots leaf.slot index key
         (record_for (tree_records (view pass.old).pages leaf.page) key.key) leaf.epoch) k (view pass.old) (view pass.new)) }
 {
     let at = word_at(engine, leaf.slot, 17 + 3 * index);
@@ -160,10 +160,10 @@ fn check_value(
     ensures of { IsPassOf engine.now pass.new }
     ensures looks { OnOk result (OnlyLooks (view pass.old) (view pass.new)) }
     ensures locked { OnOk result (IsTreeLockedAs (view pass.new) leaf.slot index leaf.page key) }
-    ensures keeps { IfErr result (λ k. KeepsIt (IsKnownCause leaf.slot leaf.span leaf.page leaf.epoch
-        (view pass.old) (view pass.new)) k (view pass.old) (view pass.new)) }
+    ensures keeps { IfErr result (λ k. KeepsIt (IsCauseAt leaf.slot leaf.span leaf.page leaf.epoch
+        (view pass.old)) k (view pass.old) (view pass.new)) }
     ensures reads { KeepsReads leaf.slot (view pass.old) (view pass.new) }
-    ensures causes { IfErr result (λ k. KeepsIt (IsRecordCause (view pass.old).layout.slots leaf.slot index
+    ensures causes { IfErr result (λ k. KeepsIt (IsRecordCause (view pass.old).layout.slots leaf.slot index key
         (record_for (tree_records (view pass.old).pages leaf.page) key.key) leaf.epoch) k (view pass.old) (view pass.new)) }
 {
     if word >= LOCK {
@@ -177,7 +177,7 @@ fn check_value(
     };
     let value = load_held(engine, pass, key, spot, at, word);
     if !has_value(stored, value) {
-        let other = keep(engine, pass, at + 1, value, KeptWhy::Unlike);
+        let other = keep(engine, pass, at + 1, value, KeptWhy::UnlikeAt { key });
         return Err(other);
     }
     Ok(())
@@ -232,10 +232,10 @@ pub(crate) fn take_record(
     requires met { IsSeenAt leaf.slot (17 + 3 * index) word (view pass.old) }
     ensures of { IsPassOf engine.now pass.new }
     ensures takes { OnOk result (HasTaken leaf.slot leaf.page index key word (view pass.old) (view pass.new)) }
-    ensures keeps { IfErr result (λ k. KeepsIt (IsKnownCause leaf.slot leaf.span leaf.page leaf.epoch
-        (view pass.old) (view pass.new)) k (view pass.old) (view pass.new)) }
+    ensures keeps { IfErr result (λ k. KeepsIt (IsCauseAt leaf.slot leaf.span leaf.page leaf.epoch
+        (view pass.old)) k (view pass.old) (view pass.new)) }
     ensures reads { KeepsReads leaf.slot (view pass.old) (view pass.new) }
-    ensures causes { IfErr result (λ k. KeepsIt (IsRecordCause (view pass.old).layout.slots leaf.slot index
+    ensures causes { IfErr result (λ k. KeepsIt (IsRecordCause (view pass.old).layout.slots leaf.slot index key
         (record_for (tree_records (view pass.old).pages leaf.page) key.key) leaf.epoch) k (view pass.old) (view pass.new)) }
 {
     lock_record(engine, pass, leaf, index, key, word)?;

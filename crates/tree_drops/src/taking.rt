@@ -1,10 +1,12 @@
 // All pages of a chain are locked, one after another, as the snapshot has them, and the pointer is swung away from it.
 ghost use Rattle.std.specs.Prelude.{◌≡◌, ◌*◌, ◌^◌, ◌<◌, ◌≤◌, suc, length, Some, Contains};
+ghost use Rattle.engine_pages.specs.declared.view.KeptWhy.TheVariants.{Unlike, UnlikeAt};
 ghost use Rattle.engine_pages.specs.declared.view.Moved.{Moved};
 ghost use Rattle.engine_pages.specs.declared.view.Role.TheVariants.{Keeper};
 ghost use Rattle.engine_pages.specs.Layout.{page_at};
 ghost use Rattle.engine_pages.specs.Passes.{view, IsPassOf};
 ghost use Rattle.engine_pages.specs.Steps.{seen_at};
+ghost use Rattle.page_drops.specs.Works.{LacksKeyBelow};
 ghost use Rattle.tree_heads.specs.Headers.{count_of, kind_of, IsTreeAt};
 ghost use Rattle.tree_drops.specs.Chains.{split_header};
 ghost use Rattle.tree_drops.specs.Leaves.{AtTree, KeptForHeader};
@@ -182,17 +184,32 @@ fn take_key(
     Ok(Done::Recorded(key, word))
 }
 
-/// Loads the header's word of the chain's first page, and notes that the chain is kept for it.
+/// Loads the header's word of the chain's first page, and notes that the chain is kept for it, since a page of the
+/// snapshot is misshapen.
 pub(crate) fn keep_first(engine: &Engine, pass: &mut Pass, root: Root) -> Kept
     requires of { IsPassOf engine.now pass.old }
     requires at { AtTree root.slot (root.target).span (root.target).page (view pass.old) }
     ensures of { IsPassOf engine.now pass.new }
-    ensures keeps { KeptForHeader root.slot result (view pass.old) (view pass.new) }
+    ensures keeps { KeptForHeader root.slot Unlike result (view pass.old) (view pass.new) }
     ensures reads { (view pass.new).reads ≡ (view pass.old).reads }
 {
     let at = word_at(engine, root.slot, 0);
     let header = load_word(engine, pass, root.slot, 0, at);
     keep(engine, pass, at, header, KeptWhy::Unlike)
+}
+
+/// The same, since no leaf of the chain has the key.
+pub(crate) fn keep_missing(engine: &Engine, pass: &mut Pass, root: Root, key: Key) -> Kept
+    requires of { IsPassOf engine.now pass.old }
+    requires at { AtTree root.slot (root.target).span (root.target).page (view pass.old) }
+    requires lacks { LacksKeyBelow (view pass.old) key root.slot }
+    ensures of { IsPassOf engine.now pass.new }
+    ensures keeps { KeptForHeader root.slot (UnlikeAt key) result (view pass.old) (view pass.new) }
+    ensures reads { (view pass.new).reads ≡ (view pass.old).reads }
+{
+    let at = word_at(engine, root.slot, 0);
+    let header = load_word(engine, pass, root.slot, 0, at);
+    keep(engine, pass, at, header, KeptWhy::UnlikeAt { key })
 }
 
 /// Does one unit of work on a page.

@@ -6,7 +6,7 @@ ghost use Rattle.engine_pages.specs.Layout.{page_at};
 ghost use Rattle.page_drops.specs.Calls.{HasHeld, KeepsAbove};
 ghost use Rattle.page_drops.specs.Works.{HasSeenLast};
 ghost use Rattle.snapshot_store.specs.Places.{page as page_words};
-ghost use Rattle.tree_heads.specs.Headers.{count_of, kind_of};
+ghost use Rattle.tree_heads.specs.Headers.{count_of, kind_of, IsUnmoved};
 ghost use Rattle.tree_drops.specs.Branches.{IsParted};
 ghost use Rattle.tree_drops.specs.Leaves.{KnowsKeys};
 ghost use Rattle.tree_drops.specs.Turns.{CanGoFrom, CanWork, HasClosed, HasEndedLeaf, HasEndedPage, HasAlike, HasGoneFrom, HasNotedPage, HasOpened};
@@ -22,16 +22,13 @@ use crate::records::Leaf;
 use crate::stored::count_in;
 use crate::taking::Root;
 use crate::tallies::{and, and_kept};
+use dual_pointer::{SHUT, SLOT};
 use engine_pages::{Engine, KeptWhy, Pass, enter, follow, leave};
 use homes::{At, Span, Spot};
 use page_drops::{Dropped, Held, Kept, keep, word_at, word_of};
 use pointer_swings::renew;
 use std::thread::yield_now;
 use tree_heads::{load_header, load_word};
-
-const SLOT: u64 = 1 << 32;
-
-const SHUT: u64 = 1 << 60;
 
 const MOVED: u64 = 1 << 62;
 
@@ -121,6 +118,7 @@ fn take_leaf(
     requires met { IsSeenAt held.slot 0 header (view pass.old) }
     requires leaf { kind_of header ≡ 1 }
     requires bits { header < 2 ^ 61 }
+    requires whole { IsUnmoved (view pass.old) held.slot }
     ensures of { IsPassOf engine.now pass.new }
     ensures takes { HasTakenLeaf target.span target.at target.page target.epoch held.slot result (view pass.old)
         (view pass.new) }
@@ -172,7 +170,7 @@ fn end_leaf(
     }) }
     requires met { IsSeenAt held.slot 0 header (view pass.old) }
     requires leaf { kind_of header ≡ 1 }
-    requires bits { (header < 2 ^ 61) ⊎ (2 ^ 62 ≤ header) }
+    requires bits { ((header < 2 ^ 61) × IsUnmoved (view pass.old) held.slot) ⊎ (2 ^ 62 ≤ header) }
     requires chain { 2 ^ 62 ≤ header
         → CanWorkChain (record { target = target; slot = held.slot; word = held.word }) header (view pass.old) }
     ensures of { IsPassOf engine.now pass.new }

@@ -1,6 +1,5 @@
 use Rattle.std.proofs.Common.{◌≡◌, arith, subst}
 use Rattle.atomic_table.specs.Table.{Allows}
-use Rattle.engine_pages.specs.Passes.{view}
 use Rattle.engine_pages.specs.Rule.{Shows}
 use Rattle.engine_pages.proofs.Joint.{Laws}
 use Rattle.chain_steps.specs.Notes.{noted_again}

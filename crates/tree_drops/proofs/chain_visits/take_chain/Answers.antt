@@ -3,8 +3,10 @@ use Rattle.engine_pages.specs.Passes.{view}
 use Rattle.chain_steps.specs.declared.halves.Half.{Half}
 use Rattle.chain_steps.specs.Swings.{slots_of}
 use Rattle.tree_drops.specs.Releases.{left_all, retired_all, CanLeaveAll, CanRetireAll}
+use Rattle.tree_drops.specs.Taking.{keys_in}
 use Rattle.tree_drops.proofs.ChainTold.{drop_active, drop_ended, drop_first, drop_leave, drop_may, drop_retire, drop_role_then, keep_ended}
 use Rattle.tree_drops.proofs.ChainTold.{keep_first, keep_leave}
+use Rattle.tree_drops.proofs.HalfNotes.{halves_held}
 use Rattle.tree_drops.proofs.chain_visits.take_chain.Goals as goal
 
 pub retire_from-requires-clause-may : goal.retire_from-requires-clause-may
@@ -69,6 +71,12 @@ leave-requires-clause-unkept c =
     (view c.drop_chain-found.new.pass)) c.as_slice.ensures.value) (view c.retire.new.pass) c.retire.ensures.retires
     (view c.leave_from.new.pass) (c.leave_from.ensures.leaves ∙ ap (λ (hs : List Half). left_all (slots_of hs)
     (view c.retire.new.pass)) c.as_slice-in-Ok.ensures.value)).unkept
+
+pub note_again-requires-clause-halves : goal.note_again-requires-clause-halves
+note_again-requires-clause-halves c =
+    let works = c.in-Err.ensures.works in
+    halves_held c.args.root.slot c.len-count.result (keys_in c.args.root) c.drop_chain-found.new.halves.items works.0
+    (view c.args.pass.now) (view c.drop_chain-found.new.pass) works.1 c.len-count.ensures.value
 
 pub leave_from-requires-in-Err-clause-may : goal.leave_from-requires-in-Err-clause-may
 leave_from-requires-in-Err-clause-may c =

@@ -1,5 +1,5 @@
 use Rattle.engine_pages.specs.Passes.{view}
-use Rattle.tree_drops.proofs.BelowCovers.{cover_on, covered_all, kept_cover}
+use Rattle.tree_drops.proofs.BelowCovers.{cover_on, covered_all}
 use Rattle.tree_drops.proofs.covering.cover.Goals as goal
 
 pub cover_from-requires-clause-cover : goal.cover_from-requires-clause-cover
@@ -9,12 +9,9 @@ cover_from-requires-clause-cover c =
     x.0 x.2 c.requires.cover
 
 pub returns-in-Err-clause-covers : goal.returns-in-Err-clause-covers
-returns-in-Err-clause-covers c =
-    kept_cover c.args.root c.args.halves.now c.args.headers.now c.args.span c.args.page c.in-Err.kept (view c.args.pass.now)
-    (view c.cover_page.new.pass) c.requires.cover c.in-Err.ensures.covers
+returns-in-Err-clause-covers c = c.in-Err.ensures.covers
 
 pub returns-in-Ok-clause-covers : goal.returns-in-Ok-clause-covers
 returns-in-Ok-clause-covers c =
     covered_all c.args.root c.args.halves.now c.args.headers.now c.args.span c.args.page c.in-Ok.count c.cover_from.result
-    (view c.args.pass.now) (view c.cover_page.new.pass) (view c.cover_from.new.pass) c.requires.cover c.in-Ok.ensures.covers
-    c.cover_from.ensures.covers
+    (view c.args.pass.now) (view c.cover_page.new.pass) (view c.cover_from.new.pass) c.in-Ok.ensures.covers c.cover_from.ensures.covers

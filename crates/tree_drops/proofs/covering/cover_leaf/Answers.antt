@@ -1,4 +1,4 @@
-use Rattle.std.proofs.Common.{inl, arith, get_or, refl}
+use Rattle.std.proofs.Common.{arith, get_or, refl}
 use Rattle.snapshot_store.specs.Places.{page as page_words}
 use Rattle.engine_pages.specs.Passes.{view}
 use Rattle.tree_drops.proofs.BelowCovers.{kept_first, leaf_count, page_leaf}
@@ -11,11 +11,11 @@ returns-then-leaf-gt-RECORDS-clause-covers c =
     let v = view c.args.pass.now in
     let is = c.requires.count in
     let many = c.if-leaf-gt-RECORDS.true in
-    kept_first c.args.root c.args.halves.now c.args.headers.now c.args.leaf.span c.args.leaf.page c.keep_first-odd.result v v
+    kept_first c.args.root c.args.leaf.span c.args.leaf.page c.keep_first-odd.result v v
     (view c.keep_first-odd.new.pass) (chained_self v) refl
-    (inl (crowded_leaf v.pages c.args.leaf.page (get_or (page_words v.pages c.args.leaf.page) 0 0)
+    (crowded_leaf v.pages c.args.leaf.page (get_or (page_words v.pages c.args.leaf.page) 0 0)
     (λ none. let some = c.requires.some in omega (arith, some, none)) c.requires.cover.below.there refl c.requires.kind
-    (omega (arith, is, many))))
+    (omega (arith, is, many)))
     c.keep_first-odd.ensures.keeps c.keep_first-odd.ensures.reads
 
 pub returns-in-Ok-clause-covers : goal.returns-in-Ok-clause-covers

@@ -32,10 +32,10 @@ returns-then-count-eq0-clause-covers c =
     let v = view c.args.pass.now in
     let a = view c.word_of-header.new.pass in
     let h = c.word_of-header.ensures.glances in
-    kept_first c.args.root c.args.halves.now c.args.headers.now c.args.span c.args.page c.keep_first-empty.result v a
+    kept_first c.args.root c.args.span c.args.page c.keep_first-empty.result v a
     (view c.keep_first-empty.new.pass) (chained_glanced v a h) (glanced_reads v a h)
-    (inl (odd_page v.pages c.args.page c.word_of-header.result (λ none. c.if-page-eq0.false (omega (arith, none))) c.requires.cover.below.there
-    c.word_of-header.ensures.word c.if-header-eq1.false (inl (let none = c.if-count-eq0.true in omega (arith, none)))))
+    (odd_page v.pages c.args.page c.word_of-header.result (λ none. c.if-page-eq0.false (omega (arith, none))) c.requires.cover.below.there
+    c.word_of-header.ensures.word c.if-header-eq1.false (inl (let none = c.if-count-eq0.true in omega (arith, none))))
     c.keep_first-empty.ensures.keeps c.keep_first-empty.ensures.reads
 
 pub returns-then-count-gt-CHILDREN-clause-covers : goal.returns-then-count-gt-CHILDREN-clause-covers
@@ -43,10 +43,10 @@ returns-then-count-gt-CHILDREN-clause-covers c =
     let v = view c.args.pass.now in
     let a = view c.word_of-header.new.pass in
     let h = c.word_of-header.ensures.glances in
-    kept_first c.args.root c.args.halves.now c.args.headers.now c.args.span c.args.page c.keep_first-odd.result v a
+    kept_first c.args.root c.args.span c.args.page c.keep_first-odd.result v a
     (view c.keep_first-odd.new.pass) (chained_glanced v a h) (glanced_reads v a h)
-    (inl (odd_page v.pages c.args.page c.word_of-header.result (λ none. c.if-page-eq0.false (omega (arith, none))) c.requires.cover.below.there
-    c.word_of-header.ensures.word c.if-header-eq1.false (inr (let many = c.if-count-gt-CHILDREN.true in omega (arith, many)))))
+    (odd_page v.pages c.args.page c.word_of-header.result (λ none. c.if-page-eq0.false (omega (arith, none))) c.requires.cover.below.there
+    c.word_of-header.ensures.word c.if-header-eq1.false (inr (let many = c.if-count-gt-CHILDREN.true in omega (arith, many))))
     c.keep_first-odd.ensures.keeps c.keep_first-odd.ensures.reads
 
 pub returns-clause-covers : goal.returns-clause-covers

@@ -367,7 +367,7 @@ open_record-requires-clause-at t c =
     let far = works_then v b d only.looks.works taken.more.works in
     let rdd = reads_then c.args.leaf.slot v b d (layout_worked v b only.looks.works) rd c.take_record.ensures.reads in
     let e = view c.drop_from.new.pass in
-    let keeps = err_is c.drop_from.result (λ k. KeepsIt (IsCauseBelow c.args.leaf.slot c.args.leaf.span c.args.leaf.page c.args.leaf.epoch c.args.pointer.at c.args.pointer.word d e) k d e) c.in-Err.kept
+    let keeps = err_is c.drop_from.result (λ k. KeepsIt (IsCauseBelow c.args.leaf.slot c.args.leaf.span c.args.leaf.page c.args.leaf.epoch c.args.pointer.at c.args.pointer.word d) k d e) c.in-Err.kept
     c.drop_from.ensures.keeps c.in-Err.is in
     let all = works_then v d e far keeps.looks.works in
     let tree = tree_worked c.args.leaf.slot c.args.leaf.page c.args.leaf.span v e all can.tree in
@@ -392,7 +392,7 @@ open_record-requires-clause-index t c =
     let far = works_then v b d only.looks.works taken.more.works in
     let rdd = reads_then c.args.leaf.slot v b d (layout_worked v b only.looks.works) rd c.take_record.ensures.reads in
     let e = view c.drop_from.new.pass in
-    let keeps = err_is c.drop_from.result (λ k. KeepsIt (IsCauseBelow c.args.leaf.slot c.args.leaf.span c.args.leaf.page c.args.leaf.epoch c.args.pointer.at c.args.pointer.word d e) k d e) c.in-Err.kept
+    let keeps = err_is c.drop_from.result (λ k. KeepsIt (IsCauseBelow c.args.leaf.slot c.args.leaf.span c.args.leaf.page c.args.leaf.epoch c.args.pointer.at c.args.pointer.word d) k d e) c.in-Err.kept
     c.drop_from.ensures.keeps c.in-Err.is in
     let all = works_then v d e far keeps.looks.works in
     let tree = tree_worked c.args.leaf.slot c.args.leaf.page c.args.leaf.span v e all can.tree in
@@ -417,7 +417,7 @@ open_record-requires-clause-key t c =
     let far = works_then v b d only.looks.works taken.more.works in
     let rdd = reads_then c.args.leaf.slot v b d (layout_worked v b only.looks.works) rd c.take_record.ensures.reads in
     let e = view c.drop_from.new.pass in
-    let keeps = err_is c.drop_from.result (λ k. KeepsIt (IsCauseBelow c.args.leaf.slot c.args.leaf.span c.args.leaf.page c.args.leaf.epoch c.args.pointer.at c.args.pointer.word d e) k d e) c.in-Err.kept
+    let keeps = err_is c.drop_from.result (λ k. KeepsIt (IsCauseBelow c.args.leaf.slot c.args.leaf.span c.args.leaf.page c.args.leaf.epoch c.args.pointer.at c.args.pointer.word d) k d e) c.in-Err.kept
     c.drop_from.ensures.keeps c.in-Err.is in
     let all = works_then v d e far keeps.looks.works in
     let tree = tree_worked c.args.leaf.slot c.args.leaf.page c.args.leaf.span v e all can.tree in
@@ -442,7 +442,7 @@ open_record-requires-clause-can t c =
     let far = works_then v b d only.looks.works taken.more.works in
     let rdd = reads_then c.args.leaf.slot v b d (layout_worked v b only.looks.works) rd c.take_record.ensures.reads in
     let e = view c.drop_from.new.pass in
-    let keeps = err_is c.drop_from.result (λ k. KeepsIt (IsCauseBelow c.args.leaf.slot c.args.leaf.span c.args.leaf.page c.args.leaf.epoch c.args.pointer.at c.args.pointer.word d e) k d e) c.in-Err.kept
+    let keeps = err_is c.drop_from.result (λ k. KeepsIt (IsCauseBelow c.args.leaf.slot c.args.leaf.span c.args.leaf.page c.args.leaf.epoch c.args.pointer.at c.args.pointer.word d) k d e) c.in-Err.kept
     c.drop_from.ensures.keeps c.in-Err.is in
     let all = works_then v d e far keeps.looks.works in
     let tree = tree_worked c.args.leaf.slot c.args.leaf.page c.args.leaf.span v e all can.tree in
@@ -467,7 +467,7 @@ returns-in-Err-clause-keeps t c =
     let far = works_then v b d only.looks.works taken.more.works in
     let rdd = reads_then c.args.leaf.slot v b d (layout_worked v b only.looks.works) rd c.take_record.ensures.reads in
     let e = view c.drop_from.new.pass in
-    let keeps = err_is c.drop_from.result (λ k. KeepsIt (IsCauseBelow c.args.leaf.slot c.args.leaf.span c.args.leaf.page c.args.leaf.epoch c.args.pointer.at c.args.pointer.word d e) k d e) c.in-Err.kept
+    let keeps = err_is c.drop_from.result (λ k. KeepsIt (IsCauseBelow c.args.leaf.slot c.args.leaf.span c.args.leaf.page c.args.leaf.epoch c.args.pointer.at c.args.pointer.word d) k d e) c.in-Err.kept
     c.drop_from.ensures.keeps c.in-Err.is in
     let all = works_then v d e far keeps.looks.works in
     let tree = tree_worked c.args.leaf.slot c.args.leaf.page c.args.leaf.span v e all can.tree in
@@ -496,7 +496,7 @@ returns-in-Err-clause-tells t c =
     let far = works_then v b d only.looks.works taken.more.works in
     let rdd = reads_then c.args.leaf.slot v b d (layout_worked v b only.looks.works) rd c.take_record.ensures.reads in
     let e = view c.drop_from.new.pass in
-    let keeps = err_is c.drop_from.result (λ k. KeepsIt (IsCauseBelow c.args.leaf.slot c.args.leaf.span c.args.leaf.page c.args.leaf.epoch c.args.pointer.at c.args.pointer.word d e) k d e) c.in-Err.kept
+    let keeps = err_is c.drop_from.result (λ k. KeepsIt (IsCauseBelow c.args.leaf.slot c.args.leaf.span c.args.leaf.page c.args.leaf.epoch c.args.pointer.at c.args.pointer.word d) k d e) c.in-Err.kept
     c.drop_from.ensures.keeps c.in-Err.is in
     let all = works_then v d e far keeps.looks.works in
     let tree = tree_worked c.args.leaf.slot c.args.leaf.page c.args.leaf.span v e all can.tree in
@@ -526,7 +526,7 @@ returns-in-Err-clause-reads t c =
     let far = works_then v b d only.looks.works taken.more.works in
     let rdd = reads_then c.args.leaf.slot v b d (layout_worked v b only.looks.works) rd c.take_record.ensures.reads in
     let e = view c.drop_from.new.pass in
-    let keeps = err_is c.drop_from.result (λ k. KeepsIt (IsCauseBelow c.args.leaf.slot c.args.leaf.span c.args.leaf.page c.args.leaf.epoch c.args.pointer.at c.args.pointer.word d e) k d e) c.in-Err.kept
+    let keeps = err_is c.drop_from.result (λ k. KeepsIt (IsCauseBelow c.args.leaf.slot c.args.leaf.span c.args.leaf.page c.args.leaf.epoch c.args.pointer.at c.args.pointer.word d) k d e) c.in-Err.kept
     c.drop_from.ensures.keeps c.in-Err.is in
     let all = works_then v d e far keeps.looks.works in
     let tree = tree_worked c.args.leaf.slot c.args.leaf.page c.args.leaf.span v e all can.tree in

@@ -21,10 +21,9 @@ use Rattle.page_drops.proofs.Dues.{turned_from}
 use Rattle.tree_drops.proofs.Dues.{none_taken, seen_head, seen_on}
 use Rattle.tree_drops.proofs.Heads.{below_back, but_then, can_drop_from, can_open_head, head_changed, head_now, heads_head, keeps_head}
 use Rattle.tree_drops.proofs.Heads.{not_head, reads_head, reads_opened_head, tells_around, tells_same, then_but, works_head}
-use Rattle.tree_drops.proofs.Heads.{works_opened_head}
 use Rattle.tree_drops.proofs.Places.{word_here}
 use Rattle.tree_drops.proofs.Swung.{dropped_on}
-use Rattle.tree_drops.proofs.Works.{keeps_it, keys_worked, last_seen, layout_worked, noted_known, only_then, pages_worked}
+use Rattle.tree_drops.proofs.Works.{keeps_it, keys_worked, last_seen, layout_worked, only_then, pages_worked}
 use Rattle.tree_drops.proofs.Works.{saw_read, tree_worked, works_then}
 use Rattle.tree_drops.proofs.dropping.drop_leaf.Goals as goal
 
@@ -101,9 +100,8 @@ returns-then-found-header-clause-keeps c =
     let isread = not_head c.args.leaf.slot c.word_at-at.result c.args.header n c.args.leaf.span b w other c.lock_header-found.ensures.locks in
     let saw = saw_read c.word_at-at.result n v b w only isread in
     let z = view c.keep-changed.new.pass in
-    let known = noted_known w z c.keep-changed.result c.keep-changed.ensures.notes in
-    keeps_it (IsCauseBelow c.args.leaf.slot c.args.leaf.span c.args.leaf.page c.args.leaf.epoch c.args.pointer.at c.args.pointer.word v z) v w z c.word_at-at.result n (Changed c.args.header) c.keep-changed.result c.keep-changed.ensures.is saw c.keep-changed.ensures.notes
-    (inl (head_changed c.args.leaf.slot c.args.leaf.page c.args.leaf.epoch c.args.leaf.count c.word_at-at.result n c.args.header c.args.leaf.span v z c.requires.known (λ y has. known y (saw.only.looks.works.known y has)) place other))
+    keeps_it (IsCauseBelow c.args.leaf.slot c.args.leaf.span c.args.leaf.page c.args.leaf.epoch c.args.pointer.at c.args.pointer.word v) v w z c.word_at-at.result n (Changed c.args.header) c.keep-changed.result c.keep-changed.ensures.is saw c.keep-changed.ensures.notes
+    (inl (head_changed c.args.leaf.slot c.args.leaf.page c.args.leaf.epoch c.word_at-at.result n c.args.header c.args.leaf.span v place other))
 
 pub returns-then-found-header-clause-tells : goal.returns-then-found-header-clause-tells
 returns-then-found-header-clause-tells c =
@@ -195,7 +193,7 @@ open_header-requires-clause-can c =
     let works = works_then v b w only.looks.works (works_head c.args.leaf.slot c.word_at-at.result n c.args.leaf.span b w head) in
     let rw1 = reads_then c.args.leaf.slot v b w (layout_worked v b only.looks.works) rb (reads_head c.args.leaf.slot c.word_at-at.result n c.args.leaf.span b w here head) in
     let e = view c.drop_from.new.pass in
-    let keeps = err_is c.drop_from.result (λ k. KeepsIt (IsCauseBelow c.args.leaf.slot c.args.leaf.span c.args.leaf.page c.args.leaf.epoch c.args.pointer.at c.args.pointer.word w e) k w e) c.in-Err.kept c.drop_from.ensures.keeps c.in-Err.is in
+    let keeps = err_is c.drop_from.result (λ k. KeepsIt (IsCauseBelow c.args.leaf.slot c.args.leaf.span c.args.leaf.page c.args.leaf.epoch c.args.pointer.at c.args.pointer.word w) k w e) c.in-Err.kept c.drop_from.ensures.keeps c.in-Err.is in
     let all = works_then v w e works keeps.looks.works in
     let late = tree_worked c.args.leaf.slot c.args.leaf.page c.args.leaf.span v e all can.tree in
     let there = place ∙ ap (λ (y : Layout). page_at y.slots c.args.leaf.slot 0) (sym (layout_worked v e all)) in
@@ -222,15 +220,15 @@ returns-in-Err-clause-keeps c =
     let works = works_then v b w only.looks.works (works_head c.args.leaf.slot c.word_at-at.result n c.args.leaf.span b w head) in
     let rw1 = reads_then c.args.leaf.slot v b w (layout_worked v b only.looks.works) rb (reads_head c.args.leaf.slot c.word_at-at.result n c.args.leaf.span b w here head) in
     let e = view c.drop_from.new.pass in
-    let keeps = err_is c.drop_from.result (λ k. KeepsIt (IsCauseBelow c.args.leaf.slot c.args.leaf.span c.args.leaf.page c.args.leaf.epoch c.args.pointer.at c.args.pointer.word w e) k w e) c.in-Err.kept c.drop_from.ensures.keeps c.in-Err.is in
+    let keeps = err_is c.drop_from.result (λ k. KeepsIt (IsCauseBelow c.args.leaf.slot c.args.leaf.span c.args.leaf.page c.args.leaf.epoch c.args.pointer.at c.args.pointer.word w) k w e) c.in-Err.kept c.drop_from.ensures.keeps c.in-Err.is in
     let all = works_then v w e works keeps.looks.works in
     let late = tree_worked c.args.leaf.slot c.args.leaf.page c.args.leaf.span v e all can.tree in
     let there = place ∙ ap (λ (y : Layout). page_at y.slots c.args.leaf.slot 0) (sym (layout_worked v e all)) in
     let z = view c.open_header.new.pass in
     let opens = c.open_header.ensures.opens ∙ ap (λ m. head_opened c.args.leaf.slot c.word_at-at.result m e) (sym same) in
     let last = reads_opened_head c.args.leaf.slot c.word_at-at.result n e z there opens in
-    keeps_head (IsCauseBelow c.args.leaf.slot c.args.leaf.span c.args.leaf.page c.args.leaf.epoch c.args.pointer.at c.args.pointer.word w e) (IsCauseBelow c.args.leaf.slot c.args.leaf.span c.args.leaf.page c.args.leaf.epoch c.args.pointer.at c.args.pointer.word v z) c.in-Err.kept c.args.leaf.slot c.word_at-at.result n c.args.leaf.span v b w e z only can.heads head keeps opens
-    (below_back c.args.leaf.slot c.args.leaf.page c.args.leaf.epoch c.args.pointer.at c.args.pointer.word c.args.leaf.span v w e z works (works_opened_head c.args.leaf.slot c.word_at-at.result n e z opens) (c.in-Err.kept).why (c.in-Err.kept).word (c.in-Err.kept).seen)
+    keeps_head (IsCauseBelow c.args.leaf.slot c.args.leaf.span c.args.leaf.page c.args.leaf.epoch c.args.pointer.at c.args.pointer.word w) (IsCauseBelow c.args.leaf.slot c.args.leaf.span c.args.leaf.page c.args.leaf.epoch c.args.pointer.at c.args.pointer.word v) c.in-Err.kept c.args.leaf.slot c.word_at-at.result n c.args.leaf.span v b w e z only can.heads head keeps opens
+    (below_back c.args.leaf.slot c.args.leaf.page c.args.leaf.epoch c.args.pointer.at c.args.pointer.word c.args.leaf.span v w works (c.in-Err.kept).why (c.in-Err.kept).word (c.in-Err.kept).seen)
 
 pub returns-in-Err-clause-tells : goal.returns-in-Err-clause-tells
 returns-in-Err-clause-tells c =
@@ -252,7 +250,7 @@ returns-in-Err-clause-tells c =
     let works = works_then v b w only.looks.works (works_head c.args.leaf.slot c.word_at-at.result n c.args.leaf.span b w head) in
     let rw1 = reads_then c.args.leaf.slot v b w (layout_worked v b only.looks.works) rb (reads_head c.args.leaf.slot c.word_at-at.result n c.args.leaf.span b w here head) in
     let e = view c.drop_from.new.pass in
-    let keeps = err_is c.drop_from.result (λ k. KeepsIt (IsCauseBelow c.args.leaf.slot c.args.leaf.span c.args.leaf.page c.args.leaf.epoch c.args.pointer.at c.args.pointer.word w e) k w e) c.in-Err.kept c.drop_from.ensures.keeps c.in-Err.is in
+    let keeps = err_is c.drop_from.result (λ k. KeepsIt (IsCauseBelow c.args.leaf.slot c.args.leaf.span c.args.leaf.page c.args.leaf.epoch c.args.pointer.at c.args.pointer.word w) k w e) c.in-Err.kept c.drop_from.ensures.keeps c.in-Err.is in
     let all = works_then v w e works keeps.looks.works in
     let late = tree_worked c.args.leaf.slot c.args.leaf.page c.args.leaf.span v e all can.tree in
     let there = place ∙ ap (λ (y : Layout). page_at y.slots c.args.leaf.slot 0) (sym (layout_worked v e all)) in
@@ -283,7 +281,7 @@ returns-in-Err-clause-reads c =
     let works = works_then v b w only.looks.works (works_head c.args.leaf.slot c.word_at-at.result n c.args.leaf.span b w head) in
     let rw1 = reads_then c.args.leaf.slot v b w (layout_worked v b only.looks.works) rb (reads_head c.args.leaf.slot c.word_at-at.result n c.args.leaf.span b w here head) in
     let e = view c.drop_from.new.pass in
-    let keeps = err_is c.drop_from.result (λ k. KeepsIt (IsCauseBelow c.args.leaf.slot c.args.leaf.span c.args.leaf.page c.args.leaf.epoch c.args.pointer.at c.args.pointer.word w e) k w e) c.in-Err.kept c.drop_from.ensures.keeps c.in-Err.is in
+    let keeps = err_is c.drop_from.result (λ k. KeepsIt (IsCauseBelow c.args.leaf.slot c.args.leaf.span c.args.leaf.page c.args.leaf.epoch c.args.pointer.at c.args.pointer.word w) k w e) c.in-Err.kept c.drop_from.ensures.keeps c.in-Err.is in
     let all = works_then v w e works keeps.looks.works in
     let late = tree_worked c.args.leaf.slot c.args.leaf.page c.args.leaf.span v e all can.tree in
     let there = place ∙ ap (λ (y : Layout). page_at y.slots c.args.leaf.slot 0) (sym (layout_worked v e all)) in
@@ -340,7 +338,19 @@ returns-clause-reads c =
 
 pub compare_all-requires-clause-own : goal.compare_all-requires-clause-own
 compare_all-requires-clause-own c =
-    λ i few. none_taken c.args.leaf.slot i (view c.args.pass.now) c.requires.drop.took c.requires.drop.shuts
+    λ i few. none_taken c.args.leaf.slot i (view c.args.pass.now) c.requires.drop.took c.requires.drop.shuts c.requires.whole
+
+pub cover-requires-clause-whole : goal.cover-requires-clause-whole
+cover-requires-clause-whole c =
+    let v = view c.args.pass.now in
+    let a = view c.compare_all.new.pass in
+    let first = c.in_ok-compare_all.ensures.looks in
+    let low = c.requires.open in (
+      c.args.header,
+      seen_head c.args.leaf.slot c.args.header v a (layout_worked v a first.looks.works) c.in_ok-compare_all.ensures.head c.requires.met,
+      omega (arith, low),
+      c.requires.counted,
+    )
 
 pub keep-changed-requires-clause-due : goal.keep-changed-requires-clause-due
 keep-changed-requires-clause-due c =

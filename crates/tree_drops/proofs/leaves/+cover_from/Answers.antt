@@ -2,9 +2,11 @@ use Rattle.std.proofs.Common.{◌≡◌, ◌+◌, ◌∙◌, refl, ap, arith}
 use Rattle.engine_pages.specs.declared.view.View.{View}
 use Rattle.engine_pages.specs.Passes.{view}
 use Rattle.page_drops.proofs.Entries.{reads_glanced, reads_self, reads_then}
-use Rattle.tree_drops.specs.Leaves.{CoversAll, IsKnownCause}
+use Rattle.tree_drops.specs.ChainKeys.{key_in}
+use Rattle.tree_drops.specs.Leaves.{CoversAll, IsCauseAt}
 use Rattle.tree_drops.specs.Works.{KeepsIt, OnlyLooks}
-use Rattle.tree_drops.proofs.Covers.{count_on, covers_next, covers_none, earlier, err_map, index_less, keeps_header, ok_map}
+use Rattle.tree_drops.proofs.Covers.{count_on, covers_next, covers_none, earlier, err_map, index_less, keeps_header}
+use Rattle.tree_drops.proofs.Covers.{lacks_known, ok_map, seen_whole_on}
 use Rattle.tree_drops.proofs.Works.{keys_worked, layout_worked, only_glanced, only_self, only_then, tree_worked}
 use Rattle.tree_drops.proofs.leaves.+cover_from.Goals as goal
 
@@ -39,6 +41,19 @@ keep_for_header-other-requires-clause-at t c =
     let only = only_then v a b one (only_glanced a b c.search_from.ensures.glances) in
     tree_worked c.args.leaf.slot c.args.leaf.page c.args.leaf.span v b only.looks.works c.requires.at
 
+pub keep_for_header-other-requires-clause-lacks : goal.keep_for_header-other-requires-clause-lacks
+keep_for_header-other-requires-clause-lacks t c =
+    let v = view c.args.pass.now in
+    let a = view c.word_of-key.new.pass in
+    let b = view c.search_from.new.pass in
+    let one = only_glanced v a c.word_of-key.ensures.glances in
+    let only = only_then v a b one (only_glanced a b c.search_from.ensures.glances) in
+    let x = keys_worked c.args.leaf.slot c.args.leaf.count c.args.leaf.span v a one.looks.works c.requires.known in
+    lacks_known c.args.leaf.slot c.args.leaf.count c.args.leaf.span (key_in c.args.leaf.span c.word_of-key.result) v b
+    c.requires.known only
+    (ap (λ (z : View). z.reads) c.search_from.ensures.glances.is ∙ ap (λ (z : View). z.reads) c.word_of-key.ensures.glances.is)
+    c.requires.whole (c.search_from.ensures.finds x ∙ c.if-not-search_from.true)
+
 pub returns-then-not-search_from-clause-keeps : goal.returns-then-not-search_from-clause-keeps
 returns-then-not-search_from-clause-keeps t c =
     let v = view c.args.pass.now in
@@ -46,11 +61,10 @@ returns-then-not-search_from-clause-keeps t c =
     let b = view c.search_from.new.pass in
     let one = only_glanced v a c.word_of-key.ensures.glances in
     let only = only_then v a b one (only_glanced a b c.search_from.ensures.glances) in
-    let x = keys_worked c.args.leaf.slot c.args.leaf.count c.args.leaf.span v a one.looks.works c.requires.known in
-    keeps_header c.args.leaf.slot c.args.leaf.page c.args.leaf.epoch c.args.leaf.count c.args.leaf.records c.args.index c.word_of-key.result c.args.leaf.span c.keep_for_header-other.result v b
-    (view c.keep_for_header-other.new.pass) c.requires.known only c.requires.count
+    keeps_header c.args.leaf.slot c.args.leaf.page c.args.leaf.epoch c.args.leaf.records c.args.index c.word_of-key.result
+    c.args.leaf.span c.keep_for_header-other.result v b (view c.keep_for_header-other.new.pass) only c.requires.count
     (index_less c.args.index c.args.leaf.records c.requires.within c.if-index-leaf.false) c.word_of-key.ensures.word
-    (c.search_from.ensures.finds x ∙ c.if-not-search_from.true) c.keep_for_header-other.ensures.keeps
+    c.keep_for_header-other.ensures.keeps
 
 pub returns-then-not-search_from-clause-reads : goal.returns-then-not-search_from-clause-reads
 returns-then-not-search_from-clause-reads t c =
@@ -78,7 +92,15 @@ cover_from-requires t c =
           tree_worked c.args.leaf.slot c.args.leaf.page c.args.leaf.span v b only.looks.works c.requires.at,
           (
             count_on c.args.leaf.page c.args.leaf.records c.args.leaf.span v b only.looks.works c.requires.count,
-            (keys_worked c.args.leaf.slot c.args.leaf.count c.args.leaf.span v b only.looks.works c.requires.known, omega (arith, less)),
+            (
+              keys_worked c.args.leaf.slot c.args.leaf.count c.args.leaf.span v b only.looks.works c.requires.known,
+              (
+                seen_whole_on c.args.leaf.slot c.args.leaf.count v b only
+                    (ap (λ (z : View). z.reads) c.search_from.ensures.glances.is ∙ ap (λ (z : View). z.reads) c.word_of-key.ensures.glances.is)
+                    c.requires.whole,
+                omega (arith, less),
+              ),
+            ),
           ),
         ),
       ),
@@ -114,8 +136,8 @@ returns-clause-keeps t c =
     let one = only_glanced v a c.word_of-key.ensures.glances in
     let only = only_then v a b one (only_glanced a b c.search_from.ensures.glances) in
     let w = view c.cover_from.new.pass in
-    err_map c.cover_from.result (λ k. KeepsIt (IsKnownCause c.args.leaf.slot c.args.leaf.span c.args.leaf.page c.args.leaf.epoch b w) k b w)
-    (λ k. KeepsIt (IsKnownCause c.args.leaf.slot c.args.leaf.span c.args.leaf.page c.args.leaf.epoch v w) k v w)
+    err_map c.cover_from.result (λ k. KeepsIt (IsCauseAt c.args.leaf.slot c.args.leaf.span c.args.leaf.page c.args.leaf.epoch b) k b w)
+    (λ k. KeepsIt (IsCauseAt c.args.leaf.slot c.args.leaf.span c.args.leaf.page c.args.leaf.epoch v) k v w)
     (λ k rest. earlier c.args.leaf.slot c.args.leaf.page c.args.leaf.epoch c.args.leaf.span k v b w only rest) c.cover_from.ensures.keeps
 
 pub returns-clause-reads : goal.returns-clause-reads

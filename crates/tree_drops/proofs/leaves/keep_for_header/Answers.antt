@@ -1,23 +1,38 @@
-use Rattle.std.proofs.Common.{◌≡◌, refl}
+use Rattle.std.proofs.Common.{◌≡◌, inl, inr, refl}
 use Rattle.engine_pages.specs.declared.view.KeptWhy.{KeptWhy}
-use Rattle.engine_pages.specs.declared.view.KeptWhy.TheVariants.{Unlike}
+use Rattle.engine_pages.specs.declared.view.KeptWhy.TheVariants.{UnlikeAt}
 use Rattle.engine_pages.specs.Layout.{page_at}
 use Rattle.engine_pages.specs.Passes.{view}
-use Rattle.tree_drops.proofs.Places.{word_here}
-use Rattle.tree_drops.proofs.Works.{keeps_it, last_seen, only_self, saw_word}
+use Rattle.tree_drops.proofs.Covers.{lacks_glanced}
+use Rattle.tree_drops.proofs.Places.{at_then, word_here}
+use Rattle.tree_drops.proofs.Works.{keeps_it, last_seen, only_glanced, only_self, saw_word, word_glanced}
 use Rattle.tree_drops.proofs.leaves.keep_for_header.Goals as goal
 
 pub keep-requires-clause-last : goal.keep-requires-clause-last
 keep-requires-clause-last c =
-    last_seen (view c.args.pass.now) (view c.load_word-header.new.pass) c.word_at-at.result c.load_word-header.result Unlike
+    last_seen (view c.args.pass.now) (view c.load_word-header.new.pass) c.word_at-at.result c.load_word-header.result
+    (UnlikeAt c.args.key)
     (saw_word c.args.leaf.slot 0 c.word_at-at.result c.load_word-header.result (view c.args.pass.now) (view c.args.pass.now)
     (view c.load_word-header.new.pass) (only_self (view c.args.pass.now)) c.load_word-header.ensures.loads)
+
+pub keep-requires-clause-due : goal.keep-requires-clause-due
+keep-requires-clause-due c =
+    let v = view c.args.pass.now in
+    let w = view c.load_word-header.new.pass in
+    let h = word_glanced c.args.leaf.slot 0 c.word_at-at.result c.load_word-header.result v w c.load_word-header.ensures.loads in
+    inr (
+      c.args.leaf.slot,
+      at_then c.args.leaf.slot 0 c.word_at-at.result v w (only_glanced v w h)
+          (word_here c.args.engine.now c.args.pass.now c.args.leaf.slot 0 c.word_at-at.result c.requires.of c.word_at-at.ensures),
+      inl (lacks_glanced c.args.leaf.slot c.args.key v w h c.requires.lacks),
+    )
 
 pub returns-clause-keeps : goal.returns-clause-keeps
 returns-clause-keeps c =
     let v = view c.args.pass.now in
-    keeps_it (λ (why : KeptWhy) word seen. (why ≡ Unlike) × (word ≡ page_at v.layout.slots c.args.leaf.slot 0)) v (view c.load_word-header.new.pass)
-    (view c.keep.new.pass) c.word_at-at.result c.load_word-header.result Unlike c.keep.result c.keep.ensures.is
+    keeps_it (λ (why : KeptWhy) word seen. (why ≡ UnlikeAt c.args.key) × (word ≡ page_at v.layout.slots c.args.leaf.slot 0)) v
+    (view c.load_word-header.new.pass) (view c.keep.new.pass) c.word_at-at.result c.load_word-header.result (UnlikeAt c.args.key)
+    c.keep.result c.keep.ensures.is
     (saw_word c.args.leaf.slot 0 c.word_at-at.result c.load_word-header.result v v (view c.load_word-header.new.pass) (only_self v)
     c.load_word-header.ensures.loads) c.keep.ensures.notes
     (refl, word_here c.args.engine.now c.args.pass.now c.args.leaf.slot 0 c.word_at-at.result c.requires.of c.word_at-at.ensures)

@@ -1,11 +1,11 @@
 use Rattle.std.proofs.Common.{◌+◌, ◌*◌, subst, sym, ap, arith}
 use Rattle.std.specs.Prelude.{MatchBool, option_map}
-use Rattle.engine_pages.specs.declared.view.KeptWhy.TheVariants.{Unlike}
+use Rattle.engine_pages.specs.declared.view.KeptWhy.TheVariants.{UnlikeAt}
 use Rattle.engine_pages.specs.declared.view.View.{View}
 use Rattle.engine_pages.specs.Passes.{view}
 use Rattle.engine_pages.specs.Words.{spot}
 use Rattle.page_drops.proofs.Entries.{reads_glanced, reads_more, reads_noted, reads_self}
-use Rattle.tree_drops.specs.Leaves.{found_of, IsKnownCause, IsLike, IsOtherValue, IsRecordCause, IsValue}
+use Rattle.tree_drops.specs.Leaves.{found_of, IsCauseAt, IsLike, IsOtherValue, IsRecordCause, IsValue}
 use Rattle.tree_drops.proofs.Causes.{record_valued}
 use Rattle.commit_core.specs.CoreState.{can_begin}
 use Rattle.std.specs.List.{Contains}
@@ -13,8 +13,9 @@ use Rattle.dual_pointer.specs.Installs.{tree_records}
 use Rattle.snapshot_store.specs.TreePages.{record_for}
 use Rattle.page_records.specs.Locks.{took_at}
 use Rattle.tree_drops.specs.Leaves.{IsStored}
-use Rattle.tree_drops.proofs.Places.{absent_locked, at_then, is_valued, known_cause, tree_here, value_locked, word_here}
-use Rattle.tree_drops.proofs.Works.{keeps_it, key_worked, last_seen, noted_known, only_glanced, only_self, saw_held, tree_worked}
+use Rattle.tree_drops.proofs.Dues.{value_due}
+use Rattle.tree_drops.proofs.Places.{absent_locked, at_then, is_valued, tree_here, value_locked, word_here}
+use Rattle.tree_drops.proofs.Works.{keeps_it, key_worked, last_seen, only_glanced, only_self, saw_held, tree_worked}
 use Rattle.tree_drops.proofs.records.check_value.Goals as goal
 
 pub returns-then-word-ge-LOCK-clause-looks : goal.returns-then-word-ge-LOCK-clause-looks
@@ -63,8 +64,19 @@ keep-other-requires-clause-last c =
     let glanced = c.find-stored.ensures.glances in
     let only = only_glanced v b glanced in
     let tree = tree_worked c.args.leaf.slot c.args.leaf.page c.args.leaf.span v b only.looks.works c.requires.at in
-    last_seen v (view c.load_held-value.new.pass) (c.word_at-at.result + 1) c.load_held-value.result Unlike
+    last_seen v (view c.load_held-value.new.pass) (c.word_at-at.result + 1) c.load_held-value.result (UnlikeAt c.args.key)
     (saw_held c.args.key (c.word_at-at.result + 1) c.args.word c.load_held-value.result v b (view c.load_held-value.new.pass) only c.load_held-value.ensures.loads)
+
+pub keep-other-requires-clause-due : goal.keep-other-requires-clause-due
+keep-other-requires-clause-due c =
+    let v = view c.args.pass.now in
+    let b = view c.find-stored.new.pass in
+    let only = only_glanced v b c.find-stored.ensures.glances in
+    let w = view c.load_held-value.new.pass in
+    let saw = saw_held c.args.key (c.word_at-at.result + 1) c.args.word c.load_held-value.result v b w only c.load_held-value.ensures.loads in
+    value_due c.args.leaf.slot c.args.index c.word_at-at.result c.args.word c.args.leaf.span c.args.key v w saw.only c.requires.index
+    (word_here c.args.engine.now c.args.pass.now c.args.leaf.slot (17 + 3 * c.args.index) c.word_at-at.result c.requires.of c.word_at-at.ensures)
+    c.requires.key c.requires.took
 
 pub returns-then-not-has_value-clause-keeps : goal.returns-then-not-has_value-clause-keeps
 returns-then-not-has_value-clause-keeps c =
@@ -79,15 +91,12 @@ returns-then-not-has_value-clause-keeps c =
     let n = c.load_held-value.result in
     let s = c.find-stored.result in
     let saw = saw_held c.args.key (c.word_at-at.result + 1) c.args.word n v b w only c.load_held-value.ensures.loads in
-    let keeps = noted_known w z c.keep-other.result c.keep-other.ensures.notes in
-    keeps_it (IsKnownCause t c.args.leaf.span c.args.leaf.page c.args.leaf.epoch v z) v w z (c.word_at-at.result + 1)
-    n Unlike c.keep-other.result c.keep-other.ensures.is saw c.keep-other.ensures.notes
-    (known_cause t c.args.leaf.page c.args.leaf.epoch c.args.index (c.word_at-at.result + 1) n c.args.leaf.span c.args.key
-    Unlike v z c.requires.key (λ x has. keeps x (saw.only.looks.works.known x has))
+    keeps_it (IsCauseAt t c.args.leaf.span c.args.leaf.page c.args.leaf.epoch v) v w z (c.word_at-at.result + 1)
+    n (UnlikeAt c.args.key) c.keep-other.result c.keep-other.ensures.is saw c.keep-other.ensures.notes
     (is_valued v.layout.slots t c.args.index c.word_at-at.result n c.args.leaf.page c.args.leaf.epoch
-    c.args.leaf.span v.pages (c.requires.key.leaf).keys c.args.key s c.requires.key.at (word_here c.args.engine.now c.args.pass.now c.args.leaf.slot (17 + 3 * c.args.index) c.word_at-at.result c.requires.of c.word_at-at.ensures) c.find-stored.ensures.finds
+    c.args.leaf.span v.pages c.args.key s c.requires.index c.requires.key.storage (word_here c.args.engine.now c.args.pass.now c.args.leaf.slot (17 + 3 * c.args.index) c.word_at-at.result c.requires.of c.word_at-at.ensures) c.find-stored.ensures.finds
     (subst (λ q. MatchBool q (IsValue (option_map found_of s) n) (IsOtherValue (option_map found_of s) n))
-    c.if-not-has_value.true c.has_value.ensures)))
+    c.if-not-has_value.true c.has_value.ensures))
 
 pub returns-then-not-has_value-clause-reads : goal.returns-then-not-has_value-clause-reads
 returns-then-not-has_value-clause-reads c =
@@ -151,8 +160,8 @@ returns-then-not-has_value-clause-causes c =
     let n = c.load_held-value.result in
     let s = c.find-stored.result in
     let saw = saw_held c.args.key (c.word_at-at.result + 1) c.args.word n v b w only c.load_held-value.ensures.loads in
-    keeps_it (IsRecordCause v.layout.slots t c.args.index (record_for (tree_records v.pages c.args.leaf.page) c.args.key.key) c.args.leaf.epoch)
-    v w (view c.keep-other.new.pass) (c.word_at-at.result + 1) n Unlike c.keep-other.result c.keep-other.ensures.is saw
+    keeps_it (IsRecordCause v.layout.slots t c.args.index c.args.key (record_for (tree_records v.pages c.args.leaf.page) c.args.key.key) c.args.leaf.epoch)
+    v w (view c.keep-other.new.pass) (c.word_at-at.result + 1) n (UnlikeAt c.args.key) c.keep-other.result c.keep-other.ensures.is saw
     c.keep-other.ensures.notes
     (record_valued v.layout.slots t c.args.index c.word_at-at.result n c.args.leaf.page c.args.leaf.epoch v.pages c.args.key s
     (word_here c.args.engine.now c.args.pass.now c.args.leaf.slot (17 + 3 * c.args.index) c.word_at-at.result c.requires.of c.word_at-at.ensures)

@@ -1,16 +1,16 @@
 use Rattle.std.proofs.Common.{◌+◌, ◌*◌, inr, subst, ap, arith}
 use Rattle.std.specs.Prelude.{MatchBool, option_map}
-use Rattle.engine_pages.specs.declared.view.KeptWhy.TheVariants.{Locked, Unlike}
+use Rattle.engine_pages.specs.declared.view.KeptWhy.TheVariants.{Locked, UnlikeAt}
 use Rattle.engine_pages.specs.declared.view.View.{View}
 use Rattle.engine_pages.specs.Passes.{view}
 use Rattle.page_drops.proofs.Entries.{reads_glanced, reads_more, reads_noted}
 use Rattle.dual_pointer.specs.Installs.{tree_records}
 use Rattle.snapshot_store.specs.TreePages.{record_for}
-use Rattle.tree_drops.specs.Leaves.{found_of, IsKnownCause, IsLike, IsRecordCause, IsUnlike}
+use Rattle.tree_drops.specs.Leaves.{found_of, IsCauseAt, IsLike, IsRecordCause, IsUnlike}
 use Rattle.tree_drops.proofs.Causes.{record_unlike}
-use Rattle.tree_drops.proofs.Dues.{head_read, record_foreign, seen_read}
-use Rattle.tree_drops.proofs.Places.{at_then, compared, is_locked, is_unlike, known_cause, tree_here, word_here}
-use Rattle.tree_drops.proofs.Works.{keeps_it, key_worked, last_seen, noted_known, only_glanced, saw_read, tree_worked}
+use Rattle.tree_drops.proofs.Dues.{head_read, record_foreign, seen_read, word_due}
+use Rattle.tree_drops.proofs.Places.{at_then, compared, is_locked, is_unlike, tree_here, word_here}
+use Rattle.tree_drops.proofs.Works.{keeps_it, key_worked, last_seen, only_glanced, saw_read, tree_worked}
 use Rattle.tree_drops.proofs.records.compare.Goals as goal
 
 pub load_word-word-requires-clause-place : goal.load_word-word-requires-clause-place
@@ -43,14 +43,11 @@ returns-then-word-eq1-clause-keeps c =
     let z = view c.keep-locked.new.pass in
     let t = c.args.leaf.slot in
     let saw = saw_read c.word_at-at.result c.load_word-word.result v b w only c.load_word-word.ensures.loads.is in
-    let keeps = noted_known w z c.keep-locked.result c.keep-locked.ensures.notes in
-    keeps_it (IsKnownCause t c.args.leaf.span c.args.leaf.page c.args.leaf.epoch v z) v w z c.word_at-at.result
+    keeps_it (IsCauseAt t c.args.leaf.span c.args.leaf.page c.args.leaf.epoch v) v w z c.word_at-at.result
     c.load_word-word.result Locked c.keep-locked.result c.keep-locked.ensures.is saw c.keep-locked.ensures.notes
-    (known_cause t c.args.leaf.page c.args.leaf.epoch c.args.index c.word_at-at.result c.load_word-word.result c.args.leaf.span c.args.key
-    Locked v z c.requires.key (λ x has. keeps x (saw.only.looks.works.known x has))
     (is_locked v.layout.slots t c.args.index c.word_at-at.result c.load_word-word.result c.args.leaf.page c.args.leaf.epoch
-    c.args.leaf.span v.pages (c.requires.key.leaf).keys c.requires.index (word_here c.args.engine.now c.args.pass.now c.args.leaf.slot (17 + 3 * c.args.index) c.word_at-at.result c.requires.of c.word_at-at.ensures)
-    (let odd = c.if-word-eq1.true in omega (arith, odd))))
+    c.args.leaf.span v.pages c.requires.index (word_here c.args.engine.now c.args.pass.now c.args.leaf.slot (17 + 3 * c.args.index) c.word_at-at.result c.requires.of c.word_at-at.ensures)
+    (let odd = c.if-word-eq1.true in omega (arith, odd)))
 
 pub returns-then-word-eq1-clause-reads : goal.returns-then-word-eq1-clause-reads
 returns-then-word-eq1-clause-reads c =
@@ -69,8 +66,19 @@ keep-other-requires-clause-last c =
     let b = view c.find-stored.new.pass in
     let glanced = c.find-stored.ensures.glances in
     let only = only_glanced v b glanced in
-    last_seen v (view c.load_word-word.new.pass) c.word_at-at.result c.load_word-word.result Unlike
+    last_seen v (view c.load_word-word.new.pass) c.word_at-at.result c.load_word-word.result (UnlikeAt c.args.key)
     (saw_read c.word_at-at.result c.load_word-word.result v b (view c.load_word-word.new.pass) only c.load_word-word.ensures.loads.is)
+
+pub keep-other-requires-clause-due : goal.keep-other-requires-clause-due
+keep-other-requires-clause-due c =
+    let v = view c.args.pass.now in
+    let b = view c.find-stored.new.pass in
+    let only = only_glanced v b c.find-stored.ensures.glances in
+    let w = view c.load_word-word.new.pass in
+    let saw = saw_read c.word_at-at.result c.load_word-word.result v b w only c.load_word-word.ensures.loads.is in
+    word_due c.args.leaf.slot c.args.index c.word_at-at.result c.args.leaf.span c.args.key v w saw.only c.requires.index
+    (word_here c.args.engine.now c.args.pass.now c.args.leaf.slot (17 + 3 * c.args.index) c.word_at-at.result c.requires.of c.word_at-at.ensures)
+    c.requires.key c.requires.own
 
 pub returns-then-not-is_like-clause-keeps : goal.returns-then-not-is_like-clause-keeps
 returns-then-not-is_like-clause-keeps c =
@@ -84,16 +92,13 @@ returns-then-not-is_like-clause-keeps c =
     let n = c.load_word-word.result in
     let s = c.find-stored.result in
     let saw = saw_read c.word_at-at.result n v b w only c.load_word-word.ensures.loads.is in
-    let keeps = noted_known w z c.keep-other.result c.keep-other.ensures.notes in
-    keeps_it (IsKnownCause t c.args.leaf.span c.args.leaf.page c.args.leaf.epoch v z) v w z c.word_at-at.result
-    n Unlike c.keep-other.result c.keep-other.ensures.is saw c.keep-other.ensures.notes
-    (known_cause t c.args.leaf.page c.args.leaf.epoch c.args.index c.word_at-at.result n c.args.leaf.span c.args.key
-    Unlike v z c.requires.key (λ x has. keeps x (saw.only.looks.works.known x has))
+    keeps_it (IsCauseAt t c.args.leaf.span c.args.leaf.page c.args.leaf.epoch v) v w z c.word_at-at.result
+    n (UnlikeAt c.args.key) c.keep-other.result c.keep-other.ensures.is saw c.keep-other.ensures.notes
     (is_unlike v.layout.slots t c.args.index c.word_at-at.result n c.args.leaf.page c.args.leaf.epoch
-    c.args.leaf.span v.pages (c.requires.key.leaf).keys c.args.key s c.requires.key.at (word_here c.args.engine.now c.args.pass.now c.args.leaf.slot (17 + 3 * c.args.index) c.word_at-at.result c.requires.of c.word_at-at.ensures)
+    c.args.leaf.span v.pages c.args.key s c.requires.index c.requires.key.storage (word_here c.args.engine.now c.args.pass.now c.args.leaf.slot (17 + 3 * c.args.index) c.word_at-at.result c.requires.of c.word_at-at.ensures)
     (λ odd. c.if-word-eq1.false (omega (arith, odd))) c.find-stored.ensures.finds
     (subst (λ q. MatchBool q (IsLike (option_map found_of s) c.args.leaf.epoch n) (IsUnlike (option_map found_of s) c.args.leaf.epoch n))
-    c.if-not-is_like.true c.is_like.ensures)))
+    c.if-not-is_like.true c.is_like.ensures))
 
 pub returns-then-not-is_like-clause-reads : goal.returns-then-not-is_like-clause-reads
 returns-then-not-is_like-clause-reads c =
@@ -149,7 +154,7 @@ returns-then-word-eq1-clause-causes c =
     let t = c.args.leaf.slot in
     let n = c.load_word-word.result in
     let saw = saw_read c.word_at-at.result n v b w only c.load_word-word.ensures.loads.is in
-    keeps_it (IsRecordCause v.layout.slots t c.args.index (record_for (tree_records v.pages c.args.leaf.page) c.args.key.key) c.args.leaf.epoch)
+    keeps_it (IsRecordCause v.layout.slots t c.args.index c.args.key (record_for (tree_records v.pages c.args.leaf.page) c.args.key.key) c.args.leaf.epoch)
     v w (view c.keep-locked.new.pass) c.word_at-at.result n Locked c.keep-locked.result c.keep-locked.ensures.is saw
     c.keep-locked.ensures.notes (
       (word_here c.args.engine.now c.args.pass.now c.args.leaf.slot (17 + 3 * c.args.index) c.word_at-at.result c.requires.of c.word_at-at.ensures),
@@ -166,8 +171,8 @@ returns-then-not-is_like-clause-causes c =
     let n = c.load_word-word.result in
     let s = c.find-stored.result in
     let saw = saw_read c.word_at-at.result n v b w only c.load_word-word.ensures.loads.is in
-    keeps_it (IsRecordCause v.layout.slots t c.args.index (record_for (tree_records v.pages c.args.leaf.page) c.args.key.key) c.args.leaf.epoch)
-    v w (view c.keep-other.new.pass) c.word_at-at.result n Unlike c.keep-other.result c.keep-other.ensures.is saw
+    keeps_it (IsRecordCause v.layout.slots t c.args.index c.args.key (record_for (tree_records v.pages c.args.leaf.page) c.args.key.key) c.args.leaf.epoch)
+    v w (view c.keep-other.new.pass) c.word_at-at.result n (UnlikeAt c.args.key) c.keep-other.result c.keep-other.ensures.is saw
     c.keep-other.ensures.notes
     (record_unlike v.layout.slots t c.args.index c.word_at-at.result n c.args.leaf.page c.args.leaf.epoch v.pages c.args.key s
     (word_here c.args.engine.now c.args.pass.now c.args.leaf.slot (17 + 3 * c.args.index) c.word_at-at.result c.requires.of c.word_at-at.ensures)

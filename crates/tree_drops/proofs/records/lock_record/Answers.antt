@@ -8,9 +8,9 @@ use Rattle.dual_pointer.specs.Installs.{tree_records}
 use Rattle.engine_pages.specs.Steps.{seen_at}
 use Rattle.page_drops.proofs.Dues.{turned_from}
 use Rattle.snapshot_store.specs.TreePages.{record_for}
-use Rattle.tree_drops.specs.Leaves.{IsKnownCause, IsRecordCause}
-use Rattle.tree_drops.proofs.Places.{is_changed, known_cause, not_locked, reads_lock, word_here}
-use Rattle.tree_drops.proofs.Works.{keeps_it, last_seen, noted_known, only_self, saw_read}
+use Rattle.tree_drops.specs.Leaves.{IsCauseAt, IsRecordCause}
+use Rattle.tree_drops.proofs.Places.{is_changed, not_locked, reads_lock, word_here}
+use Rattle.tree_drops.proofs.Works.{keeps_it, last_seen, only_self, saw_read}
 use Rattle.tree_drops.proofs.records.lock_record.Goals as goal
 
 pub keep-changed-requires-clause-last : goal.keep-changed-requires-clause-last
@@ -30,13 +30,10 @@ returns-then-found-word-clause-keeps c =
     let n = c.lock-found.result in
     let saw = saw_read c.word_at-at.result n v v u (only_self v)
     (not_locked c.args.key (spot t c.args.index) c.word_at-at.result c.args.word n v u c.if-found-word.true c.lock-found.ensures.locks) in
-    let keeps = noted_known u z c.keep-changed.result c.keep-changed.ensures.notes in
-    keeps_it (IsKnownCause t c.args.leaf.span c.args.leaf.page c.args.leaf.epoch v z) v u z c.word_at-at.result
+    keeps_it (IsCauseAt t c.args.leaf.span c.args.leaf.page c.args.leaf.epoch v) v u z c.word_at-at.result
     n (Changed c.args.word) c.keep-changed.result c.keep-changed.ensures.is saw c.keep-changed.ensures.notes
-    (known_cause t c.args.leaf.page c.args.leaf.epoch c.args.index c.word_at-at.result n c.args.leaf.span c.args.key
-    (Changed c.args.word) v z c.requires.key (λ x has. keeps x (saw.only.looks.works.known x has))
     (is_changed v.layout.slots t c.args.index c.word_at-at.result n c.args.word c.args.leaf.page c.args.leaf.epoch
-    c.args.leaf.span v.pages (c.requires.key.leaf).keys c.requires.index (word_here c.args.engine.now c.args.pass.now c.args.leaf.slot (17 + 3 * c.args.index) c.word_at-at.result c.requires.of c.word_at-at.ensures) c.if-found-word.true))
+    c.args.leaf.span v.pages c.requires.index (word_here c.args.engine.now c.args.pass.now c.args.leaf.slot (17 + 3 * c.args.index) c.word_at-at.result c.requires.of c.word_at-at.ensures) c.if-found-word.true)
 
 pub returns-then-found-word-clause-reads : goal.returns-then-found-word-clause-reads
 returns-then-found-word-clause-reads c =
@@ -71,6 +68,6 @@ returns-then-found-word-clause-causes c =
     let n = c.lock-found.result in
     let saw = saw_read c.word_at-at.result n v v u (only_self v)
     (not_locked c.args.key (spot t c.args.index) c.word_at-at.result c.args.word n v u c.if-found-word.true c.lock-found.ensures.locks) in
-    keeps_it (IsRecordCause v.layout.slots t c.args.index (record_for (tree_records v.pages c.args.leaf.page) c.args.key.key) c.args.leaf.epoch)
+    keeps_it (IsRecordCause v.layout.slots t c.args.index c.args.key (record_for (tree_records v.pages c.args.leaf.page) c.args.key.key) c.args.leaf.epoch)
     v u (view c.keep-changed.new.pass) c.word_at-at.result n (Changed c.args.word) c.keep-changed.result c.keep-changed.ensures.is saw
     c.keep-changed.ensures.notes ((word_here c.args.engine.now c.args.pass.now c.args.leaf.slot (17 + 3 * c.args.index) c.word_at-at.result c.requires.of c.word_at-at.ensures), c.if-found-word.true)

@@ -11,7 +11,7 @@ use Rattle.engine_pages.specs.Passes.{view}
 use Rattle.engine_pages.specs.Words.{spot}
 use Rattle.page_records.specs.Locks.{took_at}
 use Rattle.page_drops.proofs.Entries.{reads_then}
-use Rattle.tree_drops.specs.Leaves.{IsKnownCause, IsLike, IsRecordCause}
+use Rattle.tree_drops.specs.Leaves.{IsCauseAt, IsLike, IsRecordCause}
 use Rattle.tree_drops.proofs.Causes.{record_open}
 use Rattle.tree_drops.specs.Works.{KeepsIt}
 use Rattle.tree_drops.proofs.Covers.{count_on, err_is, ok_is}
@@ -89,7 +89,7 @@ open_record-requires-clause-at c =
     let works = works_locked c.args.key (spot c.args.leaf.slot c.args.index) at c.args.word v u c.requires.at.keeper c.in_ok-lock_record.ensures.locks in
     let more = lock_more c.args.key (spot c.args.leaf.slot c.args.index) at c.args.word v v u c.requires.at.keeper (only_self v) c.in_ok-lock_record.ensures.locks in
     let e = view c.check_value.new.pass in
-    let keeps = err_is c.check_value.result (λ k. KeepsIt (IsKnownCause c.args.leaf.slot c.args.leaf.span c.args.leaf.page c.args.leaf.epoch u e) k u e) c.in-Err.kept
+    let keeps = err_is c.check_value.result (λ k. KeepsIt (IsCauseAt c.args.leaf.slot c.args.leaf.span c.args.leaf.page c.args.leaf.epoch u) k u e) c.in-Err.kept
     c.check_value.ensures.keeps c.in-Err.is in
     let all = works_then v u e works keeps.looks.works in
     let tree = tree_worked c.args.leaf.slot c.args.leaf.page c.args.leaf.span v e all c.requires.at in
@@ -103,7 +103,7 @@ open_record-requires-clause-key c =
     let works = works_locked c.args.key (spot c.args.leaf.slot c.args.index) at c.args.word v u c.requires.at.keeper c.in_ok-lock_record.ensures.locks in
     let more = lock_more c.args.key (spot c.args.leaf.slot c.args.index) at c.args.word v v u c.requires.at.keeper (only_self v) c.in_ok-lock_record.ensures.locks in
     let e = view c.check_value.new.pass in
-    let keeps = err_is c.check_value.result (λ k. KeepsIt (IsKnownCause c.args.leaf.slot c.args.leaf.span c.args.leaf.page c.args.leaf.epoch u e) k u e) c.in-Err.kept
+    let keeps = err_is c.check_value.result (λ k. KeepsIt (IsCauseAt c.args.leaf.slot c.args.leaf.span c.args.leaf.page c.args.leaf.epoch u) k u e) c.in-Err.kept
     c.check_value.ensures.keeps c.in-Err.is in
     let all = works_then v u e works keeps.looks.works in
     let tree = tree_worked c.args.leaf.slot c.args.leaf.page c.args.leaf.span v e all c.requires.at in
@@ -117,7 +117,7 @@ open_record-requires-clause-can c =
     let works = works_locked c.args.key (spot c.args.leaf.slot c.args.index) at c.args.word v u c.requires.at.keeper c.in_ok-lock_record.ensures.locks in
     let more = lock_more c.args.key (spot c.args.leaf.slot c.args.index) at c.args.word v v u c.requires.at.keeper (only_self v) c.in_ok-lock_record.ensures.locks in
     let e = view c.check_value.new.pass in
-    let keeps = err_is c.check_value.result (λ k. KeepsIt (IsKnownCause c.args.leaf.slot c.args.leaf.span c.args.leaf.page c.args.leaf.epoch u e) k u e) c.in-Err.kept
+    let keeps = err_is c.check_value.result (λ k. KeepsIt (IsCauseAt c.args.leaf.slot c.args.leaf.span c.args.leaf.page c.args.leaf.epoch u) k u e) c.in-Err.kept
     c.check_value.ensures.keeps c.in-Err.is in
     let all = works_then v u e works keeps.looks.works in
     let tree = tree_worked c.args.leaf.slot c.args.leaf.page c.args.leaf.span v e all c.requires.at in
@@ -131,7 +131,7 @@ returns-in-Err-clause-keeps c =
     let works = works_locked c.args.key (spot c.args.leaf.slot c.args.index) at c.args.word v u c.requires.at.keeper c.in_ok-lock_record.ensures.locks in
     let more = lock_more c.args.key (spot c.args.leaf.slot c.args.index) at c.args.word v v u c.requires.at.keeper (only_self v) c.in_ok-lock_record.ensures.locks in
     let e = view c.check_value.new.pass in
-    let keeps = err_is c.check_value.result (λ k. KeepsIt (IsKnownCause c.args.leaf.slot c.args.leaf.span c.args.leaf.page c.args.leaf.epoch u e) k u e) c.in-Err.kept
+    let keeps = err_is c.check_value.result (λ k. KeepsIt (IsCauseAt c.args.leaf.slot c.args.leaf.span c.args.leaf.page c.args.leaf.epoch u) k u e) c.in-Err.kept
     c.check_value.ensures.keeps c.in-Err.is in
     let all = works_then v u e works keeps.looks.works in
     let tree = tree_worked c.args.leaf.slot c.args.leaf.page c.args.leaf.span v e all c.requires.at in
@@ -147,7 +147,7 @@ returns-in-Err-clause-reads c =
     let works = works_locked c.args.key (spot c.args.leaf.slot c.args.index) at c.args.word v u c.requires.at.keeper c.in_ok-lock_record.ensures.locks in
     let more = lock_more c.args.key (spot c.args.leaf.slot c.args.index) at c.args.word v v u c.requires.at.keeper (only_self v) c.in_ok-lock_record.ensures.locks in
     let e = view c.check_value.new.pass in
-    let keeps = err_is c.check_value.result (λ k. KeepsIt (IsKnownCause c.args.leaf.slot c.args.leaf.span c.args.leaf.page c.args.leaf.epoch u e) k u e) c.in-Err.kept
+    let keeps = err_is c.check_value.result (λ k. KeepsIt (IsCauseAt c.args.leaf.slot c.args.leaf.span c.args.leaf.page c.args.leaf.epoch u) k u e) c.in-Err.kept
     c.check_value.ensures.keeps c.in-Err.is in
     let all = works_then v u e works keeps.looks.works in
     let tree = tree_worked c.args.leaf.slot c.args.leaf.page c.args.leaf.span v e all c.requires.at in
@@ -193,7 +193,7 @@ returns-in-Err-clause-causes c =
     let works = works_locked c.args.key (spot t c.args.index) at c.args.word v u c.requires.at.keeper c.in_ok-lock_record.ensures.locks in
     let more = lock_more c.args.key (spot t c.args.index) at c.args.word v v u c.requires.at.keeper (only_self v) c.in_ok-lock_record.ensures.locks in
     let e = view c.check_value.new.pass in
-    let causes = err_is c.check_value.result (λ k. KeepsIt (IsRecordCause u.layout.slots t c.args.index
+    let causes = err_is c.check_value.result (λ k. KeepsIt (IsRecordCause u.layout.slots t c.args.index c.args.key
     (record_for (tree_records u.pages c.args.leaf.page) c.args.key.key) c.args.leaf.epoch) k u e) c.in-Err.kept
     c.check_value.ensures.causes c.in-Err.is in
     let all = works_then v u e works causes.looks.works in

@@ -181,7 +181,7 @@ returns-in_err-word-clause-works c =
     let p = err_from_is_err_and c.from_residual.result c.from_residual.ensures.1 in
     let told : c.from_residual.result ≡ Err c.in_err-word.field-0.0 = let a1 = p.1 in let b1 = p.2 in cc in
     rw told (compare_kept c.args.root c.args.page c.args.index v a can gl key at storage b goes stored found k e
-    (subst (λ (z : Leaf). KeepsIt (IsRecordCause b.layout.slots z.slot c.args.index (record_for (tree_records b.pages z.page) key.key) z.epoch) k b e)
+    (subst (λ (z : Leaf). KeepsIt (IsRecordCause b.layout.slots z.slot c.args.index key (record_for (tree_records b.pages z.page) key.key) z.epoch) k b e)
     leaf c.in_err-word.ensures.causes)
     (subst (λ (z : Leaf). KeepsReads z.slot b e) leaf c.compare.ensures.reads))
 
@@ -385,7 +385,7 @@ returns-in_err-take_record-clause-works c =
     let p = err_from_is_err_and c.from_residual-in_err-take_record.result c.from_residual-in_err-take_record.ensures.1 in
     let told : c.from_residual-in_err-take_record.result ≡ Err c.in_err-take_record.field-0.0 = let a1 = p.1 in let b1 = p.2 in cc in
     rw told (take_kept c.args.root c.args.page c.args.index v a can gl key at storage b goes stored found d word cmp read k e
-    (subst (λ (z : Leaf). KeepsIt (IsRecordCause d.layout.slots z.slot c.args.index (record_for (tree_records d.pages z.page) key.key) z.epoch) k d e)
+    (subst (λ (z : Leaf). KeepsIt (IsRecordCause d.layout.slots z.slot c.args.index key (record_for (tree_records d.pages z.page) key.key) z.epoch) k d e)
     leaf c.in_err-take_record.ensures.causes)
     (subst (λ (z : Leaf). KeepsReads z.slot d e) leaf c.take_record.ensures.reads))
 

@@ -13,7 +13,12 @@ returns-then-header-ge-MOVED-clause-ends c =
 pub take_leaf-found-requires-clause-bits : goal.take_leaf-found-requires-clause-bits
 take_leaf-found-requires-clause-bits c =
     let low = c.if-header-ge-MOVED.false in
-    elim c.requires.bits [ inl few ↦ few | inr more ↦ absurd (omega (arith, more, low)) ]
+    elim c.requires.bits [ inl few ↦ few.0 | inr more ↦ absurd (omega (arith, more, low)) ]
+
+pub take_leaf-found-requires-clause-whole : goal.take_leaf-found-requires-clause-whole
+take_leaf-found-requires-clause-whole c =
+    let low = c.if-header-ge-MOVED.false in
+    elim c.requires.bits [ inl few ↦ few.1 | inr more ↦ absurd (omega (arith, more, low)) ]
 
 pub returns-clause-ends : goal.returns-clause-ends
 returns-clause-ends c =

@@ -181,6 +181,7 @@ keep-locked-requires-clause-due c =
     (seen_at v.reads c.args.target.at) v (view c.follow-seen.new.pass) c.requires.visit
     (look_first c.args.target.epoch c.args.target.place c.args.target.span c.args.target.at c.args.target.page c.follow-seen.result v
     (view c.follow-seen.new.pass) c.requires.visit c.follow-seen.ensures.follows)
+    (ap (λ (z : View). z.inners) c.follow-seen.ensures.follows.is)
 
 pub keep-turned-requires-clause-due : goal.keep-turned-requires-clause-due
 keep-turned-requires-clause-due c =

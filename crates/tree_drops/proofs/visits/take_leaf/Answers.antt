@@ -1,4 +1,5 @@
-use Rattle.std.proofs.Common.{◌%◌, ◌^◌, ap, arith}
+use Rattle.std.proofs.Common.{◌%◌, ◌^◌, ap, subst, arith}
+use Rattle.std.specs.List.{Contains}
 use Rattle.engine_pages.specs.declared.view.View.{View}
 use Rattle.engine_pages.specs.declared.view.KeptWhy.TheVariants.{Unlike}
 use Rattle.engine_pages.specs.Passes.{view}
@@ -47,7 +48,12 @@ returns-clause-takes c =
 pub keep-locked-requires-clause-due : goal.keep-locked-requires-clause-due
 keep-locked-requires-clause-due c =
     let low = c.requires.bits in
-    header_foreign (view c.args.pass.now) c.word_at-at.result c.args.header c.requires.work.bare (omega (arith, low))
+    header_foreign (view c.args.pass.now) c.args.held.slot c.word_at-at.result c.args.header c.requires.work.bare (omega (arith, low))
+    (word_here c.args.engine.now c.args.pass.now c.args.held.slot 0 c.word_at-at.result c.requires.of c.word_at-at.ensures)
+
+pub drop_leaf-requires-clause-whole : goal.drop_leaf-requires-clause-whole
+drop_leaf-requires-clause-whole c =
+    λ x has same. c.requires.whole x (subst (λ l. Contains l x) (ap (λ (z : View). z.moved) c.count_in.ensures.glances.is) has) same
 
 pub drop_leaf-requires-clause-met : goal.drop_leaf-requires-clause-met
 drop_leaf-requires-clause-met c =

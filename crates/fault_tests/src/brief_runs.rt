@@ -1,4 +1,6 @@
 // Runs that are told in brief, of which a device fails.
+ghost use Rattle.outside.specs.Disk.{IfTold, Only};
+
 use super::*;
 
 // One line, on an array and on a tree.
@@ -38,7 +40,20 @@ fn check_broken<R: Threads + Wait + Sync + AllocGlobal>(
 ) -> Result<(), Fail> {
     let trouble = stops_behind(device_of(part(row, 0)), part(row, 1).parse::<u64>()?);
     let mut vault = troubled_vault(rt.alloc(), fresh, trouble)?;
-    let (got, told) = answer(rt, &mut vault, "run --brief", script)?;
+    check_brief(rt, &mut vault, script, row)
+}
+
+// Makes the run of a row over a vault, which is lent: what is owned at a `?` costs a proof.
+fn check_brief<R: Threads + Wait + Sync + AllocGlobal>(
+    rt: &R,
+    vault: &mut Vault<FuseDisk<MemDisk>>,
+    script: &[u8],
+    row: &str,
+) -> Result<(), Fail>
+    requires { IfTold (⟦<FuseDisk<MemDisk> as Disk>⟧.tells vault.old.save)
+        (Only ⟦<FuseDisk<MemDisk> as Disk>⟧.clock ⟦<FuseDisk<MemDisk> as Disk>⟧.image_at vault.old.save) }
+{
+    let (got, told) = answer(rt, vault, "run --brief", script)?;
     check_told(rt, row, (got, &told), (part(row, 2), part(row, 3)))
 }
 

@@ -1,4 +1,6 @@
 // Each call of a stream or a device fails once: what is told, and what a dump tells then.
+ghost use Rattle.outside.specs.Disk.{IfTold, Only};
+
 use super::*;
 use outside::Call;
 
@@ -203,6 +205,17 @@ fn written_out(alloc: Global, script: &str) -> Result<String, AllocError> {
     Ok(whole)
 }
 
+// The call of the source that fails, and that of the sink, where this call of an object fails.
+fn streams_of(object: usize, failing: u64) -> (u64, u64) {
+    if object == SOURCE {
+        return (failing, u64::MAX);
+    }
+    if object == SINK {
+        return (u64::MAX, failing);
+    }
+    SURE
+}
+
 // What is told where this call of an object fails: the status and the text, and a dump behind it.
 fn told_at<R: Threads + Wait + Sync + AllocGlobal>(
     rt: &R,
@@ -210,15 +223,10 @@ fn told_at<R: Threads + Wait + Sync + AllocGlobal>(
     script: &str,
     failing: u64,
 ) -> Result<(u8, Vec<u8>, Vec<u8>), Fail> {
-    let alloc = rt.alloc();
-    let streams = (
-        if object == SOURCE { failing } else { u64::MAX },
-        if object == SINK { failing } else { u64::MAX },
-    );
-    let fresh = fresh_files(alloc)?;
-    let mut vault = troubled_vault(alloc, &fresh, fails_at(object, failing))?;
-    let (status, text) = answer_failing(rt, &mut vault, ("run", script), streams)?;
-    let files = files_of(alloc, &vault)?;
+    let fresh = fresh_files(rt.alloc())?;
+    let trouble = fails_at(object, failing);
+    let streams = streams_of(object, failing);
+    let (status, text, files) = left_over(rt, &fresh, trouble, ("run", script), streams)?;
     let (_status, dump) = answer_over(rt, &files, ("dump", ""))?;
     Ok((status, text, dump))
 }
@@ -321,7 +329,21 @@ pub(super) fn number_in_run<R: Threads + Wait + Sync + AllocGlobal>(
 ) -> Result<u64, Fail> {
     let fresh = fresh_files(rt.alloc())?;
     let mut vault = troubled_vault(rt.alloc(), &fresh, NO_TROUBLE)?;
-    let (_status, _text) = answer_failing(rt, &mut vault, ("run", script), SURE)?;
+    number_then(rt, &mut vault, script, is_write, nth)
+}
+
+// The same of a run over a vault.
+fn number_then<R: Threads + Wait + Sync + AllocGlobal>(
+    rt: &R,
+    vault: &mut Vault<FuseDisk<MemDisk>>,
+    script: &str,
+    is_write: bool,
+    nth: usize,
+) -> Result<u64, Fail>
+    requires { IfTold (⟦<FuseDisk<MemDisk> as Disk>⟧.tells vault.old.save)
+        (Only ⟦<FuseDisk<MemDisk> as Disk>⟧.clock ⟦<FuseDisk<MemDisk> as Disk>⟧.image_at vault.old.save) }
+{
+    let (_status, _text) = answer_failing(rt, vault, ("run", script), SURE)?;
     Ok(number_of(vault.save.disk().calls(), is_write, nth))
 }
 

@@ -64,18 +64,19 @@ fn check_part<R: Threads + Wait + Sync + AllocGlobal>(
     }
 }
 
-// Makes the call of a row over a vault, and compares what it tells.
+// Makes the call of a row over a vault, and compares what it tells. Answers what the devices hold then.
 fn check_ended<R: Threads + Wait + Sync + AllocGlobal>(
     rt: &R,
     vault: &mut Vault<FuseDisk<MemDisk>>,
     asked: (&str, &[u8]),
     row: &str,
-) -> Result<(), Fail>
+) -> Result<Files, Fail>
     requires { IfTold (⟦<FuseDisk<MemDisk> as Disk>⟧.tells vault.old.save)
         (Only ⟦<FuseDisk<MemDisk> as Disk>⟧.clock ⟦<FuseDisk<MemDisk> as Disk>⟧.image_at vault.old.save) }
 {
     let (status, text) = answer(rt, vault, asked.0, asked.1)?;
-    check_told(rt, row, (status, &text), (part(row, 3), part(row, 4)))
+    check_told(rt, row, (status, &text), (part(row, 3), part(row, 4)))?;
+    Ok(files_of(rt.alloc(), vault)?)
 }
 
 // Makes the call of a row over what devices hold, one of which is in trouble, and compares what it tells. Answers what
@@ -88,8 +89,7 @@ fn left_by<R: Threads + Wait + Sync + AllocGlobal>(
     row: &str,
 ) -> Result<Files, Fail> {
     let mut vault = troubled_vault(rt.alloc(), files, trouble)?;
-    check_ended(rt, &mut vault, asked, row)?;
-    Ok(files_of(rt.alloc(), &vault)?)
+    check_ended(rt, &mut vault, asked, row)
 }
 
 // Makes the call of a row over what devices hold, one call of which fails, and compares what it tells, and what a dump

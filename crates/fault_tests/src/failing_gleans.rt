@@ -105,19 +105,20 @@ fn failing_twice(
     Ok(vault)
 }
 
-// Makes a run over a vault of which this device fails first.
+// Makes a run over a vault of which this device fails first. Answers what the devices hold then.
 fn check_run<R: Threads + Wait + Sync + AllocGlobal>(
     rt: &R,
     vault: &mut Vault<FuseDisk<MemDisk>>,
     script: &[u8],
     device: &str,
     ended: (u8, &[u8]),
-) -> Result<(), Fail>
+) -> Result<Files, Fail>
     requires { IfTold (⟦<FuseDisk<MemDisk> as Disk>⟧.tells vault.old.save)
         (Only ⟦<FuseDisk<MemDisk> as Disk>⟧.clock ⟦<FuseDisk<MemDisk> as Disk>⟧.image_at vault.old.save) }
 {
     let (status, text) = answer(rt, vault, "run", script)?;
-    is_answer(device, (status, &text), ended)
+    is_answer(device, (status, &text), ended)?;
+    Ok(files_of(rt.alloc(), vault)?)
 }
 
 // What devices hold behind a run in which both fail: the lower one is told.
@@ -130,8 +131,7 @@ fn left_by_two<R: Threads + Wait + Sync + AllocGlobal>(
     let name = name_of(bank_of(low.0, 0));
     let told = format!(in rt.alloc(); "0.0 ok 1:1\ndurable 1\nk.0 device\ndevice {name}\n")?;
     let mut vault = failing_twice(rt.alloc(), fresh, low, high)?;
-    check_run(rt, &mut vault, SCRIPT, name, (5, told.as_bytes()))?;
-    Ok(files_of(rt.alloc(), &vault)?)
+    check_run(rt, &mut vault, SCRIPT, name, (5, told.as_bytes()))
 }
 
 // And no snapshot is made.

@@ -46,20 +46,21 @@ fn half_run(alloc: Global, failing: u8) -> Result<Vec<u8>, AllocError> {
     Ok(text)
 }
 
-// Compares what is told of such a run with that.
+// Compares what is told of such a run with that. Answers what the devices hold then.
 fn check_half_told<R: Threads + Wait + Sync + AllocGlobal>(
     rt: &R,
     vault: &mut Vault<FuseDisk<MemDisk>>,
     script: &[u8],
     device: &str,
     want: &[u8],
-) -> Result<(), Fail>
+) -> Result<Files, Fail>
     requires { IfTold (⟦<FuseDisk<MemDisk> as Disk>⟧.tells vault.old.save)
         (Only ⟦<FuseDisk<MemDisk> as Disk>⟧.clock ⟦<FuseDisk<MemDisk> as Disk>⟧.image_at vault.old.save) }
 {
     let (status, told) = answer_by(rt, vault, "run", script, &OpenGate)?;
     let text = without_numbers(rt.alloc(), str::from_utf8(&told)?)?;
-    is_answer(device, (status, &text), (5, want))
+    is_answer(device, (status, &text), (5, want))?;
+    Ok(files_of(rt.alloc(), vault)?)
 }
 
 // The run in which this device fails, over a new database, and what the devices hold then.
@@ -71,8 +72,7 @@ fn left_half<R: Threads + Wait + Sync + AllocGlobal>(
 ) -> Result<Files, Fail> {
     let fresh = fresh_files(rt.alloc())?;
     let mut vault = troubled_vault(rt.alloc(), &fresh, fails_at(device_of(device), 1))?;
-    check_half_told(rt, &mut vault, script, device, want)?;
-    Ok(files_of(rt.alloc(), &vault)?)
+    check_half_told(rt, &mut vault, script, device, want)
 }
 
 // The run in which this worker's log file fails, and its last line.

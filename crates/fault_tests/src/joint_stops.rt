@@ -1,5 +1,7 @@
 // All devices of a run stop, each at a moment of its own, as far as the stores and cuts that it recorded allow these
 // moments together: what is recovered is what the savepoint names that the save is left with.
+ghost use Rattle.outside.specs.Disk.{IfTold, Only};
+
 use super::images::{Chance, alike, image};
 use super::*;
 use log_writer::{Cut, Tie};
@@ -223,9 +225,22 @@ fn check_draws(
 fn check_run<R: Threads + Wait + Sync + AllocGlobal>(rt: &R, run: &Run) -> Result<(), Fail> {
     let first = files_behind(rt, run.before)?;
     let mut vault = troubled_vault(rt.alloc(), &first, NO_TROUBLE)?;
-    let (status, _text) = answer_failing(rt, &mut vault, ("run", run.script), SURE)?;
+    check_run_over(rt, &mut vault, &first, run)
+}
+
+// The same over a vault, which is lent: what is owned at a `?` costs a proof.
+fn check_run_over<R: Threads + Wait + Sync + AllocGlobal>(
+    rt: &R,
+    vault: &mut Vault<FuseDisk<MemDisk>>,
+    first: &[Vec<u8>],
+    run: &Run,
+) -> Result<(), Fail>
+    requires { IfTold (⟦<FuseDisk<MemDisk> as Disk>⟧.tells vault.old.save)
+        (Only ⟦<FuseDisk<MemDisk> as Disk>⟧.clock ⟦<FuseDisk<MemDisk> as Disk>⟧.image_at vault.old.save) }
+{
+    let (status, _text) = answer_failing(rt, vault, ("run", run.script), SURE)?;
     is_so(run.script, status == 0)?;
-    let count = check_draws(rt.alloc(), &vault, &first, run.saved)?;
+    let count = check_draws(rt.alloc(), vault, first, run.saved)?;
     is_so("enough stops", count > DRAWS / 2)
 }
 

@@ -141,9 +141,22 @@ fn check_stop<R: Threads + Wait + Sync + AllocGlobal>(
     trouble: Trouble,
 ) -> Result<bool, Fail> {
     let mut vault = troubled_vault(rt.alloc(), first, trouble)?;
-    let (status, told) = run_stopped(rt, &mut vault, rounds)?;
-    check_pending(rt, (&vault, first), Pending::Lost, rounds, told)?;
-    check_pending(rt, (&vault, first), Pending::Kept, rounds, told)?;
+    check_stopped(rt, &mut vault, first, rounds)
+}
+
+// The same over a vault, which is lent: what is owned at a `?` costs a proof.
+fn check_stopped<R: Threads + Wait + Sync + AllocGlobal>(
+    rt: &R,
+    vault: &mut Vault<FuseDisk<MemDisk>>,
+    first: &[Vec<u8>],
+    rounds: &Rounds,
+) -> Result<bool, Fail>
+    requires { IfTold (⟦<FuseDisk<MemDisk> as Disk>⟧.tells vault.old.save)
+        (Only ⟦<FuseDisk<MemDisk> as Disk>⟧.clock ⟦<FuseDisk<MemDisk> as Disk>⟧.image_at vault.old.save) }
+{
+    let (status, told) = run_stopped(rt, vault, rounds)?;
+    check_pending(rt, (&*vault, first), Pending::Lost, rounds, told)?;
+    check_pending(rt, (&*vault, first), Pending::Kept, rounds, told)?;
     Ok(status == 0)
 }
 

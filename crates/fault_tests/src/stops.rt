@@ -1,4 +1,6 @@
 // One device stops behind so many of its calls: what is recovered then, and how the next run goes on.
+ghost use Rattle.outside.specs.Disk.{IfTold, Only};
+
 use super::failing_calls::number_in_run;
 use super::images::{Pending, left_now};
 use super::*;
@@ -141,9 +143,23 @@ fn check_stop<R: Threads + Wait + Sync + AllocGlobal>(
     passes: u64,
 ) -> Result<bool, Fail> {
     let mut vault = troubled_vault(rt.alloc(), first, stops_behind(device, passes))?;
-    let (status, text) = answer_failing(rt, &mut vault, ("run", runs.script), SURE)?;
+    check_stopped(rt, &mut vault, first, runs, passes)
+}
+
+// The same over a vault, which is lent: what is owned at a `?` costs a proof.
+fn check_stopped<R: Threads + Wait + Sync + AllocGlobal>(
+    rt: &R,
+    vault: &mut Vault<FuseDisk<MemDisk>>,
+    first: &[Vec<u8>],
+    runs: &Runs,
+    passes: u64,
+) -> Result<bool, Fail>
+    requires { IfTold (⟦<FuseDisk<MemDisk> as Disk>⟧.tells vault.old.save)
+        (Only ⟦<FuseDisk<MemDisk> as Disk>⟧.clock ⟦<FuseDisk<MemDisk> as Disk>⟧.image_at vault.old.save) }
+{
+    let (status, text) = answer_failing(rt, vault, ("run", runs.script), SURE)?;
     let least = told_durable(&text, runs);
-    check_each_pending(rt, (&vault, first), (runs, least), passes)?;
+    check_each_pending(rt, (&*vault, first), (runs, least), passes)?;
     Ok(status == 0)
 }
 
@@ -188,10 +204,21 @@ fn left_within_the_byte<R: Threads + Wait + Sync + AllocGlobal>(rt: &R) -> Resul
     let trouble = stops_behind(SAVE, number.saturating_add(1));
     let first = fresh_files(rt.alloc())?;
     let mut vault = troubled_vault(rt.alloc(), &first, trouble)?;
-    let (status, text) = answer_failing(rt, &mut vault, ("run", TWICE), SURE)?;
+    left_of_twice(rt, &mut vault, &first)
+}
+
+fn left_of_twice<R: Threads + Wait + Sync + AllocGlobal>(
+    rt: &R,
+    vault: &mut Vault<FuseDisk<MemDisk>>,
+    first: &[Vec<u8>],
+) -> Result<Files, Fail>
+    requires { IfTold (⟦<FuseDisk<MemDisk> as Disk>⟧.tells vault.old.save)
+        (Only ⟦<FuseDisk<MemDisk> as Disk>⟧.clock ⟦<FuseDisk<MemDisk> as Disk>⟧.image_at vault.old.save) }
+{
+    let (status, text) = answer_failing(rt, vault, ("run", TWICE), SURE)?;
     let told = "0.0 ok 1:1|durable 1|0.0 ok 2:2|device save|";
     is_text(rt.alloc(), (status, &text), (5, told))?;
-    Ok(left_now(rt.alloc(), &vault, &first, Pending::Kept)?)
+    Ok(left_now(rt.alloc(), vault, first, Pending::Kept)?)
 }
 
 // Puts a byte at the begin of the save.

@@ -181,10 +181,23 @@ fn check_stop<R: Threads + Wait + Sync + AllocGlobal>(
     trouble: Trouble,
 ) -> Result<bool, Fail> {
     let mut vault = troubled_vault(rt.alloc(), first, trouble)?;
-    let (status, text) = run_beside(rt, &mut vault, script)?;
+    check_stopped(rt, &mut vault, first, script)
+}
+
+// The same over a vault, which is lent: what is owned at a `?` costs a proof.
+fn check_stopped<R: Threads + Wait + Sync + AllocGlobal>(
+    rt: &R,
+    vault: &mut Vault<FuseDisk<MemDisk>>,
+    first: &[Vec<u8>],
+    script: &[u8],
+) -> Result<bool, Fail>
+    requires { IfTold (⟦<FuseDisk<MemDisk> as Disk>⟧.tells vault.old.save)
+        (Only ⟦<FuseDisk<MemDisk> as Disk>⟧.clock ⟦<FuseDisk<MemDisk> as Disk>⟧.image_at vault.old.save) }
+{
+    let (status, text) = run_beside(rt, vault, script)?;
     let told = str::from_utf8(&text)?;
-    check_lost(rt, (&vault, first), told)?;
-    check_pending(rt, (&vault, first), told)?;
+    check_lost(rt, (&*vault, first), told)?;
+    check_pending(rt, (&*vault, first), told)?;
     Ok(status == 0)
 }
 

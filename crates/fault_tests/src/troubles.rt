@@ -314,16 +314,45 @@ pub(super) fn check_over<R: Threads + Wait + Sync + AllocGlobal>(
     is_text(rt.alloc(), (status, &text), wanted)
 }
 
+// A status, a text, and what devices hold then.
+pub(super) type Left = (u8, Vec<u8>, Files);
+
+// The status and the text of such a call over a vault, and what its devices hold then.
+fn left_in<R: Threads + Wait + Sync + AllocGlobal>(
+    rt: &R,
+    vault: &mut Vault<FuseDisk<MemDisk>>,
+    asked: (&str, &str),
+    failing: (u64, u64),
+) -> Result<Left, Fail>
+    requires { IfTold (⟦<FuseDisk<MemDisk> as Disk>⟧.tells vault.old.save)
+        (Only ⟦<FuseDisk<MemDisk> as Disk>⟧.clock ⟦<FuseDisk<MemDisk> as Disk>⟧.image_at vault.old.save) }
+{
+    let (status, text) = answer_failing(rt, vault, asked, failing)?;
+    let files = files_of(rt.alloc(), vault)?;
+    Ok((status, text, files))
+}
+
+// The same over what devices hold, one of which is in trouble. The vault is lent: what is owned at a `?` costs a proof.
+pub(super) fn left_over<R: Threads + Wait + Sync + AllocGlobal>(
+    rt: &R,
+    files: &[Vec<u8>],
+    trouble: Trouble,
+    asked: (&str, &str),
+    failing: (u64, u64),
+) -> Result<Left, Fail> {
+    let mut vault = troubled_vault(rt.alloc(), files, trouble)?;
+    left_in(rt, &mut vault, asked, failing)
+}
+
 // What devices hold behind a run of this script over what they held.
 pub(super) fn files_then<R: Threads + Wait + Sync + AllocGlobal>(
     rt: &R,
     files: &[Vec<u8>],
     script: &str,
 ) -> Result<Files, Fail> {
-    let mut vault = troubled_vault(rt.alloc(), files, NO_TROUBLE)?;
-    let (status, _text) = answer_failing(rt, &mut vault, ("run", script), SURE)?;
+    let (status, _text, left) = left_over(rt, files, NO_TROUBLE, ("run", script), SURE)?;
     is_so(script, status == 0)?;
-    Ok(files_of(rt.alloc(), &vault)?)
+    Ok(left)
 }
 
 // The same over a new database, or of no script.

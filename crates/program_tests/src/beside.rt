@@ -1,6 +1,6 @@
 // The maintenance thread's lines beside the workers'.
 use super::*;
-use crate::threads::{HOW, check_round, dealt, may_tell, text_of};
+use crate::threads::{HOW, answer_fresh, check_round, dealt, run_by, text_of};
 use outside::Gate;
 use serial_model::Plain;
 use std::sync::atomic::{AtomicU64, Ordering};
@@ -303,31 +303,50 @@ fn run_mixed<R: Threads + Wait + Sync + AllocGlobal>(
     let Ok(script) = read_script(rt.alloc(), bytes) else {
         return Err(Fail::from("no script"));
     };
-    let mut vault = fresh_vault(rt.alloc())?;
-    let plain = Plain::new(rt.alloc(), script.decls())?;
-    let so_far = KeptSoFar::fresh(PAGES);
-    let (_plain, so_far) = run_next(rt, &mut vault, (asked, bytes), &script, plain, so_far)?;
+    let mut plain = Plain::new(rt.alloc(), script.decls())?;
+    let mut so_far = KeptSoFar::fresh(PAGES);
+    run_first(rt, (asked, bytes), &script, &mut plain, &mut so_far)?;
     Ok(so_far.dropped)
 }
 
-// The same over a database that keeps what the model has. Answers the model behind it.
+// The first run of a model. Databases and models are lent: what is owned at a `?` costs a proof.
+fn run_first<R: Threads + Wait + Sync + AllocGlobal>(
+    rt: &R,
+    call: (&str, &[u8]),
+    script: &Script,
+    plain: &mut Plain,
+    so_far: &mut KeptSoFar,
+) -> Result<(), Fail> {
+    let mut vault = fresh_vault(rt.alloc())?;
+    run_next(rt, &mut vault, call, script, plain, so_far)
+}
+
+// The same over a database that keeps what the model has, and with the model behind it.
 pub(crate) fn run_next<R: Threads + Wait + Sync + AllocGlobal>(
     rt: &R,
     vault: &mut Vault<MemDisk>,
     (asked, bytes): (&str, &[u8]),
     script: &Script,
-    plain: Plain,
-    so_far: KeptSoFar,
-) -> Result<(Plain, KeptSoFar), Fail> {
+    plain: &mut Plain,
+    so_far: &mut KeptSoFar,
+) -> Result<(), Fail> {
+    let told = told_anew(rt, vault, asked, bytes)?;
+    check_all(rt, script, str::from_utf8(&told)?, plain, so_far)?;
+    let kept = text_of(rt.alloc(), plain, so_far.saved)?;
+    check_answer(rt, vault, "dump", b"", (0, kept.as_slice()))
+}
+
+// What is told of a run over what a vault holds, with nothing pending.
+fn told_anew<R: Threads + Wait + Sync + AllocGlobal>(
+    rt: &R,
+    vault: &mut Vault<MemDisk>,
+    asked: &str,
+    bytes: &[u8],
+) -> Result<Vec<u8>, Fail> {
     let mut next = anew(rt.alloc(), vault, &[])?;
-    let (status, told) = answer_by(rt, &mut next, asked, bytes, &OpenGate)?;
-    let told = str::from_utf8(&told)?;
-    is_so(asked, status == 0 && may_tell(asked, told))?;
-    let (plain, so_far) = check_all(rt, script, told, plain, so_far)?;
-    let kept = text_of(rt.alloc(), &plain, so_far.saved)?;
+    let told = run_by(rt, &mut next, asked, bytes)?;
     *vault = next;
-    check_answer(rt, vault, "dump", b"", (0, kept.as_slice()))?;
-    Ok((plain, so_far))
+    Ok(told)
 }
 
 // Checks each round.
@@ -335,12 +354,10 @@ fn check_all<R: AllocGlobal>(
     rt: &R,
     script: &Script,
     told: &str,
-    plain: Plain,
-    so_far: KeptSoFar,
-) -> Result<(Plain, KeptSoFar), Fail> {
+    plain: &mut Plain,
+    so_far: &mut KeptSoFar,
+) -> Result<(), Fail> {
     let alloc = rt.alloc();
-    let mut plain = plain;
-    let mut so_far = so_far;
     let mut lines = told.lines();
     for index in 0..script.rounds() {
         let round = script.round(index);
@@ -348,13 +365,14 @@ fn check_all<R: AllocGlobal>(
         for _ in 0..round.len() {
             of_round.push(lines.next().unwrap_or(""))?;
         }
-        check_mixed(rt, &mut plain, &round, &of_round, &mut so_far)?;
-        let durable = format!(in alloc; "durable {}", so_far.epoch)?;
+        check_mixed(rt, plain, &round, &of_round, so_far)?;
+        let epoch = so_far.epoch;
+        let durable = format!(in alloc; "durable {epoch}")?;
         is_so("durable", lines.next() == Some(durable.as_str()))?;
-        so_far.saved = so_far.epoch;
-        so_far.epoch = so_far.epoch.wrapping_add(1);
+        so_far.saved = epoch;
+        so_far.epoch = epoch.wrapping_add(1);
     }
-    Ok((plain, so_far))
+    Ok(())
 }
 
 // The scripts of the rows that are run to their end, and have lines of the maintenance thread's.
@@ -415,8 +433,7 @@ const ALL_COMMITTED: &[u8] = b"commits 260000\ntotal 260000\ndurable 26\n";
 #[test]
 fn slots_are_given_again_within_a_run(rt: HostRuntime) -> Result<(), Fail> {
     let script = onward(rt.alloc(), 26)?;
-    let mut vault = fresh_vault(rt.alloc())?;
     let asked = "run --brief --tries 1000000 --slots 64";
-    let (status, told) = answer_by(&rt, &mut vault, asked, script.as_bytes(), &OpenGate)?;
+    let (status, told) = answer_fresh(&rt, asked, script.as_bytes())?;
     is_answer(asked, (status, &told), (0, ALL_COMMITTED))
 }

@@ -1,5 +1,7 @@
 // Runs that are told in brief.
 use super::*;
+use crate::gleans::answer_new;
+use crate::threads::answer_fresh;
 
 // Calls one after another over one vault, as rows of `CASES`. Nothing is told but the last line where no round was run,
 // and what is kept is all that was kept before too.
@@ -17,17 +19,15 @@ fn run_brief<R: Threads + Wait + Sync + AllocGlobal>(
     script: &[u8],
     text: &[u8],
 ) -> Result<(), Fail> {
-    let mut vault = fresh_vault(rt.alloc())?;
     let asked = "run --brief --tries 1000000 --slots 512";
-    let (status, told) = answer_by(rt, &mut vault, asked, script, &OpenGate)?;
+    let (status, told) = answer_fresh(rt, asked, script)?;
     is_answer(asked, (status, &told), (0, text))
 }
 
 // The long script that everybody can make.
 #[test]
 fn a_long_script_in_brief(rt: HostRuntime) -> Result<(), Fail> {
-    let mut vault = fresh_vault(rt.alloc())?;
-    let (made, script) = answer_anew(&rt, &mut vault, "make 7 8 65536", b"")?;
+    let (made, script) = answer_new(&rt, "make 7 8 65536", b"")?;
     is_so("a script that is made", made == 0)?;
     let text = b"commits 65536\ntotal 131072\ndurable 1\n";
     run_brief(&rt, &script, text.as_slice())

@@ -206,9 +206,18 @@ fn check_example<R: Threads + Wait + Sync + AllocGlobal>(
     kept: &str,
 ) -> Result<(), Fail> {
     let mut vault = fresh_vault(rt.alloc())?;
-    let told = (0, text.as_bytes());
-    check_answer(rt, &mut vault, "run", script.as_bytes(), told)?;
-    check_answer(rt, &mut vault, "dump", b"", (0, kept.as_bytes()))
+    check_over(rt, &mut vault, script, (text, kept))
+}
+
+// The same over a fresh database that is lent: what is owned at a `?` costs a proof.
+fn check_over<R: Threads + Wait + Sync + AllocGlobal>(
+    rt: &R,
+    vault: &mut Vault<MemDisk>,
+    script: &str,
+    (text, kept): (&str, &str),
+) -> Result<(), Fail> {
+    check_answer(rt, vault, "run", script.as_bytes(), (0, text.as_bytes()))?;
+    check_answer(rt, vault, "dump", b"", (0, kept.as_bytes()))
 }
 
 #[test]

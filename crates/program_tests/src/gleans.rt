@@ -168,8 +168,17 @@ fn check_cut_off<R: Threads + Wait + Sync + AllocGlobal>(
 
 fn kept_at<R: Threads + Wait + Sync + AllocGlobal>(rt: &R, epoch: u64) -> Result<Vec<u8>, Fail> {
     let mut cut = fresh_vault(rt.alloc())?;
-    run_rounds(rt, &mut cut, epoch)?;
-    let (_status, kept) = answer_anew(rt, &mut cut, "dump", b"")?;
+    kept_over(rt, &mut cut, epoch)
+}
+
+// The same over a fresh database that is lent: what is owned at a `?` costs a proof.
+fn kept_over<R: Threads + Wait + Sync + AllocGlobal>(
+    rt: &R,
+    vault: &mut Vault<MemDisk>,
+    epoch: u64,
+) -> Result<Vec<u8>, Fail> {
+    run_rounds(rt, vault, epoch)?;
+    let (_status, kept) = answer_anew(rt, vault, "dump", b"")?;
     Ok(kept)
 }
 
@@ -254,9 +263,19 @@ fn check_deep<R: Threads + Wait + Sync + AllocGlobal>(
     text: &str,
 ) -> Result<(), Fail> {
     let mut vault = fresh_vault(rt.alloc())?;
+    check_deep_over(rt, &mut vault, script, text)
+}
+
+// The same over a fresh database that is lent: what is owned at a `?` costs a proof.
+fn check_deep_over<R: Threads + Wait + Sync + AllocGlobal>(
+    rt: &R,
+    vault: &mut Vault<MemDisk>,
+    script: &str,
+    text: &str,
+) -> Result<(), Fail> {
     let ended = (0, text.as_bytes());
-    check_answer(rt, &mut vault, "run --snap 592", script.as_bytes(), ended)?;
-    check_rows(rt, &mut vault, TOO_DEEP)
+    check_answer(rt, vault, "run --snap 592", script.as_bytes(), ended)?;
+    check_rows(rt, vault, TOO_DEEP)
 }
 
 #[test]
@@ -315,9 +334,8 @@ fn check_many<R: Threads + Wait + Sync + AllocGlobal>(
 
 #[test]
 fn a_snapshot_of_many_storages(rt: HostRuntime) -> Result<(), Fail> {
-    let alloc = rt.alloc();
-    let mut vault = fresh_vault(alloc)?;
-    let (script, kept) = (many_storages(alloc)?, kept_storages(alloc)?);
+    let (script, kept) = (many_storages(rt.alloc())?, kept_storages(rt.alloc())?);
+    let mut vault = fresh_vault(rt.alloc())?;
     check_many(&rt, &mut vault, script.as_str(), kept.as_str())
 }
 
@@ -331,11 +349,20 @@ fn additions(alloc: Global) -> Result<String, AllocError> {
     Ok(script)
 }
 
+// The status and the text of a call over a fresh database, one line after another.
+pub(crate) fn answer_new<R: Threads + Wait + Sync + AllocGlobal>(
+    rt: &R,
+    asked: &str,
+    script: &[u8],
+) -> Result<(u8, Vec<u8>), Fail> {
+    let mut vault = fresh_vault(rt.alloc())?;
+    answer(rt, &mut vault, asked, script)
+}
+
 #[test]
 fn a_snapshot_of_two_workers(rt: HostRuntime) -> Result<(), Fail> {
     let script = additions(rt.alloc())?;
-    let mut vault = fresh_vault(rt.alloc())?;
-    let (status, text) = answer_anew(&rt, &mut vault, "run --tries 1000000", script.as_bytes())?;
+    let (status, text) = answer_new(&rt, "run --tries 1000000", script.as_bytes())?;
     let end = b"durable 1\nk.0 snap 1 new 2\ndurable 2\n";
     is_so(
         "a snapshot of two workers",

@@ -127,11 +127,20 @@ fn check_broken<R: Threads + Wait + Sync + AllocGlobal>(
     Ok(())
 }
 
+// The rows of runs, and those of what is told once a page of it has changed. The database is lent: what is owned at a
+// `?` costs a proof.
+fn check_damaged<R: Threads + Wait + Sync + AllocGlobal>(
+    rt: &R,
+    vault: &mut Vault<MemDisk>,
+) -> Result<(), Fail> {
+    check_rows(rt, vault, RUNS)?;
+    check_broken(rt, vault)
+}
+
 #[test]
 fn a_damaged_page_is_told(rt: HostRuntime) -> Result<(), Fail> {
     let mut vault = fresh_vault(rt.alloc())?;
-    check_rows(&rt, &mut vault, RUNS)?;
-    check_broken(&rt, &vault)
+    check_damaged(&rt, &mut vault)
 }
 
 // The sink fails in the last line, and no source is read.

@@ -52,20 +52,19 @@ fn program_over<R: Threads + Wait + Sync + Files<File = File> + AllocGlobal>(
     )
 }
 
-// What the program answers to these words after its name, prints and explains over a folder.
+// What the program answers to these words after its name over a folder. The texts that it prints, explains and tells
+// are lent: what is owned at a `?` costs a proof.
 fn program_in<R: Threads + Wait + Sync + Files<File = File> + AllocGlobal>(
     rt: &R,
     folder: &str,
-    asked: &str,
-    script: &str,
-) -> Result<(ExitCode, Texts), Fail> {
+    (asked, script): (&str, &str),
+    texts: &mut Texts,
+) -> Result<ExitCode, Fail> {
     let alloc = rt.alloc();
-    let words = owned_words(alloc, asked)?;
     let bytes = SureSource::new(script.as_bytes().to_vec(alloc)?);
+    let words = owned_words(alloc, asked)?;
     let mut source = ScriptSource::new(alloc, bytes, false);
-    let mut texts = Texts::new(alloc);
-    let code = program_over(rt, words, folder, &mut source, &mut texts);
-    Ok((code, texts))
+    Ok(program_over(rt, words, folder, &mut source, texts))
 }
 
 // Compares what was answered and printed.
@@ -82,7 +81,8 @@ fn check_program<R: Threads + Wait + Sync + Files<File = File> + AllocGlobal>(
     status: u8,
     text: &str,
 ) -> Result<(), Fail> {
-    let (code, texts) = program_in(rt, folder, asked, script)?;
+    let mut texts = Texts::new(rt.alloc());
+    let code = program_in(rt, folder, (asked, script), &mut texts)?;
     is_printed(code, &texts, status, text)
 }
 
@@ -101,15 +101,16 @@ fn program<R: Threads + Wait + Sync + Files<File = File> + AllocGlobal>(
     rt: &R,
     word: &str,
     taken: [&str; 2],
-) -> Result<(ExitCode, Texts), Fail> {
+    texts: &mut Texts,
+) -> Result<ExitCode, Fail> {
     let folder = "foedus_program";
     let _old = fs::remove_dir_all(rt, folder);
     fs::create_dir(rt, folder)?;
     take_name(rt, folder, taken[0])?;
     take_name(rt, folder, taken[1])?;
-    let answer = program_in(rt, folder, word, "array 1 4\n0 r 1 3\n")?;
+    let code = program_in(rt, folder, (word, "array 1 4\n0 r 1 3\n"), texts)?;
     fs::remove_dir_all(rt, folder)?;
-    Ok(answer)
+    Ok(code)
 }
 
 // The words after the name, the script, the status and the text.
@@ -243,7 +244,8 @@ fn check_taken<R: Threads + Wait + Sync + Files<File = File> + AllocGlobal>(
     status: u8,
     text: &str,
 ) -> Result<(), Fail> {
-    let (code, texts) = program(rt, word, taken)?;
+    let mut texts = Texts::new(rt.alloc());
+    let code = program(rt, word, taken, &mut texts)?;
     is_told(code, &texts, status, text)
 }
 
@@ -336,7 +338,8 @@ fn check_noted<R: Threads + Wait + Sync + Files<File = File> + AllocGlobal>(
     rt: &R,
     (asked, script, noted): (&str, &str, &str),
 ) -> Result<(), Fail> {
-    let (_code, texts) = program_in(rt, "foedus_noted", asked, script)?;
+    let mut texts = Texts::new(rt.alloc());
+    let _code = program_in(rt, "foedus_noted", (asked, script), &mut texts)?;
     is_same(asked, texts.noted.bytes(), noted.as_bytes())
 }
 

@@ -98,14 +98,27 @@ pub(crate) fn check_round<R: AllocGlobal>(
     round: &Round<'_>,
     told: &[&str],
 ) -> Result<(), Fail> {
+    let lines = by_number(rt, told)?;
     let mut last = BTreeMap::new(rt.alloc());
-    for (_draw, (worker, line, text)) in by_number(rt, told)?.iter() {
-        let want = wanted(rt.alloc(), plain, round, (*worker, *line), text)?;
-        is_same(text, text.as_bytes(), &want)?;
-        let before = last.insert(*worker, *line)?;
-        is_so(text, before < Some(*line))?;
+    for (_draw, line) in lines.iter() {
+        check_line(rt.alloc(), plain, round, *line, &mut last)?;
     }
     Ok(())
+}
+
+// Checks a line that got the next number of a round: it is what the model gives, and behind those that were told of its
+// worker.
+fn check_line(
+    alloc: Global,
+    plain: &mut Plain,
+    round: &Round<'_>,
+    (worker, line, text): Told<'_>,
+    last: &mut BTreeMap<u8, u32>,
+) -> Result<(), Fail> {
+    let want = wanted(alloc, plain, round, (worker, line), text)?;
+    is_same(text, text.as_bytes(), &want)?;
+    let before = last.insert(worker, line)?;
+    is_so(text, before < Some(line))
 }
 
 // The line of a worker at this place, by the number that it tells, as the model has it.
@@ -170,7 +183,7 @@ pub(crate) const HOW: [&str; 4] = [FEW_SLOTS, SOME_SLOTS, MANY_SLOTS, ONE_TRY];
 
 // Whether what is told has no line that is wide, and none that is full or in conflict, or how the script was run allows
 // it.
-pub(crate) fn may_tell(asked: &str, told: &str) -> bool {
+fn may_tell(asked: &str, told: &str) -> bool {
     let is_full = told.contains(" full\n");
     let is_in_conflict = told.contains(" conflict\n");
     let is_allowed = (!is_full || asked == FEW_SLOTS) && (!is_in_conflict || asked == ONE_TRY);
@@ -178,21 +191,33 @@ pub(crate) fn may_tell(asked: &str, told: &str) -> bool {
 }
 
 // Runs a script on threads over a fresh database, and checks what is told of it, and that the database keeps what the
-// model has then. Answers the database.
+// model has then.
 pub(crate) fn run_checked<R: Threads + Wait + Sync + AllocGlobal>(
     rt: &R,
     asked: &str,
     bytes: &[u8],
-) -> Result<Vault<MemDisk>, Fail> {
+) -> Result<(), Fail> {
     let mut vault = fresh_vault(rt.alloc())?;
-    let told = run_by(rt, &mut vault, asked, bytes)?;
+    check_over(rt, &mut vault, asked, bytes)
+}
+
+// The same over a fresh database that is lent: what is owned at a `?` costs a proof.
+pub(crate) fn check_over<R: Threads + Wait + Sync + AllocGlobal>(
+    rt: &R,
+    vault: &mut Vault<MemDisk>,
+    asked: &str,
+    bytes: &[u8],
+) -> Result<(), Fail>
+    requires { IfTold (⟦<MemDisk as Disk>⟧.tells vault.old.save)
+        (Only ⟦<MemDisk as Disk>⟧.clock ⟦<MemDisk as Disk>⟧.image_at vault.old.save) }
+{
+    let told = run_by(rt, vault, asked, bytes)?;
     let kept = kept_of(rt, bytes, str::from_utf8(&told)?)?;
-    check_answer(rt, &mut vault, "dump", b"", (0, kept.as_slice()))?;
-    Ok(vault)
+    check_answer(rt, vault, "dump", b"", (0, kept.as_slice()))
 }
 
 // What is told of a run that was done, and has no lines but those that its words allow.
-fn run_by<R: Threads + Wait + Sync + AllocGlobal>(
+pub(crate) fn run_by<R: Threads + Wait + Sync + AllocGlobal>(
     rt: &R,
     vault: &mut Vault<MemDisk>,
     asked: &str,
@@ -243,7 +268,8 @@ pub(crate) fn repeated(
 #[test]
 fn no_raise_is_lost(rt: HostRuntime) -> Result<(), Fail> {
     let script = repeated(rt.alloc(), ARRAY, &["0 a 1 0 1", "1 a 1 0 1"], 100)?;
-    let mut vault = run_checked(&rt, SOME_SLOTS, &script)?;
+    let mut vault = fresh_vault(rt.alloc())?;
+    check_over(&rt, &mut vault, SOME_SLOTS, &script)?;
     check_row(&rt, &mut vault, "dump # # 0 # epoch 1|1 0 200|")
 }
 
@@ -262,8 +288,7 @@ const AT_ONCE: [&str; 8] = [
 #[test]
 fn eight_workers_are_serial(rt: HostRuntime) -> Result<(), Fail> {
     let script = repeated(rt.alloc(), ARRAY, &AT_ONCE, 40)?;
-    let _vault = run_checked(&rt, SOME_SLOTS, &script)?;
-    Ok(())
+    run_checked(&rt, SOME_SLOTS, &script)
 }
 
 // What workers add again and again: together 36 in a turn.
@@ -294,15 +319,23 @@ const ADDED_ON_BOTH: [&str; 8] = [
 
 pub(crate) const ARRAY_AND_TREE: &[u8] = b"array 1 3\ntree 2\n";
 
+// The status and the text of a run on threads over a fresh database.
+pub(crate) fn answer_fresh<R: Threads + Wait + Sync + AllocGlobal>(
+    rt: &R,
+    asked: &str,
+    script: &[u8],
+) -> Result<(u8, Vec<u8>), Fail> {
+    let mut vault = fresh_vault(rt.alloc())?;
+    answer_by(rt, &mut vault, asked, script, &OpenGate)
+}
+
 fn check_sum<R: Threads + Wait + Sync + AllocGlobal>(
     rt: &R,
     decls: &[u8],
     added: &[&str],
 ) -> Result<(), Fail> {
     let script = repeated(rt.alloc(), decls, added, 50)?;
-    let mut vault = fresh_vault(rt.alloc())?;
-    let asked = "run --brief --tries 1000000";
-    let (status, told) = answer_by(rt, &mut vault, asked, &script, &OpenGate)?;
+    let (status, told) = answer_fresh(rt, "run --brief --tries 1000000", &script)?;
     is_answer("a sum", (status, &told), (0, SUMMED_UP))
 }
 
@@ -336,7 +369,7 @@ fn check_dealt<R: Threads + Wait + Sync + AllocGlobal>(
 ) -> Result<(), Fail> {
     let bytes = dealt(rt.alloc(), script, workers)?;
     for asked in HOW {
-        let _vault = run_checked(rt, asked, &bytes)?;
+        run_checked(rt, asked, &bytes)?;
     }
     Ok(())
 }

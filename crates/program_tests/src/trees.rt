@@ -116,10 +116,10 @@ fn check_writes<R: Threads + Wait + Sync + AllocGlobal>(
     came: (u64, &str),
     (more, more_told): (&str, &str),
 ) -> Result<(), Fail> {
-    let mut vault = fresh_vault(rt.alloc())?;
     let script = writes(rt.alloc(), (keys, step), more)?;
     let mut told = told_writes(rt.alloc(), keys, came)?;
     told.push_str(more_told)?;
+    let mut vault = fresh_vault(rt.alloc())?;
     let wanted = (0, told.as_bytes());
     check_answer(rt, &mut vault, asked, script.as_bytes(), wanted)
 }

@@ -4,7 +4,7 @@
 use super::*;
 use crate::beside::{KEEPER_LINES, KeptSoFar, next, run_next};
 use crate::threads::{
-    ARRAY_AND_TREE, FEW_SLOTS, MANY_SLOTS, ONE_TRY, dealt, repeated, run_checked,
+    ARRAY_AND_TREE, FEW_SLOTS, MANY_SLOTS, ONE_TRY, check_over, dealt, repeated, run_checked,
 };
 use serial_model::Plain;
 use tx_script::read_script;
@@ -16,7 +16,8 @@ const WAYS: [&str; 3] = [FEW_SLOTS, MANY_SLOTS, ONE_TRY];
 fn no_raise_of_a_key_is_lost(rt: HostRuntime) -> Result<(), Fail> {
     let lines = ["0 a 2 7 1", "1 a 2 7 1"];
     let script = repeated(rt.alloc(), ARRAY_AND_TREE, &lines, 100)?;
-    let mut vault = run_checked(&rt, MANY_SLOTS, &script)?;
+    let mut vault = fresh_vault(rt.alloc())?;
+    check_over(&rt, &mut vault, MANY_SLOTS, &script)?;
     check_row(&rt, &mut vault, "dump # # 0 # epoch 1|2 7 200|")
 }
 
@@ -36,7 +37,7 @@ const FEW_KEYS: [&str; 8] = [
 fn eight_workers_are_serial_on_a_few_keys(rt: HostRuntime) -> Result<(), Fail> {
     let script = repeated(rt.alloc(), ARRAY_AND_TREE, &FEW_KEYS, 40)?;
     for asked in WAYS {
-        let _vault = run_checked(&rt, asked, &script)?;
+        run_checked(&rt, asked, &script)?;
     }
     Ok(())
 }
@@ -88,7 +89,7 @@ fn tree_lines(alloc: Global, seed: u64, count: u32) -> Result<String, AllocError
 fn scans_meet_no_phantom(rt: HostRuntime) -> Result<(), Fail> {
     for first in 1..5u64 {
         let script = tree_lines(rt.alloc(), first, 1_500)?;
-        let _vault = run_checked(&rt, MANY_SLOTS, script.as_bytes())?;
+        run_checked(&rt, MANY_SLOTS, script.as_bytes())?;
     }
     Ok(())
 }
@@ -165,14 +166,14 @@ fn run_over<R: Threads + Wait + Sync + AllocGlobal>(
     rt: &R,
     vault: &mut Vault<MemDisk>,
     bytes: &[u8],
-    (plain, so_far): (Plain, KeptSoFar),
-) -> Result<(Plain, KeptSoFar), Fail> {
+    plain: &mut Plain,
+    so_far: &mut KeptSoFar,
+) -> Result<(), Fail> {
     let Ok(script) = read_script(rt.alloc(), bytes) else {
         return Err(Fail::from("no script"));
     };
-    let (plain, so_far) = run_next(rt, vault, (MANY_SLOTS, bytes), &script, plain, so_far)?;
-    is_so("no page is kept", so_far.kept == 0)?;
-    Ok((plain, so_far))
+    run_next(rt, vault, (MANY_SLOTS, bytes), &script, plain, so_far)?;
+    is_so("no page is kept", so_far.kept == 0)
 }
 
 // What the model has before the first run.
@@ -186,16 +187,24 @@ fn nothing_yet(alloc: Global) -> Result<Plain, Fail> {
 // Three runs over one database, of which each but the first begins with the pages of a snapshot. One after another they
 // drop some 450 leaves that were split, with their halves, of some 2,500 pages.
 fn check_kept<R: Threads + Wait + Sync + AllocGlobal>(rt: &R, seed: u64) -> Result<(), Fail> {
+    let mut vault = fresh_vault(rt.alloc())?;
+    check_kept_over(rt, &mut vault, seed)
+}
+
+// The same over a database that is lent: what is owned at a `?` costs a proof.
+fn check_kept_over<R: Threads + Wait + Sync + AllocGlobal>(
+    rt: &R,
+    vault: &mut Vault<MemDisk>,
+    seed: u64,
+) -> Result<(), Fail> {
     let alloc = rt.alloc();
     let mut seed = seed;
-    let mut vault = fresh_vault(alloc)?;
-    let first = kept_rounds(alloc, &mut seed, 20)?;
-    let model = (nothing_yet(alloc)?, KeptSoFar::fresh(4_096));
-    let model = run_over(rt, &mut vault, first.as_bytes(), model)?;
-    let second = kept_rounds(alloc, &mut seed, 20)?;
-    let model = run_over(rt, &mut vault, second.as_bytes(), model)?;
-    let third = kept_rounds(alloc, &mut seed, 20)?;
-    let (_plain, so_far) = run_over(rt, &mut vault, third.as_bytes(), model)?;
+    let mut plain = nothing_yet(alloc)?;
+    let mut so_far = KeptSoFar::fresh(4_096);
+    for _ in 0..3 {
+        let script = kept_rounds(alloc, &mut seed, 20)?;
+        run_over(rt, vault, script.as_bytes(), &mut plain, &mut so_far)?;
+    }
     is_so("pages were dropped", so_far.dropped > 500)
 }
 
@@ -230,7 +239,7 @@ fn check_added<R: Threads + Wait + Sync + AllocGlobal>(
     let script = adding(rt.alloc(), count, step)?;
     let bytes = dealt(rt.alloc(), script.as_str(), 8)?;
     for asked in WAYS {
-        let _vault = run_checked(rt, asked, &bytes)?;
+        run_checked(rt, asked, &bytes)?;
     }
     Ok(())
 }

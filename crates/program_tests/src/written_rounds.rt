@@ -50,23 +50,42 @@ impl Watcher for Onlooker<'_> {
     }
 }
 
+const SCRIPT: &[u8] = b"array 1 4\n0 w 1 0 5\njoin\n0 r 1 0\njoin\n0 r 1 0\n";
+
+// The status of a run over a fresh database, whose bytes are counted. What is made for it is lent: what is owned at a
+// `?` costs a proof.
+fn status_of<R: Threads + Wait + Sync + AllocGlobal>(
+    rt: &R,
+    words: &[&str],
+    source: &mut SureSource,
+    gate: &Onlooker<'_>,
+) -> Result<u8, Fail> {
+    let mut sink = Counter {
+        written: gate.written,
+    };
+    let mut vault = fresh_vault(rt.alloc())?;
+    ended(rt, words, source, &mut sink, &mut vault, gate)
+}
+
+fn run_counted<R: Threads + Wait + Sync + AllocGlobal>(
+    rt: &R,
+    gate: &Onlooker<'_>,
+) -> Result<u8, Fail> {
+    let words = words(rt.alloc(), "run")?;
+    let mut source = SureSource::new(SCRIPT.to_vec(rt.alloc())?);
+    status_of(rt, &words, &mut source, gate)
+}
+
 // The lines of a round are written before the next one begins: a stop from outside leaves no durable epoch untold. They
 // have 21 bytes, 23 and 23.
 #[test]
 fn a_round_is_written_before_the_next_one(rt: HostRuntime) -> Result<(), Fail> {
-    let alloc = rt.alloc();
-    let script = b"array 1 4\n0 w 1 0 5\njoin\n0 r 1 0\njoin\n0 r 1 0\n".as_slice();
     let written = AtomicU64::new(0);
     let gate = Onlooker {
         written: &written,
         seen: AtomicU64::new(0),
     };
-    let mut sink = Counter { written: &written };
-    let mut source = SureSource::new(script.to_vec(alloc)?);
-    let mut vault = fresh_vault(alloc)?;
-    let words = words(alloc, "run")?;
-    let status = ended(&rt, &words, &mut source, &mut sink, &mut vault, &gate)?;
-    is_so("a run", status == 0)?;
+    is_so("a run", run_counted(&rt, &gate)? == 0)?;
     is_so(
         "what was written",
         gate.seen.load(Ordering::SeqCst) == 21_044,

@@ -41,7 +41,7 @@ pub record NeedsSlot (k : Key) (slots : List ℕ) (v w : View) : Type 0 where
   pub met : (r : Read) → Contains then.reads r → Contains w.reads r
   pub needs : NeedsHold k slots then ⊎ NeedsHalf k slots then
 
--- The way to the key had led through as many pages, one below another, as there is room for holds.
+-- The way to the key had led through one page more, one below another, than there is room for holds.
 pub record WasLong (k : Key) (v : View) : Type 0 where
   pub then : View
   pub walked : OnlyWalked v then

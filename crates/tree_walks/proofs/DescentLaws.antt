@@ -256,7 +256,10 @@ down_long k pointers headers slots v w page d = record {
   keeps = tt;
   paths = d.paths;
   came = tt;
-  cause = (inr (record { pages = d.above; many = d.many; path = d.path.2 }), d.led);
+  cause = (
+    inr (record { pages = record { slot = page.slot; span = page.span } ∷ d.above; many = ap suc d.many; path = d.path }),
+    d.led,
+  );
 }
 
 -- ---- from the root

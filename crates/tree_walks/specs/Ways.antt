@@ -196,10 +196,10 @@ pub record NeedsHalf (k : Key) (slots : List ℕ) (w : View) : Type 0 where
   pub unlocked : word < moved_locked
   pub unheld : has_slot slots (half_for moved k) ≡ false
 
--- The way to the key has led through as many pages, one below another, as there is room for holds.
+-- The way to the key has led through one page more, one below another, than there is room for holds.
 pub record IsLong (k : Key) (w : View) : Type 0 where
   pub pages : List Way
-  pub many : length pages ≡ 128
+  pub many : length pages ≡ 129
   pub path : IsPath k w pages
 
 -- the holds are as many as there is room for, and the way to the key needs one more; or it is longer than that

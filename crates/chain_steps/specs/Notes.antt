@@ -21,7 +21,7 @@ noted_again count n v = record (glanced clock_at n v) { kept = v.kept ++ replica
 
 -- the same of the step
 abbrev pub NotesAgain : ℕ → Step (Unit {0}) → View → ℕ → View → Type 0
-NotesAgain count s v n w = w ≡ noted_again count n v
+NotesAgain count s v n w = (s.word ≡ clock_at) × (w ≡ noted_again count n v)
 
 -- each of these slots is named once
 abbrev pub AreOnce : List ℕ → Type 0

@@ -59,4 +59,4 @@ unsealed_at t at n v =
 
 -- the same of the step
 abbrev pub Unseals : ℕ → Step (Unit {0}) → View → ℕ → View → Type 0
-Unseals t s v n w = w ≡ unsealed_at t s.word s.first v
+Unseals t s v n w = (n ≡ s.first) × (w ≡ unsealed_at t s.word s.first v)

@@ -132,4 +132,4 @@ HasSwungChain slots at number expected v n w =
 
 -- the same of the step
 abbrev pub SwingsChain : List ℕ → ℕ → Step (Unit {0}) → View → ℕ → View → Type 0
-SwingsChain slots number s v n w = HasSwungChain slots s.word number s.first v n w
+SwingsChain slots number s v n w = (s.second ≡ number) × HasSwungChain slots s.word number s.first v n w

@@ -101,6 +101,6 @@ pub record HasInstalled (t at : ℕ) (sp : Span) (v : View) (n : ℕ) (w : View)
 abbrev pub Installed : ℕ → ℕ → Span → ℕ → View → ℕ → View → Type 0
 Installed t at sp expected v n w = MatchBool (n == expected) (HasInstalled t at sp v n w) (w ≡ read_at at n v)
 
--- the same of the step
+-- the same of the step, whose new word names the snapshot page still
 abbrev pub Installs : ℕ → Span → Step (Unit {0}) → View → ℕ → View → Type 0
-Installs t sp s v n w = Installed t s.word sp s.first v n w
+Installs t sp s v n w = (s.second ≡ leading_word s.first t) × Installed t s.word sp s.first v n w

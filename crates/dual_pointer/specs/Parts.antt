@@ -23,7 +23,7 @@ use Rattle.engine_pages.specs.declared.view.View.{View}
 use Rattle.engine_pages.specs.Pages.{is_array, is_tree}
 use Rattle.engine_pages.specs.Pointers.{HasFollowed, StandsFor}
 use Rattle.engine_pages.specs.Resident.{found_content, place_for}
-use Rattle.engine_pages.specs.Steps.{glanced, keep_read}
+use Rattle.engine_pages.specs.Steps.{IsLoad, glanced, keep_read}
 
 -- ---- parts that are kept
 
@@ -104,4 +104,4 @@ SawPointer x sp at v n w = MatchBool (nat_lt n (2 ^ 32)) (HasSeenPointer x sp at
 
 -- the same of the step
 abbrev pub SeesPointer : At → Span → Step (Unit {0}) → View → ℕ → View → Type 0
-SeesPointer x sp s v n w = SawPointer x sp s.word v n w
+SeesPointer x sp s v n w = IsLoad s × SawPointer x sp s.word v n w

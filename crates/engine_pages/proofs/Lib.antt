@@ -7,6 +7,7 @@ pub mod PagesStay
 pub mod Leaves
 pub mod Facing
 pub mod Turns
+pub mod Told
 pub mod Dealing
 pub mod OwnView
 pub mod Looking

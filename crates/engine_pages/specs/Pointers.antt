@@ -21,7 +21,7 @@ use Rattle.engine_pages.specs.Layout.{root_at, page_at}
 use Rattle.engine_pages.specs.Pages.{is_array, is_array_kind, is_tree, is_tree_kind, is_leaf_span, child_span}
 use Rattle.engine_pages.specs.Pages.{part_between, root_span}
 use Rattle.engine_pages.specs.Resident.{IsStanding, place_for}
-use Rattle.engine_pages.specs.Steps.{read_at}
+use Rattle.engine_pages.specs.Steps.{IsLoad, read_at}
 
 -- a pointer of an array's interior page that the pass holds, over these keys, whose word is here
 pub record IsChildAt (v : View) (y : Spot) (sp : Span) (at : ℕ) : Type 0 where
@@ -140,4 +140,4 @@ pub record HasFollowed (sp : Span) (at : ℕ) (v : View) (n : ℕ) (w : View) : 
 
 -- the same of the step
 abbrev pub Follows : Span → Step (Unit {0}) → View → ℕ → View → Type 0
-Follows sp s v n w = HasFollowed sp s.word v n w
+Follows sp s v n w = IsLoad s × HasFollowed sp s.word v n w

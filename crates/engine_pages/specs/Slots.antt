@@ -22,7 +22,7 @@ use Rattle.engine_pages.specs.declared.view.Way.{Way}
 use Rattle.engine_pages.specs.Layout.{slot_at}
 use Rattle.engine_pages.specs.Pages.{is_leaf_span}
 use Rattle.engine_pages.specs.Resident.{AreRecords}
-use Rattle.engine_pages.specs.Steps.{glance, glanced}
+use Rattle.engine_pages.specs.Steps.{IsLoad, glance, glanced}
 
 -- ---- what is known of other slots
 
@@ -206,34 +206,34 @@ retired t v = record v {
 
 -- ---- the same of the steps
 
--- a slot is held
+-- a slot is held: one holder more
 abbrev pub Enters : ℕ → Step (Unit {0}) → View → ℕ → View → Type 0
-Enters t s v n w = w ≡ entered t v
+Enters t s v n w = (s.first ≡ 1) × (w ≡ entered t v)
 
--- a slot is held no more
+-- a slot is held no more: one holder less
 abbrev pub Leaves : ℕ → Step (Unit {0}) → View → ℕ → View → Type 0
-Leaves t s v n w = w ≡ left t v
+Leaves t s v n w = (s.first ≡ 1) × (w ≡ left t v)
 
--- a slot's word is looked at
+-- a slot's word is looked at, and no other
 abbrev pub Looks : ℕ → Step (Unit {0}) → View → ℕ → View → Type 0
-Looks t s v n w = w ≡ looked_at t n v
+Looks t s v n w = (s.word ≡ slot_at t) × (IsLoad s × (w ≡ looked_at t n v))
 
--- a slot is given, or was found changed
+-- a slot is given, by a word that counts one time more, or was found changed
 abbrev pub Gives : ℕ → Step (Unit {0}) → View → ℕ → View → Type 0
-Gives t s v n w = Given t s.first v n w
+Gives t s v n w = (s.word ≡ slot_at t) × ((s.second ≡ given_word s.first) × Given t s.first v n w)
 
 -- a word of an owned page is stored
 abbrev pub Fills : ℕ → ℕ → ℕ → Step (Unit {0}) → View → ℕ → View → Type 0
 Fills t i value s v n w = HasFilled t i value v w
 
--- an owned slot is published as no page
+-- an owned slot is published as no page: its word has the next state
 abbrev pub PublishesBlank : ℕ → Step (Unit {0}) → View → ℕ → View → Type 0
-PublishesBlank t s v n w = w ≡ published_blank t v
+PublishesBlank t s v n w = (s.first ≡ 2 ^ 16) × (w ≡ published_blank t v)
 
 -- an owned slot is published as a copy
 abbrev pub PublishesCopy : ℕ → Span → ℕ → Step (Unit {0}) → View → ℕ → View → Type 0
-PublishesCopy t sp n s v k w = w ≡ published_copy t sp n v
+PublishesCopy t sp n s v k w = (s.first ≡ 2 ^ 16) × (w ≡ published_copy t sp n v)
 
--- a published slot is given up
+-- a published slot is given up: its word has the next state
 abbrev pub Retires : ℕ → Step (Unit {0}) → View → ℕ → View → Type 0
-Retires t s v n w = w ≡ retired t v
+Retires t s v n w = (s.first ≡ 2 ^ 16) × (w ≡ retired t v)

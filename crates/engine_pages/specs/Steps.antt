@@ -12,6 +12,10 @@ abbrev pub told : (Step (Unit {0}) → View → ℕ → View → Type 0) → Ste
     → Me (Unit {0}) View → Type 0
 told tells s me n now = (now.1 ≡ me.1) × tells s me.0 n now.0
 
+-- the step has no operands: it is a load
+abbrev pub IsLoad : Step (Unit {0}) → Type 0
+IsLoad s = (s.first ≡ 0) × (s.second ≡ 0)
+
 -- a load that found this number
 abbrev pub glance : ℕ → ℕ → ℕ → Glance
 glance step word n = record { step = step; word = word; seen = n }

@@ -304,7 +304,7 @@ begun n v = record (glanced clock_at n v) { reads = []; gone = []; kept = []; sw
 
 -- the same of the step
 abbrev pub Begins : Step (Unit {0}) → View → ℕ → View → Type 0
-Begins s v n w = w ≡ begun n v
+Begins s v n w = (s.word ≡ clock_at) × (w ≡ begun n v)
 
 -- its counts are noted
 abbrev pub counted : Counts → ℕ → View → View
@@ -312,7 +312,7 @@ counted counts n v = record (glanced clock_at n v) { drops = v.drops ++ counts �
 
 -- the same of the step
 abbrev pub TellsCounts : Counts → Step (Unit {0}) → View → ℕ → View → Type 0
-TellsCounts counts s v n w = w ≡ counted counts n v
+TellsCounts counts s v n w = (s.word ≡ clock_at) × (w ≡ counted counts n v)
 
 -- of all roots
 abbrev pub dropped_all : List MetRoot → ℕ

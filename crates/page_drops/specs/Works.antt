@@ -82,7 +82,7 @@ noted page n v = record (glanced clock_at n v) { kept = v.kept ++ page ∷ [] }
 
 -- the same of the step
 abbrev pub Notes : KeptPage → Step (Unit {0}) → View → ℕ → View → Type 0
-Notes page s v n w = w ≡ noted page n v
+Notes page s v n w = (s.word ≡ clock_at) × (w ≡ noted page n v)
 
 -- the word was seen last
 abbrev pub HasSeenLast : View → Kept → Type 0

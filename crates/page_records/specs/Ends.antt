@@ -22,7 +22,7 @@ use Rattle.engine_pages.specs.declared.view.Took.{Took}
 use Rattle.engine_pages.specs.declared.view.Touch.{Touch}
 use Rattle.engine_pages.specs.declared.view.View.{View}
 use Rattle.engine_pages.specs.declared.view.Way.{Way}
-use Rattle.engine_pages.specs.Layout.{page_at, slot_at}
+use Rattle.engine_pages.specs.Layout.{page_at, slot_at, clock_at}
 use Rattle.engine_pages.specs.Pages.{is_tree}
 use Rattle.engine_pages.specs.Pointers.{IsPointerAt}
 use Rattle.engine_pages.specs.Records.{IsRecordAt}
@@ -206,4 +206,4 @@ pub record HasForgotten (why : Option RefusalCause) (v w : View) : Type 0 where
 
 -- the same of the step
 abbrev pub Forgets : Option RefusalCause → Step (Unit {0}) → View → ℕ → View → Type 0
-Forgets why s v n w = HasForgotten why v w
+Forgets why s v n w = (s.word ≡ clock_at) × HasForgotten why v w

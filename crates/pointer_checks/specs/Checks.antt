@@ -12,7 +12,7 @@ use Rattle.commit_core.specs.Parts.{same_word}
 use Rattle.engine_pages.specs.declared.view.View.{View}
 use Rattle.engine_pages.specs.Pointers.{IsPointerAt}
 use Rattle.engine_pages.specs.Rule.{has_word}
-use Rattle.engine_pages.specs.Steps.{read_at}
+use Rattle.engine_pages.specs.Steps.{IsLoad, read_at}
 use Rattle.dual_pointer.specs.Parts.{IsPointerPart}
 use Rattle.page_records.specs.Attempts.{failed_at}
 
@@ -41,4 +41,4 @@ CheckedPointer x at word v n w = MatchBool (n == word) (w ≡ pointer_checked x 
 
 -- the same of the step
 abbrev pub ChecksPointer : At → ℕ → Step (Unit {0}) → View → ℕ → View → Type 0
-ChecksPointer x word s v n w = CheckedPointer x s.word word v n w
+ChecksPointer x word s v n w = IsLoad s × CheckedPointer x s.word word v n w

@@ -111,4 +111,4 @@ let_go n v = record (glanced clock_at n v) { seat = record v.seat { kept = [] };
 
 -- the same of the step
 abbrev pub LetsGo : Step (Unit {0}) → View → ℕ → View → Type 0
-LetsGo s v n w = w ≡ let_go n v
+LetsGo s v n w = (s.word ≡ clock_at) × (w ≡ let_go n v)

@@ -33,4 +33,4 @@ HasRenewed at number expected v n w = MatchBool (n == expected) (w ≡ renewed a
 
 -- the same of the step
 abbrev pub Renews : ℕ → Step (Unit {0}) → View → ℕ → View → Type 0
-Renews number s v n w = HasRenewed s.word number s.first v n w
+Renews number s v n w = (s.second ≡ renewed_word s.first number) × HasRenewed s.word number s.first v n w

@@ -61,4 +61,4 @@ Shuts x s v n w = HasShut x s.word s.first v n w
 
 -- a pointer that was shut is opened
 abbrev pub Reopens : At → Step (Unit {0}) → View → ℕ → View → Type 0
-Reopens x s v n w = w ≡ reopened x s.word s.first v
+Reopens x s v n w = (n ≡ s.first) × (w ≡ reopened x s.word s.first v)

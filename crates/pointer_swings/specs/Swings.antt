@@ -86,4 +86,4 @@ HasSwung t at number expected v n w = MatchBool (n == expected) (w ≡ swung t a
 
 -- the same of the step
 abbrev pub Swings : ℕ → ℕ → Step (Unit {0}) → View → ℕ → View → Type 0
-Swings t number s v n w = HasSwung t s.word number s.first v n w
+Swings t number s v n w = (s.second ≡ number) × HasSwung t s.word number s.first v n w

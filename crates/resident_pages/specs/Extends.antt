@@ -11,6 +11,7 @@ use Rattle.engine_rule.specs.Reading.{span_of}
 use Rattle.engine_pages.specs.declared.view.Filled.{Filled}
 use Rattle.engine_pages.specs.declared.view.Lead.{Lead}
 use Rattle.engine_pages.specs.declared.view.View.{View}
+use Rattle.engine_pages.specs.Layout.{published_at}
 use Rattle.engine_pages.specs.Resident.{IsStanding}
 
 -- ---- what it asks
@@ -63,6 +64,10 @@ extended name new names v = record v {
 abbrev pub HasExtended : List (List ℕ) → List (Decl × PagePlace) → View → View → Type 0
 HasExtended new names v w = (name : Decl × PagePlace → ℕ) × (w ≡ extended name new names v)
 
+-- the count of pages that are published is stored, these among them
+abbrev pub StoresCount : List (List ℕ) → Step (Unit {0}) → View → ℕ → Type 0
+StoresCount new s v n = (s.word ≡ published_at) × (s.first ≡ length v.pages + length new) × (n ≡ s.first)
+
 -- the same of the step
 abbrev pub Extends : List (List ℕ) → List (Decl × PagePlace) → Step (Unit {0}) → View → ℕ → View → Type 0
-Extends new names s v n w = HasExtended new names v w
+Extends new names s v n w = StoresCount new s v n × HasExtended new names v w

@@ -11,7 +11,7 @@ use Rattle.commit_core.specs.declared.seat.Stage.TheVariants.{Trying}
 use Rattle.commit_core.specs.Parts.{same_word}
 use Rattle.engine_pages.specs.declared.view.View.{View}
 use Rattle.engine_pages.specs.Rule.{has_word}
-use Rattle.engine_pages.specs.Steps.{read_at}
+use Rattle.engine_pages.specs.Steps.{IsLoad, read_at}
 use Rattle.page_records.specs.Attempts.{failed_at}
 use Rattle.tree_heads.specs.Headers.{IsTreeAt, open_word}
 
@@ -43,4 +43,4 @@ CheckedHeader t at word v n w = MatchBool (n == word) (w ≡ header_checked t at
 
 -- the same of the step
 abbrev pub ChecksHeader : ℕ → ℕ → Step (Unit {0}) → View → ℕ → View → Type 0
-ChecksHeader t word s v n w = CheckedHeader t s.word word v n w
+ChecksHeader t word s v n w = IsLoad s × CheckedHeader t s.word word v n w

@@ -16,7 +16,7 @@ use Rattle.engine_pages.specs.declared.view.View.{View}
 use Rattle.engine_pages.specs.Agreement.{TreesAgree}
 use Rattle.engine_pages.specs.Pages.{is_tree}
 use Rattle.engine_pages.specs.Pointers.{WaysAgree, ways_if}
-use Rattle.engine_pages.specs.Steps.{glanced, read_at}
+use Rattle.engine_pages.specs.Steps.{IsLoad, glanced, read_at}
 use Rattle.engine_pages.specs.Words.{head_word, separators_at}
 
 -- a page of a tree that the pass holds, made for these keys
@@ -112,7 +112,7 @@ Headed t sp at v n w = MatchBool (kind_of n == 1)
 
 -- the same of the step
 abbrev pub LoadsHeader : ℕ → Span → Step (Unit {0}) → View → ℕ → View → Type 0
-LoadsHeader t sp s v n w = Headed t sp s.word v n w
+LoadsHeader t sp s v n w = IsLoad s × Headed t sp s.word v n w
 
 -- ---- words that never change
 
@@ -129,7 +129,7 @@ pub record HasWord (t i at : ℕ) (v : View) (n : ℕ) (w : View) : Type 0 where
 
 -- the same of the step
 abbrev pub LoadsWord : ℕ → ℕ → Step (Unit {0}) → View → ℕ → View → Type 0
-LoadsWord t i s v n w = HasWord t i s.word v n w
+LoadsWord t i s v n w = IsLoad s × HasWord t i s.word v n w
 
 -- ---- a split leaf is followed
 
@@ -155,4 +155,4 @@ MetAgain t sp at v n w = (moved_bit ≤ n)
 
 -- the same of the step
 abbrev pub MeetsAgain : ℕ → Span → Step (Unit {0}) → View → ℕ → View → Type 0
-MeetsAgain t sp s v n w = MetAgain t sp s.word v n w
+MeetsAgain t sp s v n w = IsLoad s × MetAgain t sp s.word v n w

@@ -100,7 +100,7 @@ pub record CanOpenHeader (v : View) (t : ℕ) (sp : Span) (n : ℕ) : Type 0 whe
 
 -- the same of the step
 abbrev pub OpensHeader : ℕ → Step (Unit {0}) → View → ℕ → View → Type 0
-OpensHeader t s v n w = w ≡ head_opened t s.word s.first v
+OpensHeader t s v n w = (n ≡ s.first) × (w ≡ head_opened t s.word s.first v)
 
 -- ---- a header is opened with one key more
 
@@ -153,4 +153,4 @@ pub record HasAdded (t : ℕ) (sp : Span) (k : Key) (at n : ℕ) (v w : View) : 
 
 -- the same of the step
 abbrev pub AddsKey : ℕ → Span → Key → Step (Unit {0}) → View → ℕ → View → Type 0
-AddsKey t sp k s v n w = HasAdded t sp k s.word s.first v w
+AddsKey t sp k s v n w = (n ≡ s.first) × HasAdded t sp k s.word s.first v w

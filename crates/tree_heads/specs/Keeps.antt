@@ -13,7 +13,7 @@ use Rattle.commit_core.specs.Parts.{Vouches, with_part}
 use Rattle.commit_core.specs.Serial.{last_write}
 use Rattle.engine_pages.specs.declared.view.View.{View}
 use Rattle.engine_pages.specs.Agreement.{TreesAgree}
-use Rattle.engine_pages.specs.Steps.{glanced, keep_read, read_at}
+use Rattle.engine_pages.specs.Steps.{IsLoad, glanced, keep_read, read_at}
 use Rattle.tree_heads.specs.Headers.{AreLeafKeys, IsUnmoved, count_of, kind_of, knew, open_word}
 
 -- the part of the header of a leaf with these keys
@@ -59,4 +59,4 @@ SawHeader t sp at expected v n w =
 
 -- the same of the step
 abbrev pub SeesHeader : ℕ → Span → ℕ → Step (Unit {0}) → View → ℕ → View → Type 0
-SeesHeader t sp expected s v n w = SawHeader t sp s.word expected v n w
+SeesHeader t sp expected s v n w = IsLoad s × SawHeader t sp s.word expected v n w

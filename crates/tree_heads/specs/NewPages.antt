@@ -1,5 +1,5 @@
 -- What the publish of a tree's page asks and tells: of a leaf, and of a copy of an interior page.
-use Rattle.std.specs.Prelude.{◌≡◌, ℕ, ◌+◌, ◌/◌, ◌<◌, ◌≤◌, true, List, ◌∷◌, length, get_or, slice_get, Some, Contains}
+use Rattle.std.specs.Prelude.{◌≡◌, ℕ, ◌^◌, ◌+◌, ◌/◌, ◌<◌, ◌≤◌, true, List, ◌∷◌, length, get_or, slice_get, Some, Contains}
 use Rattle.atomic_table.specs.Table.{Step}
 use Rattle.serial_model.specs.declared.key.Key.{Key}
 use Rattle.homes.specs.declared.places.Content.{Content}
@@ -49,7 +49,7 @@ published_leaf t sp keys contents v = record v {
 
 -- the same of the step
 abbrev pub PublishesLeaf : ℕ → Span → List Key → List Content → Step (Unit {0}) → View → ℕ → View → Type 0
-PublishesLeaf t sp keys contents s v n w = w ≡ published_leaf t sp keys contents v
+PublishesLeaf t sp keys contents s v n w = (s.first ≡ 2 ^ 16) × (w ≡ published_leaf t sp keys contents v)
 
 -- ---- an interior page
 
@@ -80,4 +80,4 @@ published_inner t sp n v = record v {
 
 -- the same of the step
 abbrev pub PublishesInner : ℕ → Span → ℕ → Step (Unit {0}) → View → ℕ → View → Type 0
-PublishesInner t sp n s v k w = w ≡ published_inner t sp n v
+PublishesInner t sp n s v k w = (s.first ≡ 2 ^ 16) × (w ≡ published_inner t sp n v)

@@ -125,4 +125,5 @@ pub record HasSplit
 
 -- the same of the step
 abbrev pub SplitsLeaf : ℕ → Span → NewLeaf → NewLeaf → List Key → ℕ → Step (Unit {0}) → View → ℕ → View → Type 0
-SplitsLeaf t sp lower upper keys separator s v n w = HasSplit t sp lower upper keys separator s.word s.first v w
+SplitsLeaf t sp lower upper keys separator s v n w =
+    (n ≡ s.first) × HasSplit t sp lower upper keys separator s.word s.first v w

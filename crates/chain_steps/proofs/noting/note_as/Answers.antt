@@ -1,7 +1,9 @@
-use Rattle.std.proofs.Common.{◌≡◌, arith, subst}
+use Rattle.std.proofs.Common.{◌≡◌, arith, subst, refl}
 use Rattle.atomic_table.specs.Table.{Allows}
+use Rattle.engine_pages.specs.Layout.{clock_at}
 use Rattle.engine_pages.specs.Rule.{Shows}
 use Rattle.engine_pages.proofs.Joint.{Laws}
+use Rattle.engine_pages.proofs.Told.{told_with}
 use Rattle.chain_steps.specs.Notes.{noted_again}
 use Rattle.chain_steps.proofs.AgainNotes.{notes_again}
 use Rattle.chain_steps.proofs.noting.note_as.Goals as goal
@@ -16,9 +18,10 @@ load-requires g c =
     record { keeps = c.laws.ensures.keeps; leaves = c.laws.ensures.leaves; made = c.laws.ensures.made } in (
       c.requires.of.table,
       (let long = c.args.engine.now.long in omega arith),
-      subst
-          (λ count. Allows (λ s. Shows l s.words s.views) slots id me 0 (λ n. n)
+      told_with (λ n. n) (λ n now. now.0 ≡ noted_again g.J.Counted.count n me.0) refl
+          (subst
+          (λ count. Allows (λ s. Shows l s.words s.views) slots id me clock_at (λ n. n)
           (λ n now. (now.1 ≡ me.1) × (now.0 ≡ noted_again count n me.0)))
           c.requires.named
-          (notes_again laws l slots id me c.args.count c.requires.keeper),
+          (notes_again laws l slots id me c.args.count c.requires.keeper)),
     )

@@ -1,4 +1,4 @@
-use Rattle.std.proofs.Common.{◌≡◌, ◌+◌, ◌*◌, ◌^◌, ◌<◌, ◌==◌, ℕ, arith, subst, sym}
+use Rattle.std.proofs.Common.{◌≡◌, ◌+◌, ◌*◌, ◌^◌, ◌<◌, ◌==◌, ℕ, arith, subst, sym, ap, ◌∙◌}
 use prog.Atomic.{either}
 use Rattle.atomic_table.specs.Table.{Allows}
 use Rattle.homes.specs.declared.places.Span.{Span}
@@ -6,36 +6,41 @@ use Rattle.engine_pages.specs.declared.layout.Layout.{Layout}
 use Rattle.engine_pages.specs.Layout.{words_of}
 use Rattle.engine_pages.specs.Rule.{Shows}
 use Rattle.engine_pages.proofs.Joint.{Laws}
-use Rattle.dual_pointer.specs.Installs.{Installed}
+use Rattle.engine_pages.proofs.Told.{told_with}
+use Rattle.dual_pointer.specs.Installs.{Installed, leading_word}
 use Rattle.dual_pointer.proofs.Installs.{installs}
 use Rattle.dual_pointer.proofs.installing.install_as.Goals as goal
 
 pub compare_exchange-requires : goal.compare_exchange-requires
 compare_exchange-requires g c =
     let me = c.args.pass.now.me in
-    let v = me.0 in
     let l = c.args.engine.now.table.shared.key in
     let slots = c.args.engine.now.table.shared.table_id.slots in
     let id = c.args.pass.now.id in
+    let new : ℕ = c.args.expected + (c.from.result + 1) * 2 ^ 32 in
+    let f : ℕ → ℕ = λ n. either (n == c.args.expected) new n in
+    let new-is : new ≡ leading_word c.args.expected g.J.Led.slot =
+    ap (leading_word c.args.expected) (c.from.ensures ∙ c.requires.named.1.1) in
     let laws : Laws =
     record { keeps = c.laws.ensures.keeps; leaves = c.laws.ensures.leaves; made = c.laws.ensures.made } in
     let few : c.args.at < words_of l =
     subst (λ (y : Layout). c.args.at < words_of y) c.requires.of.layout c.requires.word in (
       c.requires.of.table,
       (let long = c.args.engine.now.long in omega arith),
-      subst
-          (λ (z : Span). Allows (λ s. Shows l s.words s.views) slots id me c.args.at (λ n. either (n == c.args.expected) (c.args.expected + (c.from.result + 1) * 2 ^ 32) n)
-          (λ n now. (now.1 ≡ me.1) × Installed g.J.Led.slot c.args.at z c.args.expected v n now.0))
+      told_with f (λ n now. Installed g.J.Led.slot c.args.at g.J.Led.span c.args.expected me.0 n now.0) new-is
+          (subst
+          (λ (z : Span). Allows (λ s. Shows l s.words s.views) slots id me c.args.at f
+          (λ n now. (now.1 ≡ me.1) × Installed g.J.Led.slot c.args.at z c.args.expected me.0 n now.0))
           c.requires.named.1.0
           (subst
-          (λ (z : ℕ). Allows (λ s. Shows l s.words s.views) slots id me c.args.at (λ n. either (n == c.args.expected) (c.args.expected + (c.from.result + 1) * 2 ^ 32) n)
-          (λ n now. (now.1 ≡ me.1) × Installed z c.args.at c.args.span c.args.expected v n now.0))
+          (λ (z : ℕ). Allows (λ s. Shows l s.words s.views) slots id me c.args.at f
+          (λ n now. (now.1 ≡ me.1) × Installed z c.args.at c.args.span c.args.expected me.0 n now.0))
           c.requires.named.1.1
           (subst
           (λ (x : ℕ). Allows (λ s. Shows l s.words s.views) slots id me c.args.at
           (λ n. either (n == c.args.expected) (c.args.expected + (x + 1) * 2 ^ 32) n)
-          (λ n now. (now.1 ≡ me.1) × Installed c.args.slot c.args.at c.args.span c.args.expected v n now.0))
+          (λ n now. (now.1 ≡ me.1) × Installed c.args.slot c.args.at c.args.span c.args.expected me.0 n now.0))
           (sym c.from.ensures)
           (installs laws l slots id me c.args.place c.args.span c.args.at c.args.slot c.args.expected c.requires.pass
-          c.requires.install))),
+          c.requires.install)))),
     )

@@ -1,4 +1,4 @@
-use Rattle.std.proofs.Common.{◌≡◌, ◌<◌, arith, subst}
+use Rattle.std.proofs.Common.{◌≡◌, ◌<◌, arith, subst, refl}
 use Rattle.atomic_table.specs.Table.{Allows}
 use Rattle.homes.specs.declared.places.At.{At}
 use Rattle.homes.specs.declared.places.Span.{Span}
@@ -6,6 +6,7 @@ use Rattle.engine_pages.specs.declared.layout.Layout.{Layout}
 use Rattle.engine_pages.specs.Layout.{words_of}
 use Rattle.engine_pages.specs.Rule.{Shows}
 use Rattle.engine_pages.proofs.Joint.{Laws}
+use Rattle.engine_pages.proofs.Told.{told_with}
 use Rattle.dual_pointer.specs.Parts.{SawPointer}
 use Rattle.dual_pointer.proofs.SeePointers.{sees_pointer}
 use Rattle.dual_pointer.proofs.seeing.see_pointer_as.Goals as goal
@@ -23,7 +24,8 @@ load-requires g c =
     subst (λ (y : Layout). c.args.at < words_of y) c.requires.of.layout c.requires.word in (
       c.requires.of.table,
       (let long = c.args.engine.now.long in omega arith),
-      subst
+      told_with (λ n. n) (λ n now. SawPointer g.J.Placed.at g.J.Placed.span c.args.at v n now.0) (refl, refl)
+          (subst
           (λ (z : Span). Allows (λ s. Shows l s.words s.views) slots id me c.args.at (λ n. n)
           (λ n now. (now.1 ≡ me.1) × SawPointer g.J.Placed.at z c.args.at v n now.0))
           c.requires.named.1
@@ -31,5 +33,5 @@ load-requires g c =
           (λ (x : At). Allows (λ s. Shows l s.words s.views) slots id me c.args.at (λ n. n)
           (λ n now. (now.1 ≡ me.1) × SawPointer x c.args.span c.args.at v n now.0))
           c.requires.named.0
-          (sees_pointer laws l slots id me c.args.place c.args.span c.args.at c.requires.pass.0 c.requires.pass.1 c.requires.place)),
+          (sees_pointer laws l slots id me c.args.place c.args.span c.args.at c.requires.pass.0 c.requires.pass.1 c.requires.place))),
     )

@@ -1,4 +1,4 @@
-use Rattle.std.proofs.Common.{◌≡◌, ◌<◌, ℕ, arith, subst}
+use Rattle.std.proofs.Common.{◌≡◌, ◌<◌, ℕ, arith, subst, refl}
 use Rattle.atomic_table.specs.Table.{Allows}
 use Rattle.homes.specs.declared.places.Span.{Span}
 use Rattle.engine_pages.specs.declared.layout.Layout.{Layout}
@@ -7,6 +7,7 @@ use Rattle.engine_pages.specs.Pointers.{HasFollowed}
 use Rattle.engine_pages.specs.Rule.{Shows}
 use Rattle.engine_pages.proofs.Following.{follows}
 use Rattle.engine_pages.proofs.Joint.{Laws}
+use Rattle.engine_pages.proofs.Told.{told_with}
 use Rattle.engine_pages.proofs.pointers.follow_as.Goals as goal
 
 within : (at : ℕ) (l k : Layout) → k ≡ l → at < words_of k → at < words_of l
@@ -23,9 +24,10 @@ load-requires g c =
     let few = within c.args.at l v.layout c.requires.of.layout c.requires.word in (
       c.requires.of.table,
       (let long = c.args.engine.now.long in omega arith),
-      subst
+      told_with (λ n. n) (λ n now. HasFollowed g.J.Pointed.span c.args.at v n now.0) (refl, refl)
+          (subst
           (λ (z : Span). Allows (λ s. Shows l s.words s.views) slots c.args.pass.now.id me c.args.at (λ n. n)
           (λ n now. (now.1 ≡ me.1) × HasFollowed z c.args.at v n now.0))
           c.requires.named.1
-          (follows laws l slots c.args.pass.now.id me c.args.place c.args.span c.args.at c.requires.pass c.requires.place),
+          (follows laws l slots c.args.pass.now.id me c.args.place c.args.span c.args.at c.requires.pass c.requires.place)),
     )

@@ -1,9 +1,10 @@
-use Rattle.std.proofs.Common.{◌≡◌, ◌+◌, ◌%◌, ◌^◌, ◌<◌, ℕ, arith, subst}
+use Rattle.std.proofs.Common.{◌≡◌, ◌+◌, ◌%◌, ◌^◌, ◌<◌, ℕ, arith, subst, refl}
 use Rattle.atomic_table.specs.Table.{Allows}
 use Rattle.engine_pages.specs.declared.layout.Layout.{Layout}
 use Rattle.engine_pages.specs.Layout.{slot_at}
 use Rattle.engine_pages.specs.Rule.{Shows}
 use Rattle.engine_pages.proofs.Joint.{Laws}
+use Rattle.engine_pages.proofs.Told.{told_with}
 use Rattle.engine_pages.specs.Slots.{published_blank}
 use Rattle.engine_pages.proofs.Publishing.{publishes_blank}
 use Rattle.engine_pages.proofs.slots.publish_blank_as.Goals as goal
@@ -19,7 +20,8 @@ fetch_add-requires g c =
     let few : c.args.slot < l.slots = subst (λ (y : Layout). c.args.slot < y.slots) c.requires.of.layout c.requires.slot in (
       c.requires.of.table,
       (let long = c.args.engine.now.long in omega arith),
-      subst
+      told_with (λ n. (n + 65536) % 2 ^ 64) (λ n now. now.0 ≡ published_blank g.J.Slotted.slot v) refl
+          (subst
           (λ (t : ℕ). Allows (λ s. Shows l s.words s.views) slots c.args.pass.now.id me (slot_at c.args.slot) (λ n. (n + 65536) % 2 ^ 64)
           (λ n now. (now.1 ≡ me.1) × (now.0 ≡ published_blank t v)))
           c.requires.named
@@ -27,5 +29,5 @@ fetch_add-requires g c =
           (λ (t : ℕ). Allows (λ s. Shows l s.words s.views) slots c.args.pass.now.id me (slot_at t) (λ n. (n + 65536) % 2 ^ 64)
           (λ n now. (now.1 ≡ me.1) × (now.0 ≡ published_blank t v)))
           c.requires.draft.2
-          (publishes_blank laws l slots c.args.pass.now.id me c.requires.draft.0 c.requires.pass c.requires.draft.1)),
+          (publishes_blank laws l slots c.args.pass.now.id me c.requires.draft.0 c.requires.pass c.requires.draft.1))),
     )

@@ -1,10 +1,11 @@
-use Rattle.std.proofs.Common.{◌≡◌, ◌+◌, ◌%◌, ◌^◌, ◌<◌, ℕ, arith, subst}
+use Rattle.std.proofs.Common.{◌≡◌, ◌+◌, ◌%◌, ◌^◌, ◌<◌, ℕ, arith, subst, refl}
 use Rattle.atomic_table.specs.Table.{Allows}
 use Rattle.homes.specs.declared.places.Span.{Span}
 use Rattle.engine_pages.specs.declared.layout.Layout.{Layout}
 use Rattle.engine_pages.specs.Layout.{slot_at}
 use Rattle.engine_pages.specs.Rule.{Shows}
 use Rattle.engine_pages.proofs.Joint.{Laws}
+use Rattle.engine_pages.proofs.Told.{told_with}
 use Rattle.engine_pages.specs.Slots.{published_copy}
 use Rattle.engine_pages.proofs.Publishing.{publishes_copy}
 use Rattle.engine_pages.proofs.slots.publish_copy_as.Goals as goal
@@ -23,7 +24,8 @@ fetch_add-requires g c =
     let all = publishes_copy laws l slots id me d.0 c.args.span c.args.page c.requires.pass d.1 d.3 in (
       c.requires.of.table,
       (let long = c.args.engine.now.long in omega arith),
-      subst
+      told_with (λ n. (n + 65536) % 2 ^ 64) (λ n now. now.0 ≡ published_copy g.J.Slotted.slot g.K.Sourced.span g.K.Sourced.page v) refl
+          (subst
           (λ (t : ℕ). Allows (λ s. Shows l s.words s.views) slots id me (slot_at c.args.slot) (λ n. (n + 65536) % 2 ^ 64)
           (λ n now. (now.1 ≡ me.1) × (now.0 ≡ published_copy t g.K.Sourced.span g.K.Sourced.page v)))
           c.requires.named.0
@@ -38,5 +40,5 @@ fetch_add-requires g c =
           (subst
           (λ (t : ℕ). Allows (λ s. Shows l s.words s.views) slots id me (slot_at t) (λ n. (n + 65536) % 2 ^ 64)
           (λ n now. (now.1 ≡ me.1) × (now.0 ≡ published_copy t c.args.span c.args.page v)))
-          d.2 all))),
+          d.2 all)))),
     )

@@ -1,5 +1,8 @@
-use Rattle.std.proofs.Common.{arith}
+use Rattle.std.proofs.Common.{◌≡◌, arith, refl}
+use Rattle.engine_pages.specs.Layout.{clock_at}
 use Rattle.engine_pages.proofs.Joint.{Laws}
+use Rattle.engine_pages.proofs.Told.{told_with}
+use Rattle.page_drops.specs.Calls.{begun}
 use Rattle.page_drops.proofs.Begins.{begins}
 use Rattle.page_drops.proofs.calls.begin.Goals as goal
 
@@ -10,5 +13,9 @@ load-requires c =
     let slots = c.args.engine.now.table.shared.table_id.slots in
     let id = c.args.pass.now.id in
     let laws : Laws =
-    record { keeps = c.laws.ensures.keeps; leaves = c.laws.ensures.leaves; made = c.laws.ensures.made } in
-    (c.requires.of.table, (let long = c.args.engine.now.long in omega arith), begins laws l slots id me c.requires.keeper)
+    record { keeps = c.laws.ensures.keeps; leaves = c.laws.ensures.leaves; made = c.laws.ensures.made } in (
+      c.requires.of.table,
+      (let long = c.args.engine.now.long in omega arith),
+      told_with (λ n. n) (λ n now. now.0 ≡ begun n me.0) refl
+          (begins laws l slots id me c.requires.keeper),
+    )

@@ -1,9 +1,11 @@
-use Rattle.std.proofs.Common.{◌≡◌, arith, subst}
+use Rattle.std.proofs.Common.{◌≡◌, arith, subst, refl}
 use Rattle.atomic_table.specs.Table.{Allows}
 use Rattle.engine_pages.specs.declared.view.KeptPage.{KeptPage}
 use Rattle.engine_pages.specs.Passes.{view}
+use Rattle.engine_pages.specs.Layout.{clock_at}
 use Rattle.engine_pages.specs.Rule.{Shows}
 use Rattle.engine_pages.proofs.Joint.{Laws}
+use Rattle.engine_pages.proofs.Told.{told_with}
 use Rattle.page_drops.specs.Works.{note_of, noted}
 use Rattle.page_drops.proofs.Notes.{notes}
 use Rattle.page_drops.proofs.noting.note_as.Goals as goal
@@ -18,9 +20,10 @@ load-requires g c =
     record { keeps = c.laws.ensures.keeps; leaves = c.laws.ensures.leaves; made = c.laws.ensures.made } in (
       c.requires.of.table,
       (let long = c.args.engine.now.long in omega arith),
-      subst
-          (λ (page : KeptPage). Allows (λ s. Shows l s.words s.views) slots id me 0 (λ n. n)
+      told_with (λ n. n) (λ n now. now.0 ≡ noted g.J.Noted.page n me.0) refl
+          (subst
+          (λ (page : KeptPage). Allows (λ s. Shows l s.words s.views) slots id me clock_at (λ n. n)
           (λ n now. (now.1 ≡ me.1) × (now.0 ≡ noted page n me.0)))
           c.requires.named
-          (notes laws l slots id me (note_of (view c.args.pass.now) c.args.kept) c.requires.keeper),
+          (notes laws l slots id me (note_of (view c.args.pass.now) c.args.kept) c.requires.keeper)),
     )

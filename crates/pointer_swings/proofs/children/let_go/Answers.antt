@@ -1,5 +1,8 @@
-use Rattle.std.proofs.Common.{arith}
+use Rattle.std.proofs.Common.{◌≡◌, arith, refl}
+use Rattle.engine_pages.specs.Layout.{clock_at}
 use Rattle.engine_pages.proofs.Joint.{Laws}
+use Rattle.engine_pages.proofs.Told.{told_with}
+use Rattle.pointer_swings.specs.Children.{let_go}
 use Rattle.pointer_swings.proofs.LettingGo.{lets_go}
 use Rattle.pointer_swings.proofs.children.let_go.Goals as goal
 
@@ -13,5 +16,6 @@ load-requires c =
     record { keeps = c.laws.ensures.keeps; leaves = c.laws.ensures.leaves; made = c.laws.ensures.made } in (
       c.requires.of.table,
       (let long = c.args.engine.now.long in omega arith),
-      lets_go laws l slots id me c.requires.keeper,
+      told_with (λ n. n) (λ n now. now.0 ≡ let_go n me.0) refl
+          (lets_go laws l slots id me c.requires.keeper),
     )

@@ -1,36 +1,40 @@
-use Rattle.std.proofs.Common.{◌≡◌, ◌+◌, ◌*◌, ◌/◌, ◌^◌, ◌<◌, ◌==◌, ℕ, arith, subst, sym}
+use Rattle.std.proofs.Common.{◌≡◌, ◌+◌, ◌*◌, ◌/◌, ◌^◌, ◌<◌, ◌==◌, ℕ, arith, subst, sym, ap, ◌∙◌}
 use prog.Atomic.{either}
 use Rattle.atomic_table.specs.Table.{Allows}
 use Rattle.engine_pages.specs.declared.layout.Layout.{Layout}
 use Rattle.engine_pages.specs.Layout.{words_of}
 use Rattle.engine_pages.specs.Rule.{Shows}
 use Rattle.engine_pages.proofs.Joint.{Laws}
-use Rattle.pointer_swings.specs.Renewals.{HasRenewed}
+use Rattle.engine_pages.proofs.Told.{told_with}
+use Rattle.pointer_swings.specs.Renewals.{HasRenewed, renewed_word}
 use Rattle.pointer_swings.proofs.Renewing.{renews}
 use Rattle.pointer_swings.proofs.renewals.renew_as.Goals as goal
 
 pub compare_exchange-requires : goal.compare_exchange-requires
 compare_exchange-requires g c =
     let me = c.args.pass.now.me in
-    let v = me.0 in
     let l = c.args.engine.now.table.shared.key in
     let slots = c.args.engine.now.table.shared.table_id.slots in
     let id = c.args.pass.now.id in
+    let new : ℕ = c.args.expected / 2 ^ 32 * 2 ^ 32 + c.from.result in
+    let f : ℕ → ℕ = λ n. either (n == c.args.expected) new n in
+    let new-is : new ≡ renewed_word c.args.expected g.J.Targeted.page =
+    ap (renewed_word c.args.expected) (c.from.ensures ∙ c.requires.named) in
     let laws : Laws =
     record { keeps = c.laws.ensures.keeps; leaves = c.laws.ensures.leaves; made = c.laws.ensures.made } in
     let few : c.args.at < words_of l =
     subst (λ (y : Layout). c.args.at < words_of y) c.requires.of.layout c.requires.word in (
       c.requires.of.table,
       (let long = c.args.engine.now.long in omega arith),
-      subst
-          (λ (z : ℕ). Allows (λ s. Shows l s.words s.views) slots id me c.args.at
-          (λ n. either (n == c.args.expected) (c.args.expected / 2 ^ 32 * 2 ^ 32 + c.from.result) n)
-          (λ n now. (now.1 ≡ me.1) × HasRenewed c.args.at z c.args.expected v n now.0))
+      told_with f (λ n now. HasRenewed c.args.at g.J.Targeted.page c.args.expected me.0 n now.0) new-is
+          (subst
+          (λ (z : ℕ). Allows (λ s. Shows l s.words s.views) slots id me c.args.at f
+          (λ n now. (now.1 ≡ me.1) × HasRenewed c.args.at z c.args.expected me.0 n now.0))
           c.requires.named
           (subst
           (λ (z : ℕ). Allows (λ s. Shows l s.words s.views) slots id me c.args.at
           (λ n. either (n == c.args.expected) (c.args.expected / 2 ^ 32 * 2 ^ 32 + z) n)
-          (λ n now. (now.1 ≡ me.1) × HasRenewed c.args.at c.args.page c.args.expected v n now.0))
+          (λ n now. (now.1 ≡ me.1) × HasRenewed c.args.at c.args.page c.args.expected me.0 n now.0))
           (sym c.from.ensures)
-          (renews laws l slots id me c.args.place c.args.span c.args.at c.args.page c.args.expected c.requires.renew)),
+          (renews laws l slots id me c.args.place c.args.span c.args.at c.args.page c.args.expected c.requires.renew))),
     )

@@ -1,7 +1,9 @@
-use Rattle.std.proofs.Common.{◌∙◌, arith}
+use Rattle.std.proofs.Common.{◌∙◌, arith, refl}
 use Rattle.engine_pages.proofs.Joint.{Laws}
+use Rattle.engine_pages.proofs.Told.{told_with}
 use Rattle.resident_pages.proofs.Extends.{extends}
 use Rattle.resident_pages.proofs.extending.extend.Goals as goal
+use Rattle.resident_pages.specs.Extends.{HasExtended}
 
 pub store-requires : goal.store-requires
 store-requires g c =
@@ -13,6 +15,8 @@ store-requires g c =
     record { keeps = c.laws.ensures.keeps; leaves = c.laws.ensures.leaves; made = c.laws.ensures.made } in (
       c.requires.of.table,
       (let long = c.args.engine.now.long in omega arith),
-      extends laws l slots id me g.J.Publishing.pages g.J.Publishing.places c.from.result c.requires.keeper c.requires.can
-          (c.from.ensures ∙ c.requires.count),
+      told_with (λ _. c.from.result) (λ n now. HasExtended g.J.Publishing.pages g.J.Publishing.places me.0 now.0)
+          (refl, c.from.ensures ∙ c.requires.count, refl)
+          (extends laws l slots id me g.J.Publishing.pages g.J.Publishing.places c.from.result c.requires.keeper c.requires.can
+          (c.from.ensures ∙ c.requires.count)),
     )

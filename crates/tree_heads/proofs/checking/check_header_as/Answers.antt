@@ -1,9 +1,10 @@
-use Rattle.std.proofs.Common.{◌≡◌, ◌+◌, ◌^◌, ◌<◌, ℕ, arith, subst, sym}
+use Rattle.std.proofs.Common.{◌≡◌, ◌+◌, ◌^◌, ◌<◌, ℕ, arith, subst, sym, refl}
 use Rattle.atomic_table.specs.Table.{Allows}
 use Rattle.engine_pages.specs.declared.layout.Layout.{Layout}
 use Rattle.engine_pages.specs.Layout.{page_at}
 use Rattle.engine_pages.specs.Rule.{Shows}
 use Rattle.engine_pages.proofs.Joint.{Laws}
+use Rattle.engine_pages.proofs.Told.{told_with}
 use Rattle.tree_heads.specs.Checks.{CheckedHeader}
 use Rattle.tree_heads.proofs.HeaderChecks.{checks_header}
 use Rattle.tree_heads.proofs.checking.check_header_as.Goals as goal
@@ -23,7 +24,8 @@ load-requires g c =
     let can = c.requires.can in (
       c.requires.of.table,
       (let long = c.args.engine.now.long in omega arith),
-      subst
+      told_with (λ n. n) (λ n now. CheckedHeader g.J.Compared.slot c.args.at g.J.Compared.word v n now.0) (refl, refl)
+          (subst
           (λ (z : ℕ). Allows (λ s. Shows l s.words s.views) slots id me c.args.at (λ n. n)
           (λ n now. (now.1 ≡ me.1) × CheckedHeader z c.args.at g.J.Compared.word v n now.0))
           c.requires.named.0
@@ -35,5 +37,5 @@ load-requires g c =
           (λ (y : ℕ). Allows (λ s. Shows l s.words s.views) slots id me y (λ n. n)
           (λ n now. (now.1 ≡ me.1) × CheckedHeader c.args.slot y c.args.word v n now.0))
           (sym is)
-          (checks_header laws l slots id me c.args.slot can.0 c.args.word c.requires.pass can.1))),
+          (checks_header laws l slots id me c.args.slot can.0 c.args.word c.requires.pass can.1)))),
     )

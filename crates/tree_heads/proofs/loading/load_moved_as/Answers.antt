@@ -1,10 +1,11 @@
-use Rattle.std.proofs.Common.{◌≡◌, ◌+◌, ◌^◌, ◌<◌, ℕ, arith, subst, sym}
+use Rattle.std.proofs.Common.{◌≡◌, ◌+◌, ◌^◌, ◌<◌, ℕ, arith, subst, sym, refl}
 use Rattle.atomic_table.specs.Table.{Allows}
 use Rattle.homes.specs.declared.places.Span.{Span}
 use Rattle.engine_pages.specs.declared.layout.Layout.{Layout}
 use Rattle.engine_pages.specs.Layout.{page_at}
 use Rattle.engine_pages.specs.Rule.{Shows}
 use Rattle.engine_pages.proofs.Joint.{Laws}
+use Rattle.engine_pages.proofs.Told.{told_with}
 use Rattle.tree_heads.specs.Headers.{MetAgain}
 use Rattle.tree_heads.proofs.TwinWays.{meets_again}
 use Rattle.tree_heads.proofs.loading.load_moved_as.Goals as goal
@@ -23,7 +24,8 @@ load-requires g c =
     subst (λ (y : Layout). c.args.at ≡ page_at y.slots c.args.slot 0) c.requires.of.layout c.requires.word in (
       c.requires.of.table,
       (let long = c.args.engine.now.long in omega arith),
-      subst
+      told_with (λ n. n) (λ n now. MetAgain g.J.Treed.slot g.J.Treed.span c.args.at v n now.0) (refl, refl)
+          (subst
           (λ (z : ℕ). Allows (λ s. Shows l s.words s.views) slots id me c.args.at (λ n. n)
           (λ n now. (now.1 ≡ me.1) × MetAgain z g.J.Treed.span c.args.at v n now.0))
           c.requires.named.0
@@ -35,5 +37,5 @@ load-requires g c =
           (λ (y : ℕ). Allows (λ s. Shows l s.words s.views) slots id me y (λ n. n)
           (λ n now. (now.1 ≡ me.1) × MetAgain c.args.slot c.args.span y v n now.0))
           (sym is)
-          (let x = c.requires.known in meets_again laws l slots id me c.args.slot c.args.span c.requires.pass c.requires.page x.0 x.1 x.2))),
+          (let x = c.requires.known in meets_again laws l slots id me c.args.slot c.args.span c.requires.pass c.requires.page x.0 x.1 x.2)))),
     )

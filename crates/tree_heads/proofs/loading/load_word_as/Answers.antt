@@ -1,9 +1,10 @@
-use Rattle.std.proofs.Common.{◌≡◌, ◌+◌, ◌^◌, ◌<◌, ℕ, arith, subst, sym}
+use Rattle.std.proofs.Common.{◌≡◌, ◌+◌, ◌^◌, ◌<◌, ℕ, arith, subst, sym, refl}
 use Rattle.atomic_table.specs.Table.{Allows}
 use Rattle.engine_pages.specs.declared.layout.Layout.{Layout}
 use Rattle.engine_pages.specs.Layout.{page_at}
 use Rattle.engine_pages.specs.Rule.{Shows}
 use Rattle.engine_pages.proofs.Joint.{Laws}
+use Rattle.engine_pages.proofs.Told.{told_with}
 use Rattle.tree_heads.specs.Headers.{HasWord}
 use Rattle.tree_heads.proofs.WordLoads.{loads_word}
 use Rattle.tree_heads.proofs.loading.load_word_as.Goals as goal
@@ -22,7 +23,8 @@ load-requires g c =
     subst (λ (y : Layout). c.args.at ≡ page_at y.slots c.args.slot c.args.index) c.requires.of.layout c.requires.word in (
       c.requires.of.table,
       (let long = c.args.engine.now.long in let low = c.requires.index in omega arith),
-      subst
+      told_with (λ n. n) (λ n now. HasWord g.J.Indexed.slot g.J.Indexed.index c.args.at v n now.0) (refl, refl)
+          (subst
           (λ (z : ℕ). Allows (λ s. Shows l s.words s.views) slots id me c.args.at (λ n. n)
           (λ n now. (now.1 ≡ me.1) × HasWord z g.J.Indexed.index c.args.at v n now.0))
           c.requires.named.0
@@ -34,5 +36,5 @@ load-requires g c =
           (λ (y : ℕ). Allows (λ s. Shows l s.words s.views) slots id me y (λ n. n)
           (λ n now. (now.1 ≡ me.1) × HasWord c.args.slot c.args.index y v n now.0))
           (sym is)
-          (loads_word laws l slots id me c.args.slot c.args.index c.requires.pass))),
+          (loads_word laws l slots id me c.args.slot c.args.index c.requires.pass)))),
     )

@@ -1,9 +1,10 @@
-use Rattle.std.proofs.Common.{◌≡◌, ◌+◌, ◌^◌, ◌<◌, ℕ, arith, subst, sym}
+use Rattle.std.proofs.Common.{◌≡◌, ◌+◌, ◌^◌, ◌<◌, ℕ, arith, subst, sym, refl}
 use Rattle.atomic_table.specs.Table.{Allows}
 use Rattle.engine_pages.specs.declared.layout.Layout.{Layout}
 use Rattle.engine_pages.specs.Layout.{page_at}
 use Rattle.engine_pages.specs.Rule.{Shows}
 use Rattle.engine_pages.proofs.Joint.{Laws}
+use Rattle.engine_pages.proofs.Told.{told_with}
 use Rattle.tree_heads.specs.Heads.{head_opened}
 use Rattle.tree_heads.proofs.HeadLocks.{opens_head}
 use Rattle.tree_heads.proofs.locking.open_header_as.Goals as goal
@@ -22,7 +23,8 @@ store-requires g c =
     subst (λ (y : Layout). c.args.at ≡ page_at y.slots c.args.slot 0) c.requires.of.layout c.requires.word in (
       c.requires.of.table,
       (let long = c.args.engine.now.long in omega arith),
-      subst
+      told_with (λ _. c.args.word) (λ n now. now.0 ≡ head_opened g.J.Treed.slot c.args.at c.args.word v) refl
+          (subst
           (λ (z : ℕ). Allows (λ s. Shows l s.words s.views) slots id me c.args.at (λ _. c.args.word)
           (λ n now. (now.1 ≡ me.1) × (now.0 ≡ head_opened z c.args.at c.args.word v)))
           c.requires.named.0
@@ -30,5 +32,5 @@ store-requires g c =
           (λ (y : ℕ). Allows (λ s. Shows l s.words s.views) slots id me y (λ _. c.args.word)
           (λ n now. (now.1 ≡ me.1) × (now.0 ≡ head_opened c.args.slot y c.args.word v)))
           (sym is)
-          (opens_head laws l slots id me c.args.slot c.args.span c.args.word c.requires.pass c.requires.can)),
+          (opens_head laws l slots id me c.args.slot c.args.span c.args.word c.requires.pass c.requires.can))),
     )

@@ -1,4 +1,4 @@
-use Rattle.std.proofs.Common.{◌≡◌, ◌+◌, ◌^◌, ◌<◌, ℕ, arith, subst, sym}
+use Rattle.std.proofs.Common.{◌≡◌, ◌+◌, ◌^◌, ◌<◌, ℕ, arith, subst, sym, refl}
 use Rattle.atomic_table.specs.Table.{Allows}
 use Rattle.homes.specs.declared.places.Span.{Span}
 use Rattle.serial_model.specs.declared.key.Key.{Key}
@@ -6,6 +6,7 @@ use Rattle.engine_pages.specs.declared.layout.Layout.{Layout}
 use Rattle.engine_pages.specs.Layout.{page_at}
 use Rattle.engine_pages.specs.Rule.{Shows}
 use Rattle.engine_pages.proofs.Joint.{Laws}
+use Rattle.engine_pages.proofs.Told.{told_with}
 use Rattle.tree_heads.specs.Heads.{HasAdded}
 use Rattle.tree_heads.proofs.KeyAdds.{adds_key}
 use Rattle.tree_heads.proofs.locking.open_with_key_as.Goals as goal
@@ -24,7 +25,8 @@ store-requires g c =
     subst (λ (y : Layout). c.args.at ≡ page_at y.slots c.args.slot 0) c.requires.of.layout c.requires.word in (
       c.requires.of.table,
       (let long = c.args.engine.now.long in omega arith),
-      subst
+      told_with (λ _. c.args.word) (λ n now. HasAdded g.J.Treed.slot g.J.Treed.span g.K.Keyed.key c.args.at c.args.word v now.0) refl
+          (subst
           (λ (z : ℕ). Allows (λ s. Shows l s.words s.views) slots id me c.args.at (λ _. c.args.word)
           (λ n now. (now.1 ≡ me.1) × HasAdded z g.J.Treed.span g.K.Keyed.key c.args.at c.args.word v now.0))
           c.requires.named.0
@@ -40,5 +42,5 @@ store-requires g c =
           (λ (y : ℕ). Allows (λ s. Shows l s.words s.views) slots id me y (λ _. c.args.word)
           (λ n now. (now.1 ≡ me.1) × HasAdded c.args.slot c.args.span c.args.key y c.args.word v now.0))
           (sym is)
-          (adds_key laws l slots id me c.args.slot c.args.span c.args.key c.args.word c.requires.pass c.requires.can)))),
+          (adds_key laws l slots id me c.args.slot c.args.span c.args.key c.args.word c.requires.pass c.requires.can))))),
     )

@@ -1,10 +1,11 @@
-use Rattle.std.proofs.Common.{◌≡◌, ◌+◌, ◌%◌, ◌^◌, ◌<◌, ℕ, arith, subst}
+use Rattle.std.proofs.Common.{◌≡◌, ◌+◌, ◌%◌, ◌^◌, ◌<◌, ℕ, arith, subst, refl}
 use Rattle.atomic_table.specs.Table.{Allows}
 use Rattle.homes.specs.declared.places.Span.{Span}
 use Rattle.engine_pages.specs.declared.layout.Layout.{Layout}
 use Rattle.engine_pages.specs.Layout.{slot_at}
 use Rattle.engine_pages.specs.Rule.{Shows}
 use Rattle.engine_pages.proofs.Joint.{Laws}
+use Rattle.engine_pages.proofs.Told.{told_with}
 use Rattle.tree_heads.specs.NewPages.{published_leaf}
 use Rattle.tree_heads.proofs.LeafPublish.{publishes_leaf}
 use Rattle.tree_heads.proofs.publishing.publish_leaf_as.Goals as goal
@@ -23,7 +24,8 @@ fetch_add-requires g c =
     let all = publishes_leaf laws l slots id me d.0 c.args.span g.K.Leafed.keys g.K.Leafed.contents c.requires.pass d.1 d.3 in (
       c.requires.of.table,
       (let long = c.args.engine.now.long in omega arith),
-      subst
+      told_with (λ n. (n + 65536) % 2 ^ 64) (λ n now. now.0 ≡ published_leaf g.J.Treed.slot g.J.Treed.span g.K.Leafed.keys g.K.Leafed.contents v) refl
+          (subst
           (λ (t : ℕ). Allows (λ s. Shows l s.words s.views) slots id me (slot_at c.args.slot) (λ n. (n + 65536) % 2 ^ 64)
           (λ n now. (now.1 ≡ me.1) × (now.0 ≡ published_leaf t g.J.Treed.span g.K.Leafed.keys g.K.Leafed.contents v)))
           c.requires.named.0
@@ -34,5 +36,5 @@ fetch_add-requires g c =
           (subst
           (λ (t : ℕ). Allows (λ s. Shows l s.words s.views) slots id me (slot_at t) (λ n. (n + 65536) % 2 ^ 64)
           (λ n now. (now.1 ≡ me.1) × (now.0 ≡ published_leaf t c.args.span g.K.Leafed.keys g.K.Leafed.contents v)))
-          d.2 all)),
+          d.2 all))),
     )

@@ -21,6 +21,10 @@ pub trait Disk {
     /// How many bytes the last read that answered `Ok` gave.
     ghost gave: { Self → ℕ };
 
+    /// Nothing is pending: nothing was written or cut since a sync that answered `Ok`. What was written before that sync
+    /// may have been anybody's.
+    ghost settled: { Self → Type 0 };
+
     /// How many begins and ends of calls there were. A call that is made counts twice, whether it
     /// answers `Ok` or not; one that is refused before it begins, as for want of memory, doesn't
     /// count. Each call fails where the clock has no room for it.
@@ -33,6 +37,7 @@ pub trait Disk {
     fn len(&mut self) -> Result<u64, Failed>
         ensures value { IfOk result (λ n. IfTold (tells self.old) (λ file. n ≡ length file)) }
         ensures told { tells self.new ≡ tells self.old }
+        ensures settled { settled self.old → settled self.new }
         ensures goes { Calls clock image_at faults Same (clock self.new) self.old self.new result };
 
     /// Fills the front of the buffer with what lies from that offset on, and answers how many bytes:
@@ -44,6 +49,7 @@ pub trait Disk {
             (n ≡ min (length buf.old) (length file - at))
             × (buf.new ≡ take n (drop at file) ++ drop n buf.old))) }
         ensures told { tells self.new ≡ tells self.old }
+        ensures settled { settled self.old → settled self.new }
         ensures goes { Calls clock image_at faults Same (clock self.new) self.old self.new result };
 
     /// Writes over what is there, and past the end. One that failed may be done in part.
@@ -72,10 +78,14 @@ pub trait Disk {
     fn sync(&mut self) -> Result<(), Failed>
         ensures told { tells self.new ≡ tells self.old }
         ensures durable { OnOk result (IfTold (tells self.old) (Only clock image_at self.new)) }
+        ensures settled { OnOk result (settled self.new) }
         ensures goes { Calls clock image_at faults Same (clock self.new - 1)
             self.old self.new result }
         ensures unsettled { OnErr result (LeavesEach clock image_at Same
             self.old self.new (clock self.new)) };
+
+    /// A disk of which nothing is pending has one image.
+    ghost rests: { (disk : Self) → settled disk → IfTold (tells disk) (Only clock image_at disk) };
 
     /// What reads give is always among the images of now.
     ghost reads: { (disk : Self) (file : List ℕ) → tells disk ≡ Some file

@@ -1,5 +1,5 @@
 // A disk over a file of the system. It tells none of its bytes, and a stop may leave anything.
-ghost use Rattle.std.specs.Prelude.{◌≡◌, ◌<◌, ◌+◌, ◌^◌, None, OnOk, OnErr};
+ghost use Rattle.std.specs.Prelude.{◌≡◌, ◌<◌, ◌+◌, ◌^◌, None, OnOk, OnErr, true};
 ghost use Rattle.outside.specs.Faults.{HasCause};
 
 use crate::system_file::SystemFile;
@@ -15,6 +15,8 @@ pub struct FileDisk {
     clock: u64,
     // What the last read that answered `Ok` gave, in bytes.
     given: usize,
+    // Whether nothing was written or cut since a sync that answered `Ok`.
+    synced: bool,
 }
 
 impl FileDisk {
@@ -26,6 +28,7 @@ impl FileDisk {
             file: SystemFile::new(file),
             clock: 0,
             given: 0,
+            synced: false,
         }
     }
 
@@ -40,6 +43,7 @@ impl FileDisk {
         ensures counted { OnOk result (self.new.clock < 2 ^ 64) }
         ensures err { OnErr result (self.new.clock ≡ self.old.clock) }
         ensures cause { HasCause self.old.file.answers.faults self.new.file.answers.faults result }
+        ensures synced { self.new.synced ≡ self.old.synced }
     {
         if self.clock > u64::MAX - 2 {
             return self.file.refuse();
@@ -59,6 +63,10 @@ impl Disk for FileDisk {
     ghost faults = { λ disk. disk.file.answers.faults };
 
     ghost gave = { λ disk. disk.given };
+
+    ghost settled = { λ disk. disk.synced ≡ true };
+
+    ghost rests = { λ _ _ _ told. absurd (cc told) };
 
     ghost reads = { λ _ _ _. tt };
 
@@ -82,17 +90,21 @@ impl Disk for FileDisk {
     }
 
     fn write(&mut self, at: u64, bytes: &[u8]) -> Result<(), Failed> {
+        self.synced = false;
         self.begin()?;
         self.file.write(at, bytes)
     }
 
     fn cut(&mut self, len: u64) -> Result<(), Failed> {
+        self.synced = false;
         self.begin()?;
         self.file.cut(len)
     }
 
     fn sync(&mut self) -> Result<(), Failed> {
         self.begin()?;
-        self.file.sync()
+        self.file.sync()?;
+        self.synced = true;
+        Ok(())
     }
 }

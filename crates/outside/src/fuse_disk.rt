@@ -76,6 +76,10 @@ impl<D: Disk> Disk for FuseDisk<D> {
 
     ghost gave = { λ fuse. D.gave fuse.disk };
 
+    ghost settled = { λ fuse. D.settled fuse.disk };
+
+    ghost rests = { λ fuse. D.rests fuse.disk };
+
     ghost reads = { λ fuse. D.reads fuse.disk };
 
     fn clock(&self) -> u64 {
@@ -90,6 +94,7 @@ impl<D: Disk> Disk for FuseDisk<D> {
         ensures value { IfOk result (λ n. IfTold (D.tells self.old.disk) (λ file.
             n ≡ length file)) }
         ensures told { D.tells self.new.disk ≡ D.tells self.old.disk }
+        ensures settled { D.settled self.old.disk → D.settled self.new.disk }
         ensures goes { Calls ⟦<FuseDisk<D> as Disk>⟧.clock
             ⟦<FuseDisk<D> as Disk>⟧.image_at ⟦<FuseDisk<D> as Disk>⟧.faults
             Same (D.clock self.new.disk) self.old self.new result }
@@ -107,6 +112,7 @@ impl<D: Disk> Disk for FuseDisk<D> {
             (n ≡ min (length buf.old) (length file - at))
             × (buf.new ≡ take n (drop at file) ++ drop n buf.old))) }
         ensures told { D.tells self.new.disk ≡ D.tells self.old.disk }
+        ensures settled { D.settled self.old.disk → D.settled self.new.disk }
         ensures goes { Calls ⟦<FuseDisk<D> as Disk>⟧.clock
             ⟦<FuseDisk<D> as Disk>⟧.image_at ⟦<FuseDisk<D> as Disk>⟧.faults
             Same (D.clock self.new.disk) self.old self.new result }
@@ -156,6 +162,7 @@ impl<D: Disk> Disk for FuseDisk<D> {
         ensures told { D.tells self.new.disk ≡ D.tells self.old.disk }
         ensures durable { OnOk result (IfTold (D.tells self.old.disk)
             (Only ⟦<FuseDisk<D> as Disk>⟧.clock ⟦<FuseDisk<D> as Disk>⟧.image_at self.new)) }
+        ensures settled { OnOk result (D.settled self.new.disk) }
         ensures goes { Calls ⟦<FuseDisk<D> as Disk>⟧.clock
             ⟦<FuseDisk<D> as Disk>⟧.image_at ⟦<FuseDisk<D> as Disk>⟧.faults
             Same (D.clock self.new.disk - 1) self.old self.new result }

@@ -177,6 +177,10 @@ impl Disk for MemDisk {
 
     ghost gave = { λ disk. disk.given };
 
+    ghost settled = { λ disk. IfTold (tells_of disk) (Only clock_of image_of disk) };
+
+    ghost rests = { λ _ is. is };
+
     ghost reads = { λ disk file is. told_as_left disk.calls.items disk.first.items disk.bytes.items file disk.replayed is };
 
     fn clock(&self) -> u64 {
@@ -190,6 +194,8 @@ impl Disk for MemDisk {
     fn len(&mut self) -> Result<u64, Failed>
         ensures value { IfOk result (λ n. IfTold (tells_of self.old) (λ file. n ≡ length file)) }
         ensures told { tells_of self.new ≡ tells_of self.old }
+        ensures settled { IfTold (tells_of self.old) (Only clock_of image_of self.old)
+            → IfTold (tells_of self.new) (Only clock_of image_of self.new) }
         ensures goes { Calls clock_of image_of faults_of
             Same (clock_of self.new) self.old self.new result }
         ensures recorded { IsRecorded (λ call. call ≡ Call.Len) self.old.fails.items
@@ -203,6 +209,8 @@ impl Disk for MemDisk {
     fn read(&mut self, at: u64, buf: &mut [u8]) -> Result<usize, Failed>
         ensures count { IfOk result (λ n. n ≤ length buf.old) }
         ensures gave { IfOk result (λ n. self.new.given ≡ n) }
+        ensures settled { IfTold (tells_of self.old) (Only clock_of image_of self.old)
+            → IfTold (tells_of self.new) (Only clock_of image_of self.new) }
         ensures value { IfOk result (λ n. IfTold (tells_of self.old) (λ file.
             (n ≡ min (length buf.old) (length file - at))
             × (buf.new ≡ take n (drop at file) ++ drop n buf.old))) }
@@ -265,6 +273,8 @@ impl Disk for MemDisk {
     fn sync(&mut self) -> Result<(), Failed>
         ensures told { tells_of self.new ≡ tells_of self.old }
         ensures durable { OnOk result (IfTold (tells_of self.old)
+            (Only clock_of image_of self.new)) }
+        ensures settled { OnOk result (IfTold (tells_of self.new)
             (Only clock_of image_of self.new)) }
         ensures goes { Calls clock_of image_of faults_of
             Same (clock_of self.new - 1) self.old self.new result }

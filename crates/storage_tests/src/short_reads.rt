@@ -46,6 +46,10 @@ impl Disk for HalfDisk {
 
     ghost gave = { λ disk. disk.given };
 
+    ghost settled = { λ _. Unit {0} };
+
+    ghost rests = { λ _ _ _ told. absurd (cc told) };
+
     ghost reads = { λ _ _ _. tt };
 
     fn clock(&self) -> u64 {

@@ -12,7 +12,7 @@ use Rattle.joint_crashes.specs.Cutting.{AreToldIn}
 use Rattle.joint_crashes.specs.JointCrash.{parts_of}
 use Rattle.checkpoints.specs.Files.{AllTell, AreEmpty, listed_bank}
 use Rattle.checkpoints.specs.Settled.{SameDevices}
-use Rattle.checkpoints.specs.SettleFiles.{all_banks}
+use Rattle.joint_crashes.specs.Banks.{all_banks}
 use Rattle.checkpoints.specs.SettleLeaves.{CanStore, StandsEmptied}
 
 -- the log files of all numbers were emptied, so all are empty

@@ -15,7 +15,7 @@ use Rattle.joint_crashes.specs.Story.{Story}
 use Rattle.joint_crashes.specs.Cutting.{MayCut, AreCut, CutsLeave}
 use Rattle.joint_crashes.specs.Settling.{RestsOn, IsSafe, story_of}
 use Rattle.checkpoints.specs.SettledLaws.{SaysSame}
-use Rattle.checkpoints.specs.SettleFiles.{all_banks, all_below}
+use Rattle.joint_crashes.specs.Banks.{all_banks, all_below}
 use Rattle.checkpoints.specs.SettleGoesOn.{GoesOn, on_cut, cut_goes_on}
 use Rattle.checkpoints.specs.SettleLaws.{cuts_left}
 use Rattle.joint_crashes.specs.SettleRests.{RestsSince}

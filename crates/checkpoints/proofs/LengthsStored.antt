@@ -15,7 +15,7 @@ use Rattle.joint_crashes.specs.Story.{Story}
 use Rattle.joint_crashes.specs.Cutting.{ArePast, AreToldIn}
 use Rattle.joint_crashes.specs.Settling.{RestsOn, MayStore, IsLeft, IsSettled, IsSafe, story_of}
 use Rattle.checkpoints.specs.SettledLaws.{SaysSame}
-use Rattle.checkpoints.specs.SettleFiles.{all_banks}
+use Rattle.joint_crashes.specs.Banks.{all_banks}
 use Rattle.checkpoints.specs.SettleGoesOn.{GoesOn, on_settled, stored_goes_on}
 use Rattle.joint_crashes.specs.SettleRests.{RestsSince}
 use Rattle.checkpoints.specs.CrashesRecover.{LeavesSame, HasFiles, point_read, settled_leaves}

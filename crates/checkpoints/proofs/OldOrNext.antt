@@ -17,7 +17,7 @@ use Rattle.joint_crashes.specs.Resting.{IsResting}
 use Rattle.joint_crashes.specs.Story.{Story, IsTold, AreOpen}
 use Rattle.joint_crashes.specs.Cutting.{ArePast, AreToldIn}
 use Rattle.joint_crashes.specs.Settling.{RestsOn, MayStore, IsLeft, IsSettled, IsSafe, story_of}
-use Rattle.checkpoints.specs.SettleFiles.{all_banks}
+use Rattle.joint_crashes.specs.Banks.{all_banks}
 use Rattle.checkpoints.specs.SettleGoesOn.{on_settled}
 use Rattle.joint_crashes.specs.SettleRests.{RestsSince}
 use Rattle.joint_crashes.specs.Crashes.Instants.{keeps_then}

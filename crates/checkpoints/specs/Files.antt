@@ -9,7 +9,7 @@ use Rattle.log_writer.specs.Vault.{disk_in, IsWhole}
 use Rattle.log_writer.specs.Cuts.{whole_bank, whole_ends}
 use Rattle.joint_crashes.specs.JointCrash.{Parts, parts_of}
 use Rattle.checkpoints.specs.CrashesRecover.{HasFiles}
-use Rattle.checkpoints.specs.SettleFiles.{all_banks, has_all}
+use Rattle.joint_crashes.specs.Banks.{all_banks, has_all}
 use Rattle.joint_crashes.specs.VaultReads.{some_of}
 
 -- each log file tells its bytes

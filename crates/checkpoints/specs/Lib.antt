@@ -2,7 +2,6 @@ pub mod SettledLaws
 pub mod RestsLaws
 pub mod CrashesRecover
 pub mod FreshLaws
-pub mod SettleFiles
 pub mod SettleLaws
 pub mod SettlePages
 pub mod SettleGoesOn

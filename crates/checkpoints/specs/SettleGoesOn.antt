@@ -16,7 +16,7 @@ use Rattle.joint_crashes.specs.Story.{Story, IsTold, AreOpen, StandsFor}
 use Rattle.joint_crashes.specs.Cutting.{AreCut, CutsLeave}
 use Rattle.joint_crashes.specs.Settling.{IsLeft, IsSettled, FoundOldOrNew, story_of}
 use Rattle.checkpoints.specs.SettledLaws.{SaysSame}
-use Rattle.checkpoints.specs.SettleFiles.{all_banks}
+use Rattle.joint_crashes.specs.Banks.{all_banks}
 use Rattle.checkpoints.specs.CrashesRecover.{HasFiles, settled_recovers}
 use Rattle.joint_crashes.specs.Crashes.Instants.{open_ready}
 use Rattle.joint_crashes.specs.Crashes.Rested.{point_old, point_new}

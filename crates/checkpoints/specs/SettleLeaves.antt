@@ -23,7 +23,7 @@ use Rattle.recovery_core.specs.declared.recovered.Recovered.{Recovered}
 use Rattle.checkpoints.specs.CrashesRecover.{LeavesSame}
 use Rattle.checkpoints.specs.Files.{AllTell, AreEmpty}
 use Rattle.checkpoints.specs.FreshLaws.{first_saved, IsFirstPage}
-use Rattle.checkpoints.specs.SettleFiles.{all_banks}
+use Rattle.joint_crashes.specs.Banks.{all_banks}
 use Rattle.checkpoints.specs.SettlePages.{first_contents}
 use Rattle.checkpoints.specs.SettleRecords.{SettleRecords}
 

@@ -3,7 +3,7 @@ use Rattle.std.specs.Prelude.{◌≡◌, ◌⊎◌, ℕ, Bool}
 use Rattle.log_writer.specs.Points.{sequence_of}
 use Rattle.log_writer.specs.declared.vault.Vault.{Vault}
 use Rattle.joint_crashes.specs.RecordsAdded.{RecordsAdded}
-use Rattle.checkpoints.specs.SettleFiles.{all_banks}
+use Rattle.joint_crashes.specs.Banks.{all_banks}
 use Rattle.checkpoints.specs.Settled.{stores_due}
 use Rattle.recovery_core.specs.declared.recovered.Recovered.{Recovered}
 use Rattle.checkpoints.specs.Due.{NoneCount, SomeCount}

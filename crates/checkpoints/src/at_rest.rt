@@ -14,7 +14,7 @@ ghost use Rattle.joint_crashes.specs.SettleRests.{RestsSince};
 ghost use Rattle.joint_crashes.specs.Resting.{IsResting, HasNoRecords, AreTold};
 ghost use Rattle.checkpoints.specs.CrashesRecover.{LeavesSame};
 ghost use Rattle.checkpoints.specs.Files.{AllTell, AreEmpty};
-ghost use Rattle.checkpoints.specs.SettleFiles.{all_banks};
+ghost use Rattle.joint_crashes.specs.Banks.{all_banks};
 ghost use Rattle.checkpoints.specs.SettleLeaves.{CanStore, LeavesWhole, StandsEmptied};
 ghost use Rattle.checkpoints.specs.StoreAnswers.{StoreAnswers};
 ghost use Rattle.joint_crashes.specs.RecordsAdded.{RecordsAdded};

@@ -1,2 +1,3 @@
 pub mod CutsRecorded
 pub mod Exits
+mod TakingOver

@@ -1,7 +1,10 @@
+pub mod Banks
 pub mod Images
 pub mod JointCrash
 pub mod Resting
 pub mod VaultReads
+pub mod Synced
+pub mod Syncs
 pub mod Story
 pub mod Cutting
 pub mod Settling

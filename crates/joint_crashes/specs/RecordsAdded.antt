@@ -1,5 +1,5 @@
 -- What a settling records of its stores and cuts.
-use Rattle.std.proofs.Common.{◌≡◌, ◌≤◌, ◌+◌, ◌⊎◌, ◌++◌, ◌∷◌, inl, inr, ℕ, Bool, true, false, List, [], refl, sym, ◌∙◌, ap, subst, arith}
+use Rattle.std.proofs.Common.{◌≡◌, ◌≤◌, ◌+◌, ◌⊎◌, ◌++◌, ◌∷◌, inl, inr, ℕ, Bool, true, false, List, [], refl, subst, arith}
 use Rattle.std.specs.Prelude.{if◌then◌else◌, is_ok, IsErrAnd, Result, Ok, Err}
 use Rattle.log_writer.specs.Records.{AddsCuts, AddsTies, no_cuts, no_ties, one_tie, ties_then}
 use Rattle.log_writer.specs.declared.records.Tie.{Tie}

@@ -60,7 +60,7 @@ some_of None is = absurd (cc is)
 some_of (Some x) is = (x, refl)
 
 -- a log file of a whole database is one of each other whole database
-bank_there : {D : Type 0} {old new : Vault D} → IsWhole old → IsWhole new → (n : ℕ) (bank : D) → disk_in new (Bank n)
+pub bank_there : {D : Type 0} {old new : Vault D} → IsWhole old → IsWhole new → (n : ℕ) (bank : D) → disk_in new (Bank n)
     ≡ Some bank
     → (was : D) × (disk_in old (Bank n) ≡ Some was)
 bank_there {old = old} {new = new} whole still n bank there =
@@ -139,7 +139,7 @@ module _ {D : Type 0} {tells : D → Option (List ℕ)} {clock : D → ℕ} {ima
       (was.0, rose.1, was.1, rose.3, omega (arith, mid.2.later, ap faults same, rose.4))
 
   -- a device that is there was there before
-  was_there : {old mid : Vault D} → VaultOnlyReads tells clock image_at faults old mid → IsWhole old
+  pub was_there : {old mid : Vault D} → VaultOnlyReads tells clock image_at faults old mid → IsWhole old
       → (device : Device) (now : D)
       → disk_in mid device ≡ Some now → (was : D) × (disk_in old device ≡ Some was)
   was_there {old = old} reads whole Save now there = (old.save, refl)

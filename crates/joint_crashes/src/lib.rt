@@ -9,6 +9,9 @@
 //!   is one (`crashes` of `StoresAndCuts`, `cut` of `CutsBanks`, both in `specs/Calls.antt`); a fault is answered
 //!   only where that device's count of faults rose, and where the answer is `Ok` none did (`quiet`).
 //!
+//! - [`take_over`]: a database is made ready to be changed, whoever used it last: behind `Ok` nothing of it is pending, and
+//!   each device tells what it told (`TakesOver` in `specs/Synced.antt`). [`sync_all`] syncs each device and writes none.
+//!
 //! Its specs/ say when nothing that counts is pending (`IsResting`), what only reads all devices (`VaultOnlyReads`), and
 //! how marks, saves, stores and cuts go on with a story, for those who write to the devices of a database.
 //!
@@ -17,6 +20,8 @@
 
 mod cutting;
 mod settling;
+mod syncing;
 
 pub use cutting::cut_banks;
 pub use settling::{BANKS, StoreAndCutFault, store_and_cut};
+pub use syncing::{sync_all, take_over};

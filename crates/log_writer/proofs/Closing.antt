@@ -37,7 +37,7 @@ module _ {A E : Type 0} (Q : List ℕ → Type 0) (told mid : Option (List ℕ))
 
 module _ {D : Type 0} {clock : D → ℕ} {image_at : D → ℕ → List ℕ → Type 0} where
   -- a call that changes nothing, where a stop could leave one content
-  runs_same : {old new : D} {file : List ℕ} → Goes clock image_at Same old new → Only clock image_at old file
+  pub runs_same : {old new : D} {file : List ℕ} → Goes clock image_at Same old new → Only clock image_at old file
       → Runs clock image_at old new (λ c. c ≡ file)
   runs_same goes only = runs_call (λ d c was is. sym is ∙ only d was) goes
 

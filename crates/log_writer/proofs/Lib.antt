@@ -3,3 +3,5 @@ mod Places
 mod Stores
 mod Stages
 mod Closing
+mod TakenBack
+mod Again

@@ -13,11 +13,11 @@ use Rattle.log_writer.specs.Points.{IsSaved, saved_of, point_saved, sequence_of}
 use Rattle.log_writer.specs.Save.{place_in, HasPoint, newer, Names}
 
 -- equal fronts have equal shorter fronts
-take_kept : (j k : ℕ) (c file : List ℕ) → j ≤ k → take k c ≡ take k file → take j c ≡ take j file
+pub take_kept : (j k : ℕ) (c file : List ℕ) → j ≤ k → take k c ≡ take k file → take j c ≡ take j file
 take_kept j k c file le same = sym (take-take j k c le) ∙ ap (λ (l : List ℕ). take j l) same ∙ take-take j k file le
 
 -- equal rests have equal shorter rests
-drop_kept : (j k : ℕ) (c file : List ℕ) → k ≤ j → drop k c ≡ drop k file → drop j c ≡ drop j file
+pub drop_kept : (j k : ℕ) (c file : List ℕ) → k ≤ j → drop k c ≡ drop k file → drop j c ≡ drop j file
 drop_kept j k c file le same =
     let is : k + (j - k) ≡ j = omega arith in
     sym (ap (λ i. drop i c) is) ∙ sym (drop-drop (j - k) k c) ∙ ap (λ (l : List ℕ). drop (j - k) l) same ∙ drop-drop (j - k) k file ∙ ap (λ i. drop i file) is

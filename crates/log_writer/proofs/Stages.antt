@@ -12,7 +12,7 @@ use Rattle.log_writer.specs.Save.{place_in, HasPoint, Names, NamesOldOrNew, clos
 use Rattle.log_writer.proofs.Places.{Pair, behind_valid, place_parts, other_kept, size_kept, place_within, closed_names, open_names, names_kept}
 
 -- a written byte stands where it was written
-byte_written : (at byte : ℕ) (file : List ℕ) → at ≤ length file → get_or (written at (byte ∷ []) file) at 0 ≡ byte
+pub byte_written : (at byte : ℕ) (file : List ℕ) → at ≤ length file → get_or (written at (byte ∷ []) file) at 0 ≡ byte
 byte_written at byte file within = rw append_assoc (get_or_at (take at file) byte (drop (at + 1) file) 0 at (length-take-le at file within))
 
 -- what was written behind the valid byte stands there
@@ -114,13 +114,17 @@ module _ (place other : ℕ) (places : Pair place other) (newest : Option Savepo
         ∙ ap (λ (l : List ℕ). valid_byte ∷ l) (behind_kept place file c torn) ∙ full.behind in
         open_names places c newest point size (omega (arith, next)) (is_point, is) (still_holds (512 * place) 1 file c (omega arith) (omega arith) torn full.holds)
 
+    -- while it isn't, the device has the newest savepoint
+    pub unopened : (file c : List ℕ) → Filled place other newest point file → Torn (512 * place) 1 file c → get_or c (512 * place) 0 ≢ valid_byte → Names c newest
+    unopened file c full torn shut =
+        let size = size_kept places (512 * place) 1 file c full.size (omega arith) torn in
+        closed_names places c newest size shut (still_holds (512 * place) 1 file c (omega arith) (omega arith) torn full.holds)
+
     -- while the place is opened, the device has the newest savepoint or the next
     pub open_stop : (file c : List ℕ) → Filled place other newest point file → Torn (512 * place) 1 file c → NamesOldOrNew newest point c
     open_stop file c full torn = elim (cases_eq (get_or c (512 * place) 0) valid_byte) [
       | inl is_open ↦ inr (opened_names file c full torn is_open)
-      | inr shut ↦
-          let size = size_kept places (512 * place) 1 file c full.size (omega arith) torn in
-          inl (closed_names places c newest size shut (still_holds (512 * place) 1 file c (omega arith) (omega arith) torn full.holds))
+      | inr shut ↦ inl (unopened file c full torn shut)
     ]
 
     -- and then it has the next

@@ -1,5 +1,5 @@
 -- The steps of a store on a device, from the bytes that are stored.
-use Rattle.std.proofs.Common.{◌≡◌, inl, ℕ, ◌+◌, ◌*◌, ◌-◌, ◌<◌, ◌≤◌, List, [], ◌∷◌, Option, Some, None, Result, Ok, Err, OnOk, is_some, length, take, drop, refl, sym, ◌∙◌, ap, subst, arith}
+use Rattle.std.proofs.Common.{◌≡◌, inl, ℕ, ◌+◌, ◌*◌, ◌-◌, ◌<◌, ◌≤◌, List, [], ◌∷◌, Option, Some, None, Result, Ok, Err, OnOk, OnErr, is_some, length, slice_index, take, drop, refl, sym, ◌∙◌, ap, subst, arith}
 use Rattle.std.proofs.lemmas.List.{length-take, length-drop, take_all}
 use Rattle.wire_form.specs.declared.savepoint.Savepoint.{Savepoint}
 use Rattle.wire_form.specs.Savepoint.{IsSavepoint, IsSavepointOf, StandsAt, place_bytes, valid_byte}
@@ -8,12 +8,17 @@ use Rattle.outside.specs.Moments.{runs_weaker, runs_step}
 use Rattle.log_writer.specs.Points.{sequence_of}
 use Rattle.log_writer.specs.Save.{HasPoint, place_in, Names, LeavesNewest, NamesOldOrNew, closed, ClosedOrTorn}
 use Rattle.log_writer.proofs.Places.{Pair, pair, place_within, newest_stands}
-use Rattle.log_writer.proofs.Stages.{Shut, Filled, close_stop, shut_closed, fill_stop, filled, open_stop, opened}
+use Rattle.log_writer.proofs.Stages.{Shut, Filled, close_stop, shut_closed, fill_stop, filled, unopened, open_stop, opened}
 
 -- what two outcomes give together
 pub on_ok_both : {T E P Q R : Type 0} (result : Result T E) → (P → Q → R) → OnOk result P → OnOk result Q → OnOk result R
 on_ok_both (Ok value) to one other = to one other
 on_ok_both (Err fault) to one other = tt
+
+-- and so do two faults
+pub on_err_both : {T E P Q R : Type 0} (result : Result T E) → (P → Q → R) → OnErr result P → OnErr result Q → OnErr result R
+on_err_both (Ok value) to one other = tt
+on_err_both (Err fault) to one other = to one other
 
 -- a device that tells its bytes after a call told them before
 pub was_told : (old new : Option (List ℕ)) → is_some new ≡ is_some old → (bytes : List ℕ) → new ≡ Some bytes → (file : List ℕ) × (old ≡ Some file)
@@ -79,7 +84,7 @@ module _ {place : ℕ} {newest : Option Savepoint} {point : Savepoint} {bytes : 
   pub second_within : (now : List ℕ) → now ≡ closed (512 * place) file → 512 * place + 1 ≤ length now
   second_within now is = omega (arith, place_within places (closed (512 * place) file) shut.size, ap length is)
 
-  pub third_within : (now : List ℕ) → now ≡ filled_up place bytes file → 512 * place ≤ length now
+  pub third_within : (now : List ℕ) → now ≡ filled_up place bytes file → 512 * place < length now
   third_within now is = omega (arith, place_within places (filled_up place bytes file) full.size, ap length is)
 
   -- once the place is opened, the device has the next savepoint and nothing is pending
@@ -90,6 +95,19 @@ module _ {place : ℕ} {newest : Option Savepoint} {point : Savepoint} {bytes : 
         only = λ c left. only c left ∙ sym is;
         names = subst (λ f. Names f (Some point)) (sym is) names_next;
       }
+
+  -- what reads give behind a step that failed has the newest savepoint: where the place wasn't closed,
+  pub unclosed_now : (now : List ℕ) → ClosedOrTorn (512 * place) file now → Names now newest
+  unclosed_now now left = close_stop place (1 - place) places newest file now names other_holds left
+
+  -- where it wasn't filled,
+  pub unfilled_now : (now : List ℕ) → Torn (512 * place + 1) (length (rest bytes)) (closed (512 * place) file) now → Names now newest
+  unfilled_now now torn = fill_stop place (1 - place) places newest (length (rest bytes)) (closed (512 * place) file) now length-rest shut torn
+
+  -- and where it was closed again behind it
+  pub unopened_now : (now : List ℕ) → Torn (512 * place) 1 (filled_up place bytes file) now → slice_index now (512 * place) ≡ 0 → Names now newest
+  unopened_now now torn byte =
+      unopened place (1 - place) places newest point placed next.sequence (filled_up place bytes file) now full torn (λ is. absurd (omega (arith, byte, is)))
 
   -- at each moment of the three steps a stop leaves the old savepoint or the next one
   module _ {D : Type 0} {clock : D → ℕ} {image_at : D → ℕ → List ℕ → Type 0} {old new : D} where

@@ -1,5 +1,5 @@
 -- What loading a save device gives, and what a store makes of it.
-use Rattle.std.specs.Prelude.{◌≡◌, ◌≢◌, ◌↔◌, ℕ, ◌-◌, ◌^◌, ◌≤◌, List, Option, Some, None, IfSome, is_some, Result, Err, OnOk, OnErr}
+use Rattle.std.specs.Prelude.{◌≡◌, ◌≢◌, ◌↔◌, ◌⊎◌, ℕ, ◌-◌, ◌^◌, ◌≤◌, List, Option, Some, None, IfSome, is_some, Result, Err, OnOk, OnErr}
 use Rattle.std.specs.Option.{option_map}
 use Rattle.outside.specs.Disk.{IfTold, Only, Runs}
 use Rattle.outside.specs.Faults.{Rose}
@@ -27,9 +27,15 @@ pub record Finds {D : Type 0} (tells : D → Option (List ℕ)) (clock : D → �
   pub up : state.down ≡ None
   pub stored : IfTold (tells before) (Only clock image_at before) → IsStored tells clock image_at now state.newest
 
+-- the count rose twice, or stands at the last value that it has
+abbrev pub RoseTwice : ℕ → ℕ → Type 0
+RoseTwice before now = (between : ℕ) × Rose before between × Rose between now
+
 -- One store. Each image since it began names the old savepoint or the new one, and after `Ok` the new one alone.
 -- `Device` comes only where the count of faults rose, and then the store is down; `Down` exactly where it was down;
--- `Limit` exactly at the last sequence of one that was not. Both leave all as it was.
+-- `Limit` exactly at the last sequence of one that was not. Both leave all as it was. Behind `Device` reads give the old
+-- savepoint again, or the call that was to take the new one back had failed, too: what a failed sync was to bring may be
+-- shown and forgotten.
 pub record Stores {D T : Type 0} (tells : D → Option (List ℕ)) (clock : D → ℕ) (image_at : D → ℕ → List ℕ → Type 0) (faults : D → ℕ) (saved : Saved) (old new : SaveState) (before now : D) (result : Result T SaveFault) : Type 0 where
   pub newest : OnOk result (new.newest ≡ Some (next_point old saved))
   pub stored : OnOk result (IsStored tells clock image_at now new.newest)
@@ -41,6 +47,8 @@ pub record Stores {D T : Type 0} (tells : D → Option (List ℕ)) (clock : D �
   pub quiet : OnOk result (faults now ≡ faults before)
   pub device : result ≡ Err Device → Rose (faults before) (faults now)
   pub goes_down : result ≡ Err Device → new.down ≡ Some (faults now)
+  pub taken_back : result ≡ Err Device → IfTold (tells before) (λ _. IfTold (tells now)
+      (λ left. Names left old.newest ⊎ RoseTwice (faults before) (faults now)))
   pub down : (count : ℕ) → (result ≡ Err (Down count)) ↔ (old.down ≡ Some count)
   pub limit : (sequence : ℕ) → (result ≡ Err (Limit sequence)) ↔ ((old.down ≡ None) × (sequence ≡ sequence_of old.newest) × (sequence ≡ 2 ^ 63 - 1))
   pub untouched : result ≢ Err Device → OnErr result ((new ≡ old) × (now ≡ before))

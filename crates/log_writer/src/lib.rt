@@ -6,14 +6,18 @@
 //!   is stored (`any_moment` of the record `Stores`, in `specs/Stores.antt`), and after `Ok` the latter
 //!   (`stored`). [`Save::store_in`] does the same (`stores`), and records exactly one tie where the store was
 //!   begun (`tied`, `begun`, `untied`). It asks that what the savepoint counts of each log file is durable as
-//!   the store begins (`counted`, by `KeepsCounted` in `specs/Counted.antt`).
+//!   the store begins (`counted`, by `KeepsCounted` in `specs/Counted.antt`). Behind a store that failed reads give the
+//!   savepoint that was newest, or the call that was to bring it back had failed, too (`taken_back`).
+//! - [`write_again`]: nothing is pending of the save device, also where a system forgot what a failed sync was to bring;
+//!   whatever a stop leaves meanwhile names the same savepoint (`any_moment`).
 //! - [`Save::load`] gives the savepoint that the device names (`found`, by `Finds`), or the byte from which on
 //!   it names none (`damaged`). A device names at most one ([`one_newest`]).
 //! - [`Vault::cut_in`] cuts one device of a vault, of which the trait's clauses hold, and leaves the others (`cut`,
 //!   by `CutsIn` in `specs/Vault.antt`). It records just one cut, whether the device did it or not: the device's
 //!   clock as it began, and the sequence that the save then names (`recorded`, `newest`). Nobody but these two
 //!   calls can add a tie or a cut ([`Records`]), so none is recorded late. [`Vault::is_whole`] tells a vault with
-//!   two log files for each of eight workers; laws of vaults stand in `specs/Cuts.antt`.
+//!   two log files for each of eight workers; laws of vaults stand in `specs/Cuts.antt`. [`Vault::sync_in`] syncs one
+//!   device (`synced`, by `SyncsIn`).
 //! - [`Journal::flush`] and [`Journal::room`]: after `Ok` every crash image begins with all bytes that were
 //!   made durable (`durable` of the record `Flushes`, in `specs/Flushes.antt`), and over later calls, whatever
 //!   they answer, the images of every moment keep beginning with them (`stays`), until the log file is cut.
@@ -45,6 +49,7 @@ mod saved;
 mod store_in;
 mod vault;
 mod write_and_sync;
+mod written_again;
 
 pub use journal::{Journal, LogFault};
 pub use laws::one_newest;
@@ -52,3 +57,4 @@ pub use records::{Cut, Records, Tie};
 pub use save::{Save, SaveFault, SaveOpen};
 pub use saved::Saved;
 pub use vault::Vault;
+pub use written_again::write_again;

@@ -1,16 +1,16 @@
 // The store of savepoints: two places, of which one is written while the other counts.
-ghost use Rattle.std.specs.Prelude.{◌≡◌, ◌≢◌, ◌↔◌, ℕ, ◌+◌, ◌-◌, ◌*◌, ◌%◌, ◌^◌, ◌<◌, ◌≤◌, ◌==◌, Option, Ok, Some, None};
+ghost use Rattle.std.specs.Prelude.{◌≡◌, ◌≢◌, ◌↔◌, ◌⊎◌, ℕ, ◌+◌, ◌-◌, ◌*◌, ◌%◌, ◌^◌, ◌<◌, ◌≤◌, ◌==◌, Option, Ok, Some, None};
 ghost use Rattle.std.specs.Prelude.{Err, is_some, length, slice_index, IfOk, IfSome, OnOk, OnErr};
 ghost use Rattle.wire_form.specs.declared.savepoint.Savepoint.{Savepoint};
 ghost use Rattle.outside.specs.Disk.{IfTold, Same, Goes, Only, Runs};
 ghost use Rattle.wire_form.specs.Savepoint.{IsSavepoint, valid_byte};
 ghost use Rattle.log_writer.specs.Points.{IsSaved, sequence_of};
 ghost use Rattle.outside.specs.Faults.{HasCause};
-ghost use Rattle.log_writer.specs.Save.{place_in, HasPoint, newer, IsBroken, IsDamaged, IsStored, NamesOldOrNew, closed, ClosedOrTorn};
-ghost use Rattle.log_writer.specs.Stores.{Blames, Finds, Stores};
+ghost use Rattle.log_writer.specs.Save.{place_in, HasPoint, newer, IsBroken, IsDamaged, IsStored, Names, NamesOldOrNew, closed, ClosedOrTorn};
+ghost use Rattle.log_writer.specs.Stores.{Blames, Finds, RoseTwice, Stores};
 
 use crate::Saved;
-use crate::write_and_sync::write_and_sync;
+use crate::write_and_sync::{write_and_sync, write_or_take_back};
 use outside::{Disk, Failed};
 use std::marker::Model;
 use wire_form::{NoSavepoint, Savepoint, read_savepoint, write_savepoint};
@@ -19,10 +19,13 @@ use wire_form::{NoSavepoint, Savepoint, read_savepoint, write_savepoint};
 const SIZE: u64 = 1024;
 
 /// The size of each of its two places.
-const PLACE: u64 = 512;
+pub(crate) const PLACE: u64 = 512;
 
 /// The valid byte of an open place.
 const VALID: u8 = 0xA5;
+
+/// What is written over the valid byte of a place that is closed.
+const CLOSED: u8 = 0;
 
 /// The last sequence.
 const LAST: u64 = (1 << 63) - 1;
@@ -67,7 +70,7 @@ impl Model for Save {
 }
 
 // The place that a sequence is stored in: 0 for an odd one, and 1 for an even one.
-fn place_of(sequence: u64) -> u64
+pub(crate) fn place_of(sequence: u64) -> u64
     ensures place { result + sequence % 2 ≡ 1 }
 {
     1 - sequence % 2
@@ -84,6 +87,7 @@ fn read_place<D: Disk>(disk: &mut D, place: u8) -> Result<Option<Savepoint>, Sav
         → IfTold (D.tells disk.old) (λ file. length file ≡ 1024
         → IsBroken place (place_in file place) × (at ≡ 512 * place)) }
     ensures told { D.tells disk.new ≡ D.tells disk.old }
+    ensures settled { D.settled disk.old → D.settled disk.new }
     ensures moments { Goes D.clock D.image_at Same disk.old disk.new }
     ensures faults { Blames D.faults disk.old disk.new result }
 {
@@ -121,6 +125,8 @@ fn close<D: Disk>(disk: &mut D, at: u64) -> Result<(), Failed>
         D.tells disk.new ≡ Some (closed at file))) }
     ensures durable { OnOk result (IfTold (D.tells disk.old) (λ file.
         Only D.clock D.image_at disk.new (closed at file))) }
+    ensures torn { OnErr result (IfTold (D.tells disk.old) (λ file.
+        IfTold (D.tells disk.new) (ClosedOrTorn at file))) }
     ensures told { is_some (D.tells disk.new) ≡ is_some (D.tells disk.old) }
     ensures any_moment { IfTold (D.tells disk.old) (λ file. Only D.clock D.image_at disk.old file
         → Runs D.clock D.image_at disk.old disk.new (ClosedOrTorn at file)) }
@@ -128,17 +134,18 @@ fn close<D: Disk>(disk: &mut D, at: u64) -> Result<(), Failed>
 {
     let found = is_open(disk, at)?;
     if found {
-        return write_and_sync(disk, at, &[0]);
+        return write_or_take_back(disk, at, CLOSED, VALID);
     }
     disk.sync()
 }
 
 // Whether the place is open that begins at this byte.
-fn is_open<D: Disk>(disk: &mut D, at: u64) -> Result<bool, Failed>
+pub(crate) fn is_open<D: Disk>(disk: &mut D, at: u64) -> Result<bool, Failed>
     requires { IfTold (D.tells disk.old) (λ file. at < length file) }
     ensures is { IfOk result (λ found. IfTold (D.tells disk.old) (λ file.
         found ≡ (slice_index file at == valid_byte))) }
     ensures told { D.tells disk.new ≡ D.tells disk.old }
+    ensures settled { D.settled disk.old → D.settled disk.new }
     ensures moments { Goes D.clock D.image_at Same disk.old disk.new }
     ensures cause { HasCause (D.faults disk.old) (D.faults disk.new) result }
 {
@@ -156,6 +163,7 @@ impl Save {
         ensures damaged { (at : ℕ) → result ≡ Err (SaveOpen.Damaged at)
             → IfTold (D.tells disk.old) (λ file. IsDamaged file at) }
         ensures told { D.tells disk.new ≡ D.tells disk.old }
+        ensures settled { D.settled disk.old → D.settled disk.new }
         ensures moments { Goes D.clock D.image_at Same disk.old disk.new }
         ensures faults { Blames D.faults disk.old disk.new result }
     {
@@ -194,6 +202,8 @@ impl Save {
         ensures any_moment { IfTold (D.tells disk.old) (λ _. Runs D.clock D.image_at
             disk.old disk.new
             (NamesOldOrNew self.now.newest point.now)) }
+        ensures taken_back { OnErr result (IfTold (D.tells disk.old) (λ _. IfTold (D.tells disk.new)
+            (λ left. Names left self.now.newest ⊎ RoseTwice (D.faults disk.old) (D.faults disk.new)))) }
         ensures told { is_some (D.tells disk.new) ≡ is_some (D.tells disk.old) }
         ensures cause { HasCause (D.faults disk.old) (D.faults disk.new) result }
     {
@@ -202,7 +212,7 @@ impl Save {
         let at = PLACE * place_of(point.sequence);
         close(disk, at)?;
         write_and_sync(disk, at + 1, &place[1..])?;
-        write_and_sync(disk, at, &[VALID])
+        write_or_take_back(disk, at, VALID, CLOSED)
     }
 
     /// Stores the next savepoint. A stop at any moment of it leaves the old one or the new one for the

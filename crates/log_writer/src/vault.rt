@@ -1,7 +1,7 @@
 // The devices of one database, with what was recorded of their use.
 ghost use Rattle.std.specs.Prelude.{◌≡◌, ◌≢◌, ◌↔◌, ◌+◌, ◌<◌, ◌≤◌, ℕ, [], ◌∷◌, ◌++◌, Some, IsSome, IsTrue, length, slice_get};
 ghost use Rattle.log_writer.specs.Save.{IsNewest};
-ghost use Rattle.log_writer.specs.Vault.{disk_in, Cuts, CutsIn, IsWhole};
+ghost use Rattle.log_writer.specs.Vault.{disk_in, Cuts, CutsIn, Syncs, SyncsIn, IsWhole};
 
 use crate::{Cut, Records, Tie};
 use outside::{Device, Disk, Failed};
@@ -50,6 +50,35 @@ impl<D: Disk> Vault<D> {
         let at = self.clock_of(device);
         self.cuts.push(Cut { device, at, after });
         self.cut_device(device)
+    }
+
+    /// Brings what was written to a device to the device itself, by whomever it was written.
+    pub fn sync_in(&mut self, device: Device) -> Result<(), Failed>
+        requires { IsSome (disk_in self.old device) }
+        ensures synced { SyncsIn D.tells D.clock D.image_at D.faults D.settled device
+            self.old self.new result }
+        ensures ties { self.new.ties ≡ self.old.ties }
+        ensures cuts { self.new.cuts ≡ self.old.cuts }
+    {
+        match device {
+            Device::Save => sync_one(&mut self.save),
+            Device::Snaps => sync_one(&mut self.snaps),
+            Device::Bank(number) => self.sync_bank(number),
+        }
+    }
+
+    fn sync_bank(&mut self, number: u8) -> Result<(), Failed>
+        requires { IsSome (disk_in self.old (Device.Bank number)) }
+        ensures synced { SyncsIn D.tells D.clock D.image_at D.faults D.settled (Device.Bank number)
+            self.old self.new result }
+        ensures ties { self.new.ties ≡ self.old.ties }
+        ensures cuts { self.new.cuts ≡ self.old.cuts }
+    {
+        let worker = (number / 2) as usize;
+        if number % 2 == 0 {
+            return sync_at(&mut self.even, worker);
+        }
+        sync_at(&mut self.odd, worker)
     }
 
     fn clock_of(&self, device: Device) -> u64
@@ -115,4 +144,23 @@ fn cut_one<D: Disk>(disks: &mut [D], at: usize) -> Result<(), Failed>
     ensures len { length disks.new ≡ length disks.old }
 {
     disks[at].cut(0)
+}
+
+// Syncs one of some disks, and leaves the others.
+fn sync_at<D: Disk>(disks: &mut [D], at: usize) -> Result<(), Failed>
+    requires { at < length disks.old }
+    ensures synced { (was : D) → slice_get disks.old at ≡ Some was
+        → (now : D) × (slice_get disks.new at ≡ Some now)
+        × Syncs D.tells D.clock D.image_at D.faults D.settled was now result }
+    ensures others { (other : ℕ) → other ≢ at
+        → slice_get disks.new other ≡ slice_get disks.old other }
+    ensures len { length disks.new ≡ length disks.old }
+{
+    sync_one(&mut disks[at])
+}
+
+fn sync_one<D: Disk>(disk: &mut D) -> Result<(), Failed>
+    ensures { Syncs D.tells D.clock D.image_at D.faults D.settled disk.old disk.new result }
+{
+    disk.sync()
 }

@@ -30,6 +30,7 @@ module _ {D : Type 0} {tells : D → Option (List ℕ)} {clock : D → ℕ} {ima
     quiet = stores.quiet;
     device = λ is. absurd cc;
     goes_down = λ is. absurd cc;
+    taken_back = λ is. absurd cc;
     down = λ count. (λ is. absurd cc, λ is. absurd (let never = (stores.down count).1 is in cc));
     limit = λ sequence. (λ is. absurd cc, λ is. absurd (let never = (stores.limit sequence).1 is in cc));
     untouched = λ other. tt;
@@ -51,6 +52,7 @@ module _ {D : Type 0} {tells : D → Option (List ℕ)} {clock : D → ℕ} {ima
     quiet = tt;
     device = λ is. stores.device (let same : fault ≡ Device = cc in ap Err same);
     goes_down = λ is. stores.goes_down (let same : fault ≡ Device = cc in ap Err same);
+    taken_back = λ is. stores.taken_back (let same : fault ≡ Device = cc in ap Err same);
     down = λ count. (
       λ is. (stores.down count).0 (let same : fault ≡ Down count = cc in ap Err same),
       λ is. let refused = (stores.down count).1 is in let same : fault ≡ Down count = cc in ap Err same,

@@ -15,7 +15,6 @@ use Rattle.joint_crashes.specs.Images.{Images, counted_of}
 use Rattle.joint_crashes.specs.JointCrash.{IsJointCrash, IsSince, Moments, Parts}
 use Rattle.joint_crashes.specs.Story.{BankOpen, IsTold, Lasts, StandsFor, Story}
 use Rattle.joint_crashes.specs.Crashes.Standing.{crash_covers, crash_stands}
-use Rattle.joint_crashes.specs.Crashes.ToldSteps.{parts}
 
 -- ---- one log file
 

@@ -1,27 +1,24 @@
 -- From a vault at rest to the store that counts nothing of its log files.
-use Rattle.std.proofs.Common.{◌≡◌, ◌+◌, ◌*◌, ◌<◌, ◌≤◌, inl, inr, ℕ, true, false, List, []}
-use Rattle.std.proofs.Common.{Option, Some, None, length, take, refl, sym, ◌∙◌, ap, subst, arith}
+use Rattle.std.proofs.Common.{◌≡◌, ◌+◌, inl, ℕ, true, false, List, []}
+use Rattle.std.proofs.Common.{Option, Some, length, refl, sym, ◌∙◌, ap, subst, arith}
 use Rattle.std.specs.Prelude.{nat_le, is_some}
 use Rattle.std.specs.List.{Contains}
-use Rattle.std.proofs.lemmas.Bool.{cases_lt}
 use Rattle.std.proofs.lemmas.Bool.Decides.{nat_tests}
 use Rattle.outside.specs.declared.device.Device.TheVariants.{Bank}
 use Rattle.log_writer.specs.declared.records.Tie.{Tie}
 use Rattle.log_writer.specs.declared.records.Cut.{Cut}
-use Rattle.std.proofs.lemmas.List.{length-take-le}
-use Rattle.outside.specs.Disk.{Only, Runs}
-use Rattle.log_writer.specs.Newest.{names_one}
+use Rattle.outside.specs.Disk.{Runs}
 use Rattle.log_writer.specs.Save.{Names}
 use Rattle.joint_crashes.specs.Cutting.{AreReady, ArePast}
 use Rattle.wire_form.specs.declared.savepoint.Savepoint.{Savepoint}
 use Rattle.log_writer.specs.declared.saved.Saved.{Saved}
 use Rattle.log_writer.specs.Points.{sequence_of, point_of}
-use Rattle.lists.specs.Fronts.{IsFront, front_take}
-use Rattle.outside.specs.Fronts.{AllBegin, begins_less}
-use Rattle.joint_crashes.specs.Images.{Images, count_of, counted_of}
+use Rattle.lists.specs.Fronts.{IsFront}
+use Rattle.outside.specs.Fronts.{AllBegin}
+use Rattle.joint_crashes.specs.Images.{Images, counted_of}
 use Rattle.joint_crashes.specs.JointCrash.{Parts, Moments, HasCut, KeepsCrashes}
-use Rattle.joint_crashes.specs.Story.{Story, IsTold, StandsFor}
-use Rattle.joint_crashes.specs.Resting.{IsResting, HasNoRecords, AreTold, AreSettled}
+use Rattle.joint_crashes.specs.Story.{Story, IsTold}
+use Rattle.joint_crashes.specs.Resting.{IsResting, HasNoRecords, AreTold}
 use Rattle.joint_crashes.specs.Settling.{MayStore, RestsOn, story_of}
 use Rattle.joint_crashes.specs.SettleRests.{RestsSince}
 use Rattle.joint_crashes.specs.Crashes.SaveSteps.{save_begun}

@@ -7,7 +7,7 @@ use Rattle.joint_crashes.specs.JointCrash.{parts_of}
 use Rattle.joint_crashes.specs.Cutting.{FaultsStand}
 use Rattle.joint_crashes.specs.VaultReads.{AreQuiet, some_of, quiet_of}
 use Rattle.checkpoints.specs.Files.{has_files, still_files, listed_bank}
-use Rattle.checkpoints.specs.SettleFiles.{all_below}
+use Rattle.joint_crashes.specs.Banks.{all_below}
 use Rattle.checkpoints.proofs.Emptied.{emptied_all}
 use Rattle.checkpoints.proofs.FilesCut.{files_cut}
 use Rattle.checkpoints.proofs.at_rest.cut_uncounted.Goals as goal

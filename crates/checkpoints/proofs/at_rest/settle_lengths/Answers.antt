@@ -5,7 +5,7 @@ use Rattle.log_writer.specs.Counted.{nothing_counted}
 use Rattle.log_writer.specs.Cuts.{whole_bank}
 use Rattle.joint_crashes.specs.JointCrash.{parts_of}
 use Rattle.checkpoints.specs.Files.{has_files, still_files, listed_bank}
-use Rattle.checkpoints.specs.SettleFiles.{all_below}
+use Rattle.joint_crashes.specs.Banks.{all_below}
 use Rattle.checkpoints.specs.StoreAnswers.{store_answers}
 use Rattle.checkpoints.proofs.Emptied.{stands_stored}
 use Rattle.checkpoints.proofs.LengthsStored.{lengths_stored}

@@ -11,7 +11,7 @@ use Rattle.log_writer.specs.Vault.{IsWhole}
 use Rattle.log_writer.specs.Points.{sequence_of}
 use Rattle.snapshot_store.specs.Store.{HoldsPages, bytes_of_pages}
 use Rattle.checkpoints.specs.Files.{listed_bank}
-use Rattle.checkpoints.specs.SettleFiles.{all_below}
+use Rattle.joint_crashes.specs.Banks.{all_below}
 use Rattle.checkpoints.specs.FreshLaws.{zero_at}
 use Rattle.joint_crashes.specs.JointCrash.{parts_of}
 use Rattle.joint_crashes.specs.VaultReads.{quiet_of}

@@ -34,28 +34,28 @@ returns-in_err-found-clause-cause g c =
 
 pub returns-then-found-clause-closed : goal.returns-then-found-clause-closed
 returns-then-found-clause-closed g c =
-    closed_by (λ (f : List ℕ). g.D.Disk.tells c.write_and_sync.new.disk ≡ Some f) (g.D.Disk.tells c.args.disk.now)
-    (g.D.Disk.tells c.is_open.new.disk) c.args.at c.in_ok-found.found c.write_and_sync.result c.is_open.ensures.told
-    c.in_ok-found.ensures.is c.if-found.true c.write_and_sync.ensures.written
+    closed_by (λ (f : List ℕ). g.D.Disk.tells c.write_or_take_back.new.disk ≡ Some f) (g.D.Disk.tells c.args.disk.now)
+    (g.D.Disk.tells c.is_open.new.disk) c.args.at c.in_ok-found.found c.write_or_take_back.result c.is_open.ensures.told
+    c.in_ok-found.ensures.is c.if-found.true c.write_or_take_back.ensures.written
 
 pub returns-then-found-clause-durable : goal.returns-then-found-clause-durable
 returns-then-found-clause-durable g c =
-    closed_by (Only g.D.Disk.clock g.D.Disk.image_at c.write_and_sync.new.disk) (g.D.Disk.tells c.args.disk.now)
-    (g.D.Disk.tells c.is_open.new.disk) c.args.at c.in_ok-found.found c.write_and_sync.result c.is_open.ensures.told
-    c.in_ok-found.ensures.is c.if-found.true c.write_and_sync.ensures.durable
+    closed_by (Only g.D.Disk.clock g.D.Disk.image_at c.write_or_take_back.new.disk) (g.D.Disk.tells c.args.disk.now)
+    (g.D.Disk.tells c.is_open.new.disk) c.args.at c.in_ok-found.found c.write_or_take_back.result c.is_open.ensures.told
+    c.in_ok-found.ensures.is c.if-found.true c.write_or_take_back.ensures.durable
 
 pub returns-then-found-clause-told : goal.returns-then-found-clause-told
-returns-then-found-clause-told g c = c.write_and_sync.ensures.through.told ∙ ap is_some c.is_open.ensures.told
+returns-then-found-clause-told g c = c.write_or_take_back.ensures.told ∙ ap is_some c.is_open.ensures.told
 
 pub returns-then-found-clause-any_moment : goal.returns-then-found-clause-any_moment
 returns-then-found-clause-any_moment g c file told only =
     written_then c.args.at file c.in_ok-found.found (c.in_ok-found.ensures.is file told) c.if-found.true
-    c.is_open.ensures.moments c.write_and_sync.ensures.through.moments only
+    c.is_open.ensures.moments c.write_or_take_back.ensures.moments only
 
 pub returns-then-found-clause-cause : goal.returns-then-found-clause-cause
 returns-then-found-clause-cause g c =
-    subst (λ n. HasCause n (g.D.Disk.faults c.write_and_sync.new.disk) c.write_and_sync.result)
-    c.in_ok-found.ensures.cause.quiet c.write_and_sync.ensures.cause
+    subst (λ n. HasCause n (g.D.Disk.faults c.write_or_take_back.new.disk) c.write_or_take_back.result)
+    c.in_ok-found.ensures.cause.quiet c.write_or_take_back.ensures.cause
 
 -- ---- it is closed
 

@@ -84,7 +84,9 @@ prints what the database keeps.
 
 const DEVICE: &str = "\
 The file of that name in the folder vault can't be had, or reading, writing or syncing it failed. What a `durable` line
-told is kept. Once the file can be had again, `foedus dump` prints what the database keeps; then call for the rest.
+told is kept. Once the file can be had again, `foedus dump` prints what the database keeps; then call for the rest. But
+where a sync failed, look at the disk before: the system may show what never reached it. Copy the folder to another disk
+and go on there, or start the machine again, which forgets what is only shown.
 ";
 
 const DAMAGED: &str = "\

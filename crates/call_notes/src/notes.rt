@@ -2,6 +2,7 @@
 use crate::faulty_line::fault_lines;
 use crate::refused_words::reason;
 use crate::script_source::Remembers;
+use crate::shown::shown;
 use database_files::{Access, NotOpened, Opened, Why, device_path};
 use log_writer::Vault;
 use outside::{Device, FileDisk, Sink};
@@ -74,6 +75,10 @@ fn cause(alloc: Global, folder: &str, device: Device, why: &Why) -> Result<Strin
         Why::System(error) => system_cause(alloc, path.as_str(), *error),
         Why::Locked => told_of(alloc, path.as_str(), LOCKED),
         Why::Lost => told_of(alloc, path.as_str(), LOST),
+        Why::Misplaced(other) => misplaced_told(alloc, path.as_str(), other.as_str()),
+        Why::NoFile => told_of(alloc, path.as_str(), NO_FILE),
+        Why::Same(other) => same_told(alloc, folder, path.as_str(), *other),
+        Why::SeveralNames => several_told(alloc, folder, path.as_str()),
         Why::Closed => told_of(alloc, path.as_str(), CLOSED),
     }
 }
@@ -84,6 +89,37 @@ const LOCKED: &str = ": another process has the database open";
 const LOST: &str =
     " is missing, and other files of the database have bytes: put back a copy of the folder whose \
     files are all of one moment, or remove it";
+
+const NO_FILE: &str =
+    " is no regular file but a folder, a pipe, a link or a device, and isn't opened: put the file itself in its place, \
+    or a copy of the folder whose files are all of one moment";
+
+// That the savepoint is missing, and which file has one.
+fn misplaced_told(alloc: Global, path: &str, other: &str) -> Result<String, AllocError> {
+    let other = shown(alloc, other.as_bytes())?;
+    format!(in alloc;
+        "foedus: {path} is missing, and other files of the database have bytes; {other} has a savepoint: if it is of \
+        one moment with them, give it its name back (mv '{other}' {path}), else put back a copy of the folder whose \
+        files are all of one moment\n"
+    )
+}
+
+// That two devices have the same file.
+fn same_told(alloc: Global, folder: &str, path: &str, other: Device) -> Result<String, AllocError> {
+    let other = device_path(alloc, folder, other)?;
+    format!(in alloc;
+        "foedus: {path} and {other} are two names of one file: put back a copy of the folder whose files are all of \
+        one moment\n"
+    )
+}
+
+// That a file has other names, of which the folder may have none.
+fn several_told(alloc: Global, folder: &str, path: &str) -> Result<String, AllocError> {
+    format!(in alloc;
+        "foedus: {path} has another name too (a hard link), and a run would change the file under both: put a copy \
+        with bytes in the folder's place (mv {folder} {folder}.linked && cp -r {folder}.linked {folder})\n"
+    )
+}
 
 const CLOSED: &str = ": a standard stream is closed, and the file would take its place";
 

@@ -15,11 +15,27 @@ pub enum Why {
     Locked,
     /// The savepoint is missing, and other files have bytes.
     Lost,
+    /// The same, and the file of this path has a savepoint.
+    Misplaced(String),
+    /// It is no regular file: a folder, a pipe, a link or something else.
+    NoFile,
+    /// It is the file of this device too.
+    Same(Device),
+    /// It has more than one name, and would be written under each.
+    SeveralNames,
     /// Standard streams are closed, and nothing could be put in their places.
     Closed,
 }
 
 impl Why {
+    /// Whether something has that name already.
+    pub(crate) fn is_taken(&self) -> bool {
+        match self {
+            Why::System(error) => error.kind() == ErrorKind::AlreadyExists,
+            _ => false,
+        }
+    }
+
     /// Whether there is no file of that name.
     pub(crate) fn is_missing(&self) -> bool {
         match self {

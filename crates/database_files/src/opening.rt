@@ -4,7 +4,7 @@ ghost use Rattle.std.specs.Fd.{file_raw_fd};
 
 use crate::not_opened::Why;
 use crate::streams::is_apart;
-use std::fs::{self, File, Files, OpenOptions, TryLockError};
+use std::fs::{File, Files, OpenOptions, TryLockError};
 use std::io::{self, ErrorKind};
 
 /// What a call does to the files of a database.
@@ -26,12 +26,12 @@ impl Access {
     }
 }
 
-/// How files that are missing are made.
+/// How files that are missing are made: none is, where something has the name, be it a link to nowhere.
 pub(crate) fn making() -> OpenOptions {
     let mut options = OpenOptions::new();
     options.read(true);
     options.write(true);
-    options.create(true);
+    options.create_new(true);
     options
 }
 
@@ -48,6 +48,32 @@ pub(crate) fn open_apart<R: Files<File = File>>(
         return Ok(file);
     }
     Err(Why::Closed)
+}
+
+/// Opens a file, or makes it where it is missing, and answers whether it was made.
+pub(crate) fn open_or_make<R: Files<File = File>>(
+    rt: &R,
+    access: Access,
+    path: &str,
+) -> Result<(File, bool), Why> {
+    match open_apart(rt, &access.options(), path) {
+        Ok(file) => Ok((file, false)),
+        Err(why) if why.is_missing() => make_or_open(rt, access, path),
+        Err(why) => Err(why),
+    }
+}
+
+// Another process may have made it by now.
+fn make_or_open<R: Files<File = File>>(
+    rt: &R,
+    access: Access,
+    path: &str,
+) -> Result<(File, bool), Why> {
+    match open_apart(rt, &making(), path) {
+        Ok(file) => Ok((file, true)),
+        Err(why) if why.is_taken() => Ok((open_apart(rt, &access.options(), path)?, false)),
+        Err(why) => Err(why),
+    }
 }
 
 /// Keeps other processes from a file until it is closed, also by the end of this one.
@@ -68,11 +94,16 @@ pub(crate) fn sync_folder<R: Files<File = File>>(rt: &R, folder: &str) -> io::Re
     File::open(rt, folder)?.sync_all()
 }
 
-/// Whether there is a file with bytes.
-pub(crate) fn has_bytes<R: Files<File = File>>(rt: &R, path: &str) -> io::Result<bool> {
-    match fs::metadata(rt, path) {
-        Ok(metadata) => Ok(metadata.is_file() && metadata.len() > 0),
-        Err(error) if error.kind() == ErrorKind::NotFound => Ok(false),
+/// Brings the name of a folder itself to the device, which the folder around it has. Where that may not be read it is
+/// passed over, unless the folder was made just now.
+pub(crate) fn sync_around<R: Files<File = File>>(
+    rt: &R,
+    around: &str,
+    was_made: bool,
+) -> io::Result<()> {
+    match File::open(rt, around) {
+        Ok(folder) => folder.sync_all(),
+        Err(error) if error.kind() == ErrorKind::PermissionDenied && !was_made => Ok(()),
         Err(error) => Err(error),
     }
 }

@@ -1,2 +1,3 @@
+mod Here
 mod Handed
 mod Statuses

@@ -9,8 +9,10 @@ ghost use Rattle.program_calls.specs.Causes.{AnswersFaults, LeavesVault};
 ghost use Rattle.program_calls.specs.OnTheWay.{Explains, IsEarly, IsExit, TellsEnding};
 ghost use Rattle.program_calls.specs.TopAnswers.{sinks_of};
 ghost use Rattle.program_entry.specs.Endings.{ending_unopened};
-ghost use Rattle.program_entry.specs.Entry.{AnsweredAlone, AnsweredOver, InOneOf, OrEarly};
+ghost use Rattle.program_entry.specs.Entry.{AnsweredAlone, AnsweredOver, InOneOf, IsOpenedFor, MayChange, OrEarly};
 
+use crate::over::{list_over, run_over};
+use crate::told::tell;
 use call_notes::{
     Asked, Counts, Remembers, USAGE, explanation, tell_causes, tell_faulty_line, tell_no_text,
     tell_not_opened, tell_opened, tell_refused, tell_refused_lines,
@@ -20,7 +22,7 @@ use database_files::{Access, NotOpened, fill_places, no_vault, open_vault};
 use lists::Memory;
 use log_writer::Vault;
 use outside::{Disk, FileDisk, MemDisk, Sink, Source};
-use program_calls::{Ending, Watcher, finish, status_told, top};
+use program_calls::{Ending, Watcher, top};
 use std::alloc::{AllocError, Global};
 use std::env::{self, Env};
 use std::fs::{File, Files};
@@ -28,7 +30,6 @@ use std::io::ErrorKind;
 use std::process::ExitCode;
 use std::sync::Wait;
 use std::thread::Threads;
-use text_output::Printer;
 
 /// The words of the command line. Words that aren't UTF-8 ask for nothing that the program does.
 pub fn read_args(rt: &(impl Env + AllocGlobal)) -> Result<Vec<String>, Ending>
@@ -74,10 +75,12 @@ where
         (E.faults errors.old) (E.faults errors.new) }
     ensures quiet { exit_status result ≡ 0 → errors.new ≡ errors.old }
     // The words come to what `top` promises of them, over the files of the folder, or over none where they leave these
-    // alone; or it is told which file can't be had, or that memory was wanted. Words that can't be had come to theirs.
+    // alone; or it is told which file can't be had, synced or written again, or that memory was wanted. Words that can't
+    // be had come to theirs.
     ensures answered { IfOk words (λ words. OrEarly (InOneOf
-        (AnsweredOver ⟦<FileDisk as Disk>⟧.tells ⟦<FileDisk as Disk>⟧.clock
-        ⟦<FileDisk as Disk>⟧.image_at ⟦<FileDisk as Disk>⟧.faults (map string_bytes words.items)
+        (AnsweredOver ⟦<FileDisk as Disk>⟧.settled ⟦<FileDisk as Disk>⟧.tells
+        ⟦<FileDisk as Disk>⟧.clock ⟦<FileDisk as Disk>⟧.image_at ⟦<FileDisk as Disk>⟧.faults
+        (map string_bytes words.items)
         (sources_of S.left S.faults source.old source.new))
         (AnsweredAlone ⟦<MemDisk as Disk>⟧.tells ⟦<MemDisk as Disk>⟧.clock
         ⟦<MemDisk as Disk>⟧.image_at ⟦<MemDisk as Disk>⟧.faults (map string_bytes words.items)
@@ -111,8 +114,9 @@ where
         (record { before = S.faults source.old; after = S.faults source.new })
         (record { before = K.faults sink.old; after = K.faults sink.new }) result }
     ensures answered { IfOk words (λ words. OrEarly (InOneOf
-        (AnsweredOver ⟦<FileDisk as Disk>⟧.tells ⟦<FileDisk as Disk>⟧.clock
-        ⟦<FileDisk as Disk>⟧.image_at ⟦<FileDisk as Disk>⟧.faults (map string_bytes words.items)
+        (AnsweredOver ⟦<FileDisk as Disk>⟧.settled ⟦<FileDisk as Disk>⟧.tells
+        ⟦<FileDisk as Disk>⟧.clock ⟦<FileDisk as Disk>⟧.image_at ⟦<FileDisk as Disk>⟧.faults
+        (map string_bytes words.items)
         (sources_of S.left S.faults source.old source.new))
         (AnsweredAlone ⟦<MemDisk as Disk>⟧.tells ⟦<MemDisk as Disk>⟧.clock
         ⟦<MemDisk as Disk>⟧.image_at ⟦<MemDisk as Disk>⟧.faults (map string_bytes words.items)
@@ -157,8 +161,9 @@ where
         (record { before = S.faults source.old; after = S.faults source.new })
         (record { before = K.faults sink.old; after = K.faults sink.new }) result }
     ensures answered { OrEarly (InOneOf
-        (AnsweredOver ⟦<FileDisk as Disk>⟧.tells ⟦<FileDisk as Disk>⟧.clock
-        ⟦<FileDisk as Disk>⟧.image_at ⟦<FileDisk as Disk>⟧.faults (map string_bytes words.now)
+        (AnsweredOver ⟦<FileDisk as Disk>⟧.settled ⟦<FileDisk as Disk>⟧.tells
+        ⟦<FileDisk as Disk>⟧.clock ⟦<FileDisk as Disk>⟧.image_at ⟦<FileDisk as Disk>⟧.faults
+        (map string_bytes words.now)
         (sources_of S.left S.faults source.old source.new))
         (AnsweredAlone ⟦<MemDisk as Disk>⟧.tells ⟦<MemDisk as Disk>⟧.clock
         ⟦<MemDisk as Disk>⟧.image_at ⟦<MemDisk as Disk>⟧.faults (map string_bytes words.now)
@@ -188,8 +193,9 @@ where
         (record { before = S.faults source.old; after = S.faults source.new })
         (record { before = K.faults sink.old; after = K.faults sink.new }) result }
     ensures answered { OrEarly (InOneOf
-        (AnsweredOver ⟦<FileDisk as Disk>⟧.tells ⟦<FileDisk as Disk>⟧.clock
-        ⟦<FileDisk as Disk>⟧.image_at ⟦<FileDisk as Disk>⟧.faults (map (λ word. word.now) words.now)
+        (AnsweredOver ⟦<FileDisk as Disk>⟧.settled ⟦<FileDisk as Disk>⟧.tells
+        ⟦<FileDisk as Disk>⟧.clock ⟦<FileDisk as Disk>⟧.image_at ⟦<FileDisk as Disk>⟧.faults
+        (map (λ word. word.now) words.now)
         (sources_of S.left S.faults source.old source.new))
         (AnsweredAlone ⟦<MemDisk as Disk>⟧.tells ⟦<MemDisk as Disk>⟧.clock
         ⟦<MemDisk as Disk>⟧.image_at ⟦<MemDisk as Disk>⟧.faults (map (λ word. word.now) words.now)
@@ -220,12 +226,14 @@ fn answer_run<R, S: Source + Remembers, K: Sink + Counts, N: Sink, G: Watcher + 
 ) -> u8
 where
     R: Threads + Wait + Sync + Files<File = File> + AllocGlobal,
+    requires changes { MayChange (command_of (map (λ word. word.now) words.now)) }
     ensures statuses { IsExit result }
     ensures faults { AnswersFaults
         (record { before = S.faults source.old; after = S.faults source.new })
         (record { before = K.faults sink.old; after = K.faults sink.new }) result }
-    ensures answered { OrEarly (AnsweredOver ⟦<FileDisk as Disk>⟧.tells ⟦<FileDisk as Disk>⟧.clock
-        ⟦<FileDisk as Disk>⟧.image_at ⟦<FileDisk as Disk>⟧.faults (map (λ word. word.now) words.now)
+    ensures answered { OrEarly (AnsweredOver ⟦<FileDisk as Disk>⟧.settled ⟦<FileDisk as Disk>⟧.tells
+        ⟦<FileDisk as Disk>⟧.clock ⟦<FileDisk as Disk>⟧.image_at ⟦<FileDisk as Disk>⟧.faults
+        (map (λ word. word.now) words.now)
         (sources_of S.left S.faults source.old source.new))
         (sinks_of K.held K.faults sink.old sink.new) result }
 {
@@ -260,12 +268,14 @@ fn answer_listing<R, S: Source, K: Sink, N: Sink, G: Watcher + Sync>(
 ) -> u8
 where
     R: Threads + Wait + Sync + Files<File = File> + AllocGlobal,
+    requires lists { MayChange (command_of (map (λ word. word.now) words.now)) → ⊥ }
     ensures statuses { IsExit result }
     ensures faults { AnswersFaults
         (record { before = S.faults source.old; after = S.faults source.new })
         (record { before = K.faults sink.old; after = K.faults sink.new }) result }
-    ensures answered { OrEarly (AnsweredOver ⟦<FileDisk as Disk>⟧.tells ⟦<FileDisk as Disk>⟧.clock
-        ⟦<FileDisk as Disk>⟧.image_at ⟦<FileDisk as Disk>⟧.faults (map (λ word. word.now) words.now)
+    ensures answered { OrEarly (AnsweredOver ⟦<FileDisk as Disk>⟧.settled ⟦<FileDisk as Disk>⟧.tells
+        ⟦<FileDisk as Disk>⟧.clock ⟦<FileDisk as Disk>⟧.image_at ⟦<FileDisk as Disk>⟧.faults
+        (map (λ word. word.now) words.now)
         (sources_of S.left S.faults source.old source.new))
         (sinks_of K.held K.faults sink.old sink.new) result }
 {
@@ -277,7 +287,7 @@ where
     answer_over(rt, words, asked, source, sink, notes, gate)
 }
 
-/// Calls `top` over the database in a folder.
+/// Opens the database in a folder as it is asked for, and calls `top` over it.
 fn answer_over<R, S: Source, K: Sink, N: Sink, G: Watcher + Sync>(
     rt: &R,
     words: &[&str],
@@ -289,19 +299,29 @@ fn answer_over<R, S: Source, K: Sink, N: Sink, G: Watcher + Sync>(
 ) -> u8
 where
     R: Threads + Wait + Sync + Files<File = File> + AllocGlobal,
+    requires asked { IsOpenedFor (command_of (map (λ word. word.now) words.now)) asked.access }
     ensures statuses { IsExit result }
     ensures faults { AnswersFaults
         (record { before = S.faults source.old; after = S.faults source.new })
         (record { before = K.faults sink.old; after = K.faults sink.new }) result }
-    ensures answered { OrEarly (AnsweredOver ⟦<FileDisk as Disk>⟧.tells ⟦<FileDisk as Disk>⟧.clock
-        ⟦<FileDisk as Disk>⟧.image_at ⟦<FileDisk as Disk>⟧.faults (map (λ word. word.now) words.now)
+    ensures answered { OrEarly (AnsweredOver ⟦<FileDisk as Disk>⟧.settled ⟦<FileDisk as Disk>⟧.tells
+        ⟦<FileDisk as Disk>⟧.clock ⟦<FileDisk as Disk>⟧.image_at ⟦<FileDisk as Disk>⟧.faults
+        (map (λ word. word.now) words.now)
         (sources_of S.left S.faults source.old source.new))
         (sinks_of K.held K.faults sink.old sink.new) result }
 {
     match open_vault(rt, rt.alloc(), asked.folder, asked.access) {
         Ok(mut opened) => {
             tell_opened(rt.alloc(), notes, asked, &opened);
-            let status = call_over(rt, words, source, sink, &mut opened.vault, gate);
+            let status = call_over(
+                rt,
+                words,
+                asked.access,
+                source,
+                sink,
+                &mut opened.vault,
+                gate,
+            );
             tell_causes(rt.alloc(), notes, asked.folder, &opened.vault);
             status
         }
@@ -323,10 +343,11 @@ fn ending_of(error: &NotOpened) -> Ending
     }
 }
 
-/// Calls `top` over a database that was opened.
+/// Calls `top` over a database that was opened for it.
 fn call_over<R, S: Source, K: Sink, G: Watcher + Sync>(
     rt: &R,
     words: &[&str],
+    access: Access,
     source: &mut S,
     sink: &mut K,
     vault: &mut Vault<FileDisk>,
@@ -335,16 +356,20 @@ fn call_over<R, S: Source, K: Sink, G: Watcher + Sync>(
 where
     R: Threads + Wait + Sync + AllocGlobal,
     requires whole { IsWhole vault.old }
+    requires asked { IsOpenedFor (command_of (map (λ word. word.now) words.now)) access }
     ensures statuses { IsExit result }
     ensures faults { AnswersFaults
         (record { before = S.faults source.old; after = S.faults source.new })
         (record { before = K.faults sink.old; after = K.faults sink.new }) result }
-    ensures answered { AnsweredOver ⟦<FileDisk as Disk>⟧.tells ⟦<FileDisk as Disk>⟧.clock
-        ⟦<FileDisk as Disk>⟧.image_at ⟦<FileDisk as Disk>⟧.faults (map (λ word. word.now) words.now)
-        (sources_of S.left S.faults source.old source.new)
+    ensures answered { AnsweredOver ⟦<FileDisk as Disk>⟧.settled ⟦<FileDisk as Disk>⟧.tells
+        ⟦<FileDisk as Disk>⟧.clock ⟦<FileDisk as Disk>⟧.image_at ⟦<FileDisk as Disk>⟧.faults
+        (map (λ word. word.now) words.now) (sources_of S.left S.faults source.old source.new)
         (sinks_of K.held K.faults sink.old sink.new) result }
 {
-    top(rt, rt.alloc(), words, source, sink, vault, gate)
+    match access {
+        Access::Alone => run_over(rt, words, source, sink, vault, gate),
+        Access::Shared => list_over(rt, words, source, sink, vault, gate),
+    }
 }
 
 /// Calls `top` with words that leave the database alone, over none. No file is opened or made: a script is often made
@@ -383,17 +408,6 @@ fn texts(alloc: Global, words: &[String]) -> Result<Vec<&str>, AllocError>
         texts.push(word.as_str())?;
     }
     Ok(texts)
-}
-
-/// Prints how a call ends that doesn't reach `top`, and answers the status.
-fn tell<K: Sink>(sink: &mut K, ending: Ending) -> u8
-    ensures { TellsEnding ending (record { before = K.faults sink.old; after = K.faults sink.new })
-        (K.held sink.old) (K.held sink.new) result }
-{
-    let mut printer = Printer::new(sink);
-    let outcome = finish(&mut printer, ending);
-    let _ = printer.into_sink();
-    status_told(outcome)
 }
 
 /// Explains a status other than 0. The answer stands on standard output, so where this can't be written nothing is

@@ -1,17 +1,15 @@
--- What `top` promises of the call; each of its statuses is one of the program's.
+-- The call came to this over the files.
 use Rattle.program_entry.proofs.Handed.{called}
-use Rattle.program_entry.proofs.Statuses.{exit_of}
 use Rattle.program_entry.proofs.entry.call_over.Goals as goal
 
-pub returns-clause-statuses : goal.returns-clause-statuses
-returns-clause-statuses g c = exit_of _ _ c.top.ensures.answers.statuses
+pub run_over-requires-clause-changes : goal.run_over-requires-clause-changes
+run_over-requires-clause-changes g c κs within = rw c.in-Alone.is at c.requires.asked
 
-pub returns-clause-faults : goal.returns-clause-faults
-returns-clause-faults g c = c.top.ensures.answers.faults
+pub list_over-requires-clause-lists : goal.list_over-requires-clause-lists
+list_over-requires-clause-lists g c κs within = rw c.in-Shared.is at c.requires.asked
 
-pub returns-clause-answered : goal.returns-clause-answered
-returns-clause-answered g c = called c.args.vault.now c.top.new.vault (record {
-  answers = c.top.ensures.answers;
-  asked = c.top.ensures.asked;
-  complete = c.top.ensures.complete;
-})
+pub returns-in-Alone-clause-answered : goal.returns-in-Alone-clause-answered
+returns-in-Alone-clause-answered g c = called c.args.vault.now c.run_over.new.vault c.run_over.ensures.answered
+
+pub returns-in-Shared-clause-answered : goal.returns-in-Shared-clause-answered
+returns-in-Shared-clause-answered g c = called c.args.vault.now c.list_over.new.vault c.list_over.ensures.answered

@@ -7,7 +7,10 @@ use lib.ListN.{get_elem?}
 use Rattle.atomic_table.specs.Table.{Me, Allows, step}
 use Rattle.lists.specs.Fronts.{front_refl}
 use Rattle.commit_core.specs.declared.seat.Seat.{Seat}
+use Rattle.commit_core.specs.CoreState.{clock_of}
 use Rattle.commit_core.specs.Law.{SoundIsSerial}
+use Rattle.commit_core.specs.Sound.Numbers.{OrderedNumbers}
+use Rattle.commit_core.specs.Sound.Reads.{PartsArePast}
 use Rattle.views.specs.Changes.{each_at}
 use Rattle.engine_pages.specs.declared.layout.Layout.{Layout}
 use Rattle.engine_pages.specs.declared.view.Role.TheVariants.{Keeper}
@@ -136,6 +139,15 @@ counts laws serial l slots id me active =
       count = sym h.shown.decisions;
       drawn = h.joint.commits.story.ordered_numbers.decided_drawn;
       once = h.joint.commits.story.ordered_numbers.decided_once;
+      epoch = m.epoch;
+      later = f.low;
+      keepers = λ keeper. let high = (f.keepers keeper).epoch in let low = f.low in omega (arith, high, low);
+      ordered = subst (λ (x : Layout). OrderedNumbers x.opening m.history m.decided (clock_of x.first.draw m.epoch m.history))
+          (sym b.own.layout)
+          (subst (λ (n : ℕ). OrderedNumbers l.opening m.history m.decided (clock_of n m.epoch m.history)) h.first
+          h.joint.commits.story.ordered_numbers);
+      past = subst (λ (x : Layout). PartsArePast x.opening m.history) (sym b.own.layout)
+          h.joint.commits.story.parts_are_past;
       serial = subst (λ (x : Layout). AreSerial x.opening m.history m.decided) (sym b.own.layout)
           record { run = commits.run; reads = commits.reads };
       all = λ keeper none. all_own l words views s id v h b.at keeper none;

@@ -1,14 +1,15 @@
 -- What a load of the count of decisions tells.
-use Rattle.std.specs.Prelude.{◌≡◌, ℕ, ◌<◌, true, filter, List, [], length, get_or, Contains}
+use Rattle.std.specs.Prelude.{◌≡◌, ℕ, ◌<◌, ◌≤◌, true, filter, List, [], length, get_or, Contains}
 use Rattle.atomic_table.specs.Table.{Step}
 use Rattle.lists.specs.Fronts.{IsFront}
 use Rattle.serial_model.specs.declared.key.Key.{Key}
 use Rattle.serial_model.specs.declared.number.Number.{Number}
 use Rattle.homes.specs.declared.places.Content.{Content}
 use Rattle.commit_core.specs.declared.attempt.Attempt.{Attempt}
-use Rattle.commit_core.specs.CoreState.{is_decided}
+use Rattle.commit_core.specs.CoreState.{clock_of, is_decided}
 use Rattle.commit_core.specs.Serial.{ReadsAreSerial, ReadsFrom, state_below}
-use Rattle.commit_core.specs.Sound.Numbers.{EachOnce}
+use Rattle.commit_core.specs.Sound.Numbers.{EachOnce, OrderedNumbers}
+use Rattle.commit_core.specs.Sound.Reads.{PartsArePast}
 use Rattle.views.specs.Sums.{times, total}
 use Rattle.engine_pages.specs.declared.view.Met.{Met}
 use Rattle.engine_pages.specs.declared.view.Role.TheVariants.{Keeper}
@@ -38,6 +39,14 @@ pub record HasCounted (v : View) (n : ℕ) (w : View) : Type 0 where
   pub drawn : (number : Number) → is_decided w.decided number ≡ true
       → (a : Attempt) × Contains w.history a × (a.number ≡ number)
   pub once : EachOnce w.decided
+  -- The numbers of all that were drawn rise strictly, above those of what stood at keys at first, and are below the
+  -- clock's; that is in an epoch which is none below the one that was seen, and for the keeper in that one.
+  pub epoch : ℕ
+  pub later : v.epoch ≤ epoch
+  pub keepers : v.role ≡ Keeper → epoch ≡ v.epoch
+  pub ordered : OrderedNumbers v.layout.opening w.history w.decided (clock_of v.layout.first.draw epoch w.history)
+  -- Each attempt, decided or not, had read what stood at first or was written with a number below its own.
+  pub past : PartsArePast v.layout.opening w.history
   pub serial : AreSerial v.layout.opening w.history w.decided
   pub all : v.role ≡ Keeper → v.made ≡ [] → (h : Number → ℕ) → total (λ a. h a.number) v.mine ≡ total h w.decided
   pub draws : v.role ≡ Keeper → v.made ≡ [] → v.draws ≡ length w.history

@@ -1,6 +1,6 @@
 -- How a transaction begins, and how it is given up by its caller.
 use Rattle.std.proofs.Common.{◌≡◌, ℕ, ◌+◌, ◌%◌, ◌^◌, ◌<◌, ◌≤◌, true, false, List, [], ◌∷◌, ◌++◌, length}
-use Rattle.std.proofs.Common.{refl, sym, ap, ◌∙◌, subst, arith, Some, None}
+use Rattle.std.proofs.Common.{true≢false, refl, sym, ap, ◌∙◌, subst, arith, Some, None}
 use Rattle.std.proofs.lemmas.Bool.Decides.{nat_tests}
 use Rattle.std.proofs.lemmas.List.{append-nil}
 use Rattle.std.specs.Prelude.{Contains, MatchBool, nat_lt}
@@ -193,6 +193,7 @@ refuses_begin v w n over b high =
         mine = ap (λ (y : View). y.mine) is ∙ ap (λ (y : View). y.mine) h.is;
         drew = false;
         draws = let same = draws in omega (arith, same);
+        lost = λ so. absurd (true≢false (sym so));
         marks = ap (λ (y : View). y.seat.marks) is ∙ ap (λ (y : View). y.seat.marks) h.is;
         refused = ap (λ (y : View). y.refused) is
             ∙ ap (λ (y : View). y.refused ++ refusals.NumberLimit n ∷ []) h.is;

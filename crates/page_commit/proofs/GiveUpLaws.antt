@@ -1,9 +1,10 @@
 -- What is left of a transaction that is given up, before its draw or behind it.
 use Rattle.std.proofs.Common.{◌≡◌, inl, inr, ℕ, ◌+◌, ◌<◌, ◌≤◌, Bool, true, false, cond, List, [], ◌∷◌, ◌++◌, length}
-use Rattle.std.proofs.Common.{Some, refl, sym, ap, ◌∙◌, subst, arith}
-use Rattle.std.specs.Prelude.{Contains}
-use Rattle.lists.specs.Elements.{in_none}
-use Rattle.lists.specs.Fronts.{IsFront, front_then, front_refl, front_append}
+use Rattle.std.proofs.Common.{Some, true≢false, refl, sym, ap, ◌∙◌, subst, arith}
+use Rattle.std.specs.Prelude.{Contains, drop}
+use Rattle.std.proofs.lemmas.List.Elements.{Contains-append_left, Contains-append_right}
+use Rattle.lists.specs.Elements.{in_head, in_none}
+use Rattle.lists.specs.Fronts.{IsFront, front_then, front_refl, front_append, front_rest}
 use Rattle.serial_model.specs.declared.number.Change.{Change}
 use Rattle.homes.specs.declared.places.At.{At}
 use Rattle.homes.specs.declared.places.At.TheVariants.{Root, In}
@@ -37,7 +38,7 @@ use Rattle.page_records.specs.Ends.{IsTreeWordAt}
 use Rattle.page_commit.specs.Places.{ground, spot_at, IsKeyAt, IsPointerIn}
 use Rattle.page_commit.specs.Between.{HasSeen}
 use Rattle.page_commit.specs.Live.{HasHolds, IsLive}
-use Rattle.page_commit.specs.Refusing.{HasRefused, TellsOnly}
+use Rattle.page_commit.specs.Refusing.{HasLost, HasRefused, TellsOnly}
 use Rattle.page_commit.specs.Steps.{keys_of, tooks_of, HasLeft, HasLocked, HasLocks, HasUnlocked, HasGivenUp}
 use Rattle.page_commit.specs.Steps.{HasFailed, HasMet, IsFree, TellsOf}
 use Rattle.page_commit.proofs.LeaveLaws.{holds_stay, left_agree, left_holds, same_then, SamePages}
@@ -238,6 +239,12 @@ is_due ws at expected seen v w (inr (inr r)) gone apart h =
 
 -- ---- a refusal
 
+-- what was seen is seen still
+pub in_front : (f l : List Attempt) (b : Attempt) → IsFront f l → Contains f b → Contains l b
+in_front f l b front has =
+    subst (λ (x : List Attempt). Contains x b) (front_rest f l front)
+    (Contains-append_left f (drop (length f) l) b has)
+
 one_told : (why : RefusalCause) (at expected seen : ℕ) (met : List Touch) (v : View) → why ≡ refusals.Conflict at expected seen
     → HasMet at expected seen v → TellsOf why met v → TellsOnly why met
 one_told why at expected seen met v same met-so tells =
@@ -255,10 +262,11 @@ one_told why at expected seen met v same met-so tells =
 -- what a given-up transaction leaves, where the pass's view was this before
 pub refused_from : (why : RefusalCause) (drew : Bool) (sets : Sets) (ws : List Write) (v w x : View) → IsLive sets v
     → SamePages v w → w.role ≡ v.role
-    → HasSeen v w → v.steps ≤ w.steps → w.mine ≡ v.mine → w.draws ≡ v.draws + cond drew 1 0 → w.seat.marks ≡ v.seat.marks → w.refused ≡ v.refused
+    → HasSeen v w → v.steps ≤ w.steps → w.mine ≡ v.mine → w.draws ≡ v.draws + cond drew 1 0
+    → (drew ≡ true → HasLost v w) → w.seat.marks ≡ v.seat.marks → w.refused ≡ v.refused
     → w.blamed ≡ v.blamed → ((met : List Touch) → TellsOf why met w → TellsOnly why met) → HasGivenUp ws why w x
     → HasRefused why v x
-refused_from why drew sets ws v w x live pages role seen since mine draws marks refused blamed told g =
+refused_from why drew sets ws v w x live pages role seen since mine draws lost marks refused blamed told g =
     let h = g.forgot in
     let l = g.left in
     let layout' : x.layout ≡ v.layout =
@@ -301,6 +309,13 @@ refused_from why drew sets ws v w x live pages role seen since mine draws marks 
       mine = ap (λ (y : View). y.mine) l.is ∙ (ap (λ (y : View). y.mine) h ∙ mine);
       drew = drew;
       draws = ap (λ (y : View). y.draws) l.is ∙ (ap (λ (y : View). y.draws) h ∙ draws);
+      lost = λ so. let one = lost so in record {
+        attempt = one.attempt;
+        seat = one.seat;
+        drawn = subst (λ (y : View). Contains y.history one.attempt) (sym l.is)
+            (subst (λ (y : View). Contains y.history one.attempt) (sym h) one.drawn);
+        above = one.above;
+      };
       marks = ap (λ (y : View). y.seat.marks) l.is ∙ (ap (λ (y : View). y.seat.marks) h ∙ (g.marks ∙ marks));
       refused = ap (λ (y : View). y.refused) l.is
           ∙ (ap (λ (y : View). y.refused) h ∙ ap (λ z. z ++ why ∷ []) refused);
@@ -320,6 +335,7 @@ locked_refused why sets ws found at expected seen v w x live h same met g =
     }
     (let more = h.since in let steps = ap (λ (y : View). y.steps) h.is in omega (arith, more, steps))
     (ap (λ (y : View). y.mine) h.is) (let draws = ap (λ (y : View). y.draws) h.is in omega (arith, draws))
+    (λ so. absurd (true≢false (sym so)))
     (ap (λ (y : View). y.seat.marks) h.is) (ap (λ (y : View). y.refused) h.is) (ap (λ (y : View). y.blamed) h.is)
     (λ l tells. one_told why at expected seen l w same met tells) g
 
@@ -369,6 +385,15 @@ failed_refused why sets ws us found changes n at expected seen v w x y z live h 
     failed_since
     (ap (λ (u : View). u.mine) f.is ∙ (ap (λ (u : View). u.mine) d.is ∙ ap (λ (u : View). u.mine) h.is))
     (omega (arith, failed_draws))
+    (λ so. record {
+      attempt = a;
+      seat = ap (λ (u : View). seat_number u.role) h.is;
+      drawn = subst (λ (u : View). Contains u.history a) (sym f.is)
+          (subst (λ (u : View). Contains u.history a) (sym d.is)
+          (Contains-append_right d.all (a ∷ []) a (in_head a [])));
+      above = λ b has. d.above b (in_front v.history d.all b
+          (subst (λ (l : List Attempt). IsFront l d.all) (ap (λ (u : View). u.history) h.is) d.seen) has);
+    })
     (ap (λ (u : View). u.seat.marks) f.is ∙ (settled_marks s
     ∙ (ap (λ (u : View). u.seat.marks) d.is ∙ ap (λ (u : View). u.seat.marks) h.is)))
     (ap (λ (u : View). u.refused) f.is ∙ (ap (λ (u : View). u.refused) d.is ∙ ap (λ (u : View). u.refused) h.is))

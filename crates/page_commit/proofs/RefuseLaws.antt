@@ -2,7 +2,7 @@
 use Rattle.std.proofs.Common.{◌≡◌, inl, inr, ℕ, ◌+◌, ◌≤◌, false}
 use Rattle.std.proofs.Common.{List, [], ◌∷◌, ◌++◌, length, Some}
 use Rattle.std.specs.Prelude.{nat_lt}
-use Rattle.std.proofs.Common.{refl, sym, ap, ◌∙◌, subst, arith, cond}
+use Rattle.std.proofs.Common.{true≢false, refl, sym, ap, ◌∙◌, subst, arith, cond}
 use Rattle.lists.specs.Fronts.{front_then, IsFront}
 use Rattle.serial_model.specs.declared.key.Key.{Key}
 use Rattle.tx_sets.specs.declared.reads.ReadEntry.{ReadEntry}
@@ -29,7 +29,7 @@ use Rattle.page_commit.specs.Calls.{IsWordIn, NeedsPointer, RefusesRead}
 use Rattle.page_commit.specs.Refusing.{HasRefused, IsConflict, IsPointerConflict, TellsOnly}
 use Rattle.page_commit.specs.Steps.{CanRefuse, HasGivenUp, HasLeft, HasUnlocked, TellsOf}
 use Rattle.page_commit.specs.Turning.{OnlyWalked}
-use Rattle.page_commit.proofs.GiveUpLaws.{given_up}
+use Rattle.page_commit.proofs.GiveUpLaws.{given_up, in_front}
 use Rattle.page_commit.proofs.LeaveLaws.{holds_stay, left_agree, left_holds, SamePages}
 use Rattle.page_commit.proofs.LeaveLaws.{left_trees, trees_stay}
 
@@ -111,6 +111,7 @@ walked_refused why sets slots v w x live only holds agree trees told g =
       drew = false;
       draws = let same : x.draws ≡ v.draws =
           ap (λ (y : View). y.draws) l.is ∙ (ap (λ (y : View). y.draws) h ∙ ap (λ (y : View). y.draws) o) in omega (arith, same);
+      lost = λ so. absurd (true≢false (sym so));
       marks = ap (λ (y : View). y.seat.marks) l.is
           ∙ (ap (λ (y : View). y.seat.marks) h ∙ (g.marks ∙ ap (λ (y : View). y.seat.marks) o));
       refused = ap (λ (y : View). y.refused) l.is
@@ -136,6 +137,12 @@ refused_since why v w x only r =
       mine = r.mine ∙ ap (λ (y : View). y.mine) o;
       drew = r.drew;
       draws = r.draws ∙ ap (λ (y : View). y.draws + cond r.drew 1 0) o;
+      lost = λ so. let one = r.lost so in record {
+        attempt = one.attempt;
+        seat = one.seat ∙ ap (λ (y : View). seat_number y.role) o;
+        drawn = one.drawn;
+        above = λ b has. one.above b (in_front v.history w.history b only.drawn has);
+      };
       marks = r.marks ∙ ap (λ (y : View). y.seat.marks) o;
       refused = r.refused ∙ ap (λ (y : View). y.refused ++ why ∷ []) o;
       met = r.met;

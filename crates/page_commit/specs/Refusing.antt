@@ -1,8 +1,9 @@
 -- Why a call of a transaction is refused, and what a refusal leaves.
 use Rattle.std.specs.Prelude.{◌≡◌, ◌≢◌, ◌⊎◌, ℕ, ◌+◌, ◌/◌, ◌%◌, ◌^◌, ◌≤◌, ◌<◌, List, ◌∷◌, ◌++◌, [], Option, Some}
-use Rattle.std.specs.Prelude.{None, length, Contains, unwrap_or, Bool, cond, ⊤}
+use Rattle.std.specs.Prelude.{None, length, Contains, unwrap_or, Bool, cond, true, ⊤}
 use Rattle.serial_model.specs.declared.key.Key.{Key}
-use Rattle.serial_model.specs.Numbers.{draw_limit}
+use Rattle.serial_model.specs.Numbers.{draw_limit, IsBelow}
+use Rattle.commit_core.specs.declared.attempt.Attempt.{Attempt}
 use Rattle.tx_sets.specs.declared.reads.ReadEntry.{ReadEntry}
 use Rattle.tx_sets.specs.declared.seen.Seen.{Seen}
 use Rattle.tx_sets.specs.declared.sets.Sets.{Sets}
@@ -47,8 +48,15 @@ TellsOnly (refusals.Full held) met = met ≡ []
 TellsOnly (refusals.Wide set) met = met ≡ []
 TellsOnly (refusals.NumberLimit clock) met = met ≡ []
 
+-- An attempt of the pass's seat was drawn in between, with a number above each that the pass had seen.
+pub record HasLost (v w : View) : Type 0 where
+  pub attempt : Attempt
+  pub seat : attempt.seat ≡ seat_number v.role
+  pub drawn : Contains w.history attempt
+  pub above : (b : Attempt) → Contains v.history b → IsBelow b.number attempt.number
+
 -- The transaction is over, without locks and holds: what the pass had seen and its own commits stay, and this is the
--- last of its refusals. It had drawn its number by then (`drew`), or drew none. Where it was a conflict at a record,
+-- last of its refusals. It had drawn its number by then (`drew`), for an attempt of its own, or drew none. Where it was a conflict at a record,
 -- the key is told (`blamed`).
 pub record HasRefused (why : RefusalCause) (v w : View) : Type 0 where
   pub over : IsOver w
@@ -59,6 +67,7 @@ pub record HasRefused (why : RefusalCause) (v w : View) : Type 0 where
   pub mine : w.mine ≡ v.mine
   pub drew : Bool
   pub draws : w.draws ≡ v.draws + cond drew 1 0
+  pub lost : drew ≡ true → HasLost v w
   pub marks : w.seat.marks ≡ v.seat.marks
   pub refused : w.refused ≡ v.refused ++ why ∷ []
   pub met : List Touch

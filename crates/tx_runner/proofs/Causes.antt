@@ -88,13 +88,13 @@ read_cause op sets new k (refusals.Wide set) v w of array grows r = record {
 read_cause op sets new k (refusals.NumberLimit clock) v w of array grows r = absurd r
 
 -- at a slot, or beside the record of a key
-slot_conflict : (op : Op) (at expected seen : ℕ) (v w : View) → IsSlotConflict at expected seen v w
+slot_conflict : (op : Op) (k : Key) → MayWrite op k → (at expected seen : ℕ) (v w : View) → IsSlotConflict at expected seen v w
     → w.blamed ≡ v.blamed → IsOpConflict op at expected seen v w
-slot_conflict op at expected seen v w slot blamed = record {
+slot_conflict op k may at expected seen v w slot blamed = record {
   met = None;
   key = λ q is. absurd cc;
   array = tt;
-  place = λ none. inl (slot.slot, slot.within, slot.place);
+  place = λ none. inl (slot.slot, slot.within, slot.place, (k, may));
   cause = inr slot.other;
   blamed = blamed ∙ sym (append-nil v.blamed);
 }
@@ -130,7 +130,7 @@ write_cause op sets new k (refusals.Conflict at expected seen) v w may grows r =
       cause = pointer.0.cause;
       blamed = r.4 ∙ sym (append-nil v.blamed);
     }
-    | inr slot ↦ slot_conflict op at expected seen v w slot r.4
+    | inr slot ↦ slot_conflict op k may at expected seen v w slot r.4
   ];
 }
 write_cause op sets new k (refusals.Full told) v w may grows r = record {
@@ -268,7 +268,7 @@ tree_write_cause op first sets new k (refusals.Conflict at expected seen) v w ma
   touched = trees_locked op k v w may tree r.5;
   cause = elim r.3 [
     | inl grow ↦ grow_conflict op sets k at expected seen v w (written_at op k may) are tree grow r.4
-    | inr slot ↦ slot_conflict op at expected seen v w slot r.4
+    | inr slot ↦ slot_conflict op k may at expected seen v w slot r.4
   ];
 }
 tree_write_cause op first sets new k (refusals.Full told) v w may are tree on r = record {
@@ -292,7 +292,7 @@ conflict_since op at expected seen v u w only c = record {
   met = c.met;
   key = c.key;
   array = subst (λ (l : Layout). IsOfArray l.decls c.met) (walked_layout v u only) c.array;
-  place = λ none. subst (λ (l : Layout). IsBesideRecords l (IsOfKey op) at) (walked_layout v u only) (c.place none);
+  place = λ none. subst (λ (l : Layout). IsBesideRecords l ((k : Key) × MayWrite op k) (IsOfKey op) at) (walked_layout v u only) (c.place none);
   cause = c.cause;
   blamed = c.blamed ∙ ap (λ (x : View). x.blamed ++ blame_at (seat_number x.role) c.met) only.is;
 }

@@ -47,6 +47,7 @@ use Rattle.tx_runner.specs.Tries.{IsWrittenBy, Lost}
 use Rattle.tx_runner.specs.Tries.{ToClock, ToOther}
 use Rattle.tx_runner.specs.Tries.{ToSet, ToSlots, TouchesOnly, Writes, blame_at, blame_of, blames_of, drawn_for}
 use Rattle.tx_runner.specs.Tries.{why_of, whys_of}
+use Rattle.page_commit.specs.Turning.{MayWrite}
 use Rattle.tx_runner.proofs.Arrays.{written_at}
 use Rattle.tx_runner.proofs.Causes.{locked_high, record_word}
 use Rattle.tx_runner.proofs.Standing.{StandsAs, left_before, seen_then, still}
@@ -132,7 +133,7 @@ met_key ops None keys = tt
 clash_try : (ops : List Op) (at expected seen : ℕ) (met : Option Key) (u v w : View) → HasDrawsLeft u
     → StandsAs ops u v → HasRefused (refusals.Conflict at expected seen) v w → IsChangedAt met expected seen
     → ((k : Key) → met ≡ Some k → IsKeyOf ops k) → IsOfArray v.layout.decls met
-    → (met ≡ None → IsBesideRecords v.layout (IsKeyOf ops) at)
+    → (met ≡ None → IsBesideRecords v.layout (Writes ops) (IsKeyOf ops) at)
     → w.blamed ≡ v.blamed ++ blame_at (seat_number v.role) met → TouchesOnly ops u w
     → RefusesTry ops (refusals.Conflict at expected seen) u w
 clash_try ops at expected seen met u v w left s r cause keys array place blamed touched =
@@ -146,7 +147,7 @@ clash_try ops at expected seen met u v w left s r cause keys array place blamed 
         left,
         (
           subst (λ (y : Layout). IsOfArray y.decls met) s.layout array,
-          λ none. subst (λ (y : Layout). IsBesideRecords y (IsKeyOf ops) at) s.layout (place none),
+          λ none. subst (λ (y : Layout). IsBesideRecords y (Writes ops) (IsKeyOf ops) at) s.layout (place none),
         ),
       );
     }
@@ -194,9 +195,10 @@ pub op_refused : (ops : List Op) (why : RefusalCause) (u v w : View) → HasDraw
 op_refused ops why u v w left s r c =
     by_why why r c.op c.among c.draws (touches_then ops u v w s.layout s.role s.touched c.touched) c.cause
   where
-    beside : {at : ℕ} (op : Op) → Contains ops op → IsBesideRecords v.layout (IsOfKey op) at
-        → IsBesideRecords v.layout (IsKeyOf ops) at
-    beside op among (inl slot) = inl slot
+    beside : {at : ℕ} (op : Op) → Contains ops op → IsBesideRecords v.layout ((k : Key) × MayWrite op k) (IsOfKey op) at
+        → IsBesideRecords v.layout (Writes ops) (IsKeyOf ops) at
+    beside op among (inl slot) =
+        inl (slot.0, slot.1, slot.2, (slot.3.0, record { op = op; among = among; writes = slot.3.1 }))
     beside op among (inr way) = inr (way.0, record { op = op; among = among; at = way.1 }, way.2)
 
     by_why : (y : RefusalCause) → HasRefused y v w → (op : Op) → Contains ops op → w.draws ≡ v.draws

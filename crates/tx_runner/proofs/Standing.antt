@@ -2,9 +2,10 @@
 use Rattle.std.proofs.Common.{◌≡◌, ◌+◌, ◌≤◌, Bool, true, false, length, arith, List, [], ◌∷◌, ◌++◌, refl, sym}
 use Rattle.std.proofs.Common.{ap, ◌∙◌, subst, inl, inr}
 use Rattle.std.specs.List.{AllByRecursion, Contains}
-use Rattle.std.specs.Prelude.{IsTrue, sum_by}
+use Rattle.std.specs.Prelude.{IsTrue, drop, sum_by}
+use Rattle.std.proofs.lemmas.List.Elements.{Contains-append_left}
 use Rattle.lists.specs.Elements.{in_none}
-use Rattle.lists.specs.Fronts.{IsFront, front_refl, front_then, front_length}
+use Rattle.lists.specs.Fronts.{IsFront, front_refl, front_rest, front_then, front_length}
 use Rattle.serial_model.specs.declared.number.Number.{Number}
 use Rattle.serial_model.specs.declared.op.Op.{Op}
 use Rattle.serial_model.specs.Keys.{fits}
@@ -15,6 +16,7 @@ use Rattle.tx_sets.specs.declared.writes.Write.{Write}
 use Rattle.engine_pages.specs.declared.layout.Layout.{Layout}
 use Rattle.engine_pages.specs.declared.view.RefusalCause.{RefusalCause}
 use Rattle.engine_pages.specs.declared.view.View.{View}
+use Rattle.engine_pages.specs.Views.{seat_number}
 use Rattle.engine_seats.specs.Cuts.{HasSeen}
 use Rattle.tx_runner.proofs.LastLaws.{last_since}
 use Rattle.page_commit.specs.Below.{IsLastBetween}
@@ -84,6 +86,11 @@ seen_then u v w a b = record {
   history = front_then u.history v.history w.history a.history b.history;
   decided = front_then u.decided v.decided w.decided a.decided b.decided;
 }
+
+-- what a list begins with stands in it
+contains_front : (front list : List Attempt) (a : Attempt) → IsFront front list → Contains front a → Contains list a
+contains_front front list a begins has = subst (λ (l : List Attempt). Contains l a) (front_rest front list begins)
+    (Contains-append_left front (drop (length front) list) a has)
 
 -- since the begin there were but walks
 pub run_stands : (ops : List Op) (sets : Sets) (u v w : View) → HasBegun sets u v → OnlyLoaded ops v w → StandsAs ops
@@ -159,6 +166,12 @@ refused_since ops why u v w l r = let s = loaded_stands ops u v l in record {
   mine = r.mine ∙ s.mine;
   drew = r.drew;
   draws = let few = r.draws in let same = s.draws in omega (arith, few, same);
+  lost = λ so. let one = r.lost so in record {
+    attempt = one.attempt;
+    seat = one.seat ∙ ap seat_number s.role;
+    drawn = one.drawn;
+    above = λ b has. one.above b (contains_front u.history v.history b s.seen.history has);
+  };
   marks = r.marks ∙ s.marks;
   refused = r.refused ∙ ap (λ l. l ++ why ∷ []) s.refused;
   met = r.met;

@@ -105,7 +105,7 @@ pub record IsOpConflict (op : Op) (at expected seen : ℕ) (v w : View) : Type 0
   pub met : Option Key
   pub key : (k : Key) → met ≡ Some k → IsOfKey op k
   pub array : IsOfArray v.layout.decls met
-  pub place : met ≡ None → IsBesideRecords v.layout (IsOfKey op) at
+  pub place : met ≡ None → IsBesideRecords v.layout ((k : Key) × MayWrite op k) (IsOfKey op) at
   pub cause : IsChangedAt met expected seen
   pub blamed : w.blamed ≡ v.blamed ++ blame_at (seat_number v.role) met
 

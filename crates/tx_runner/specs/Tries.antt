@@ -84,14 +84,14 @@ IsPageWord l at = (at < 32) ⊎ ((t : ℕ) × (i : ℕ) × (at ≡ page_at l.slo
 abbrev pub IsWayWord : Layout → Key → ℕ → Type 0
 IsWayWord l k at = IsWayPlace l k at ⊎ ((is_tree l.decls k.storage ≡ true) × IsPageWord l at)
 
--- the word is that of a slot, or so one for such a key
-abbrev pub IsBesideRecords : Layout → (Key → Type 0) → ℕ → Type 0
-IsBesideRecords l of at =
-    ((t : ℕ) × (t < l.slots) × (at ≡ slot_at t)) ⊎ ((k : Key) × of k × IsWayWord l k at)
+-- the word is that of a slot, where it may write, or so one for such a key
+abbrev pub IsBesideRecords : Layout → Type 0 → (Key → Type 0) → ℕ → Type 0
+IsBesideRecords l may of at =
+    ((t : ℕ) × (t < l.slots) × (at ≡ slot_at t) × may) ⊎ ((k : Key) × of k × IsWayWord l k at)
 
 -- so it is with the word of a conflict, for a key of the line
 abbrev pub IsBesideOf : Layout → List Op → RefusalCause → Type 0
-IsBesideOf l ops (refusals.Conflict at expected seen) = IsBesideRecords l (IsKeyOf ops) at
+IsBesideOf l ops (refusals.Conflict at expected seen) = IsBesideRecords l (Writes ops) (IsKeyOf ops) at
 IsBesideOf l ops (refusals.Full held) = ⊥
 IsBesideOf l ops (refusals.Wide set) = ⊥
 IsBesideOf l ops (refusals.NumberLimit clock) = ⊥

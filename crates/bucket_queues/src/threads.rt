@@ -231,7 +231,8 @@ fn run_all<R: Threads + Wait + Sync, D: Send, F: Send + Drop, M: Maps<R, D, F> +
             × OnOk result.0 (HasReduced at_even.entry.now at_even.exit.now)
             × OnOk result.1 (HasReduced at_odd.entry.now at_odd.exit.now) }
     { reduce_both(rt, even, odd, at_even, at_odd, wanted, &ended) };
-    let (mapped, reduced) = join_mut(rt, &mut mappers, &mut reducers);
+    // Where no thread can be made, the second runs first: reducers that come before their mappers wait in vain.
+    let (reduced, mapped) = join_mut(rt, &mut reducers, &mut mappers);
     Answers {
         low: mapped.0,
         high: mapped.1,

@@ -30,8 +30,14 @@ pub enum LineEnd {
     Limit,
 }
 
+// So many tries in vain are told apart by one yield each: most locks are open again by then.
+const FEW_TRIES: u32 = 100;
+
+// No more yields than these stand between two tries.
+const MOST_YIELDS: u32 = 1_000;
+
 /// Runs a line of 16 operations at most, and runs it again after each conflict, up to so many tries; after another
-/// refusal it isn't run again. Between two tries other threads may go first.
+/// refusal it isn't run again. Between two tries other threads may go first, more often behind a hundred tries.
 pub fn run_line(
     engine: &Engine,
     pass: &mut Pass,
@@ -63,9 +69,29 @@ pub fn run_line(
         tried += 1;
         // Whoever is in the way may have lost its core while it holds a lock, and all tries would be over before it is
         // back.
-        yield_now();
+        give_way(yields_after(tried));
     }
     LineEnd::Conflict
+}
+
+// How often other threads may go first behind so many tries in vain: once behind each of the first hundred, then once
+// more behind each further one, up to a bound. Where many threads share a core, whoever holds a lock is away for longer
+// than a thousand yields take. No word is looked at, so no call waits for another's step.
+fn yields_after(tried: u32) -> u32
+    ensures few { tried ≤ 100 → result ≡ 1 }
+    ensures bound { (1 ≤ result) × (result ≤ 1000) }
+{
+    if tried <= FEW_TRIES {
+        return 1;
+    }
+    (tried - FEW_TRIES).min(MOST_YIELDS)
+}
+
+// Lets other threads go first, so often.
+fn give_way(times: u32) {
+    for _ in 0..times {
+        yield_now();
+    }
 }
 
 // How a line ends with a try that was refused for this. A conflict alone is tried again.

@@ -9,16 +9,19 @@ Usage: bench/gate_seconds.py [--to FILE] rt ci [--anew | NAME ..]     runs that,
 The table goes to FILE, written anew each minute, and else to standard error at the end; the command's own output stays
 as it is. What `rt ci` takes over from earlier runs costs nothing and has no row; `rt ci --anew` proves all.
 Columns: `begin` is the check that edits begin with and the one that shows it sound, `edits` are all edits together
-and how many, `clock` the minutes from the begin to the crate's first and last process. `other` is the gate itself, and
-the runs of tests and programs. A process that ends between two looks is missed by at most half a second.
+and how many, `clock` the minutes from the begin to the crate's first and last process, `lines` how many lines of proof
+the crate has for each line of its code. `other` is the gate itself, and the runs of tests and programs. A process that
+ends between two looks is missed by at most half a second.
 """
 import argparse
+import glob
 import os
 import re
 import subprocess
 import sys
 import time
 
+TOP = os.path.dirname(os.path.dirname(os.path.abspath(__file__)))
 TICK = os.sysconf("SC_CLK_TCK")
 LOOK = 0.5
 KINDS = ("proof", "tests", "begin", "edits")
@@ -30,6 +33,21 @@ def read(path):
             return it.read().decode(errors="replace")
     except OSError:
         return ""
+
+
+def lines_of(crates):
+    """How many lines of code and of proof these crates have."""
+    counts = []
+    for kind in ("src/**/*.rt", "proofs/**/*.antt"):
+        files = [path for crate in crates for path in glob.glob(f"{TOP}/crates/{crate}/{kind}", recursive=True)]
+        counts.append(sum(read(path).count("\n") for path in files))
+    return counts
+
+
+def share(crates):
+    """Lines of proof for each line of code, as text."""
+    code, proof = lines_of(crates)
+    return f"{proof / code:.1f}" if code else "·"
 
 
 def looked():
@@ -101,17 +119,17 @@ class Watch:
             row[part[1]] += seconds
             row["tried"] |= {part[2]} if part[2] else set()
             row["from"], row["to"] = min(row["from"], first), max(row["to"], last)
-        lines = ["| crate | proof | tests | begin | edits | sum | clock |", "|---|---|---|---|---|---|---|"]
+        lines = ["| crate | proof | tests | begin | edits | sum | clock | lines |", "|---|---|---|---|---|---|---|---|"]
         whole = {name: sum(row[kind] for kind in KINDS) for name, row in rows.items()}
         for name in sorted(rows, key=lambda it: -whole[it]):
             row = rows[name]
             edits = f"{row['edits']:.0f} ({len(row['tried'])})"
             clock = f"{row['from'] / 60:.1f} to {row['to'] / 60:.1f}"
             checks = [f"{row[kind]:.0f}" for kind in ("proof", "tests", "begin")]
-            lines.append("| " + " | ".join([name, *checks, edits, f"{whole[name]:.0f}", clock]) + " |")
+            lines.append("| " + " | ".join([name, *checks, edits, f"{whole[name]:.0f}", clock, share([name])]) + " |")
         all_of = [sum(row[kind] for row in rows.values()) for kind in KINDS]
         total = sum(all_of) + other
-        lines.append("| all | " + " | ".join(f"{it:.0f}" for it in all_of) + f" | {total:.0f} | |")
+        lines.append("| all | " + " | ".join(f"{it:.0f}" for it in all_of) + f" | {total:.0f} | | {share(rows)} |")
         minutes = (time.monotonic() - self.begin) / 60
         told = f"{total / 60:.0f} processor minutes, {other:.0f} seconds of them other"
         lines.append(f"\n{told}; {minutes:.0f} minutes by the clock.")

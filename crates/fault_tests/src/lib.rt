@@ -5,10 +5,9 @@
 //! `troubles` has what devices hold, and calls over them with a trouble of one; `images` what a stop may leave of a
 //! device, by the calls that it recorded. `failing_devices` has tables of what is told as one call after another fails,
 //! with rows of `failing_gleans`, for snapshots, and `brief_runs`, in brief; `failing_calls` the same for each object
-//! in turn, streams too; `failing_workers` that others go on. `stops` stops a device at each of its calls, and runs on;
-//! `stopped_rounds` looks at what was told durable then, and at the snapshots, `stops_beside_lines` at saves, epochs
-//! and snapshots beside running lines; `joint_stops` stops all devices at moments that a number makes, as far as the
-//! stores and cuts that were recorded allow them together. `damage` has changed bytes.
+//! in turn, streams too; `failing_workers` that others go on. `stops` stops a device at each of its calls, and runs on.
+//! `damage` has changed bytes. Stops of all devices at once, at any moment and beside lines that run, are tried on the
+//! real program by `bench/stop_images.py` and `bench/kill.py`.
 //!
 //! They stand in a crate above those that they test, because a crate with tests is proved a second time. All of it is
 //! for tests alone: without them the crate is empty.
@@ -29,13 +28,7 @@ mod failing_workers;
 #[cfg(test)]
 mod images;
 #[cfg(test)]
-mod joint_stops;
-#[cfg(test)]
-mod stopped_rounds;
-#[cfg(test)]
 mod stops;
-#[cfg(test)]
-mod stops_beside_lines;
 #[cfg(test)]
 mod troubles;
 

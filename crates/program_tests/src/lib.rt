@@ -1,26 +1,18 @@
-//! Whole calls, with no trouble of a device. Texts and statuses are those of the program's description.
+//! The program over a folder, its gate, and its examples, with no trouble of a device. Texts and statuses are those of the
+//! program's description.
 //!
-//! Calls over disks in memory, one line after another: `calls` has tables of them, with rows of `brief`, `kept_runs`,
-//! `gleans`, `listings`, `slots`, `drops` and `trees`, which have long runs too; `dumps` is what a vault keeps, as
-//! text, and `examples` the scripts of the folder examples.
-//! Workers' lines on threads: that they overlap and are serial, on arrays (`threads`) and on trees
-//! (`trees_on_threads`), the maintenance thread's lines run beside them (`beside`), the gate stands round each
-//! (`gates`), and a round's lines are written before the next one begins (`written_rounds`).
-//! The program over a folder: the files of its database (`folders`), its words, and what it explains (`programs`).
+//! The files of its database (`folders`), its words, and what it explains (`programs`). Lines on threads, held by a gate:
+//! that two workers overlap, and the maintenance thread's lines workers' (`beside`), the gate stands round each (`gates`),
+//! and a round's lines are written before the next one begins (`written_rounds`). `dumps` is what a vault keeps, as text,
+//! and `examples` the scripts of the folder examples.
 //!
-//! They stand in a crate above those that they test, because a crate with tests is proved a second time; `fault_tests`
-//! is the same with troubles of devices, as two crates are proved side by side. All of it is for tests alone: without
-//! them the crate is empty.
+//! They stand in a crate above those that they test, because a crate with tests is proved a second time; `call_tests` has
+//! tables of calls, `fault_tests` troubles of devices, as crates are proved side by side. All of it is for tests alone:
+//! without them the crate is empty.
 #![tactic(auto)]
 
 #[cfg(test)]
 mod beside;
-#[cfg(test)]
-mod brief;
-#[cfg(test)]
-mod calls;
-#[cfg(test)]
-mod drops;
 #[cfg(test)]
 mod dumps;
 #[cfg(test)]
@@ -30,21 +22,7 @@ mod folders;
 #[cfg(test)]
 mod gates;
 #[cfg(test)]
-mod gleans;
-#[cfg(test)]
-mod kept_runs;
-#[cfg(test)]
-mod listings;
-#[cfg(test)]
 mod programs;
-#[cfg(test)]
-mod slots;
-#[cfg(test)]
-mod threads;
-#[cfg(test)]
-mod trees;
-#[cfg(test)]
-mod trees_on_threads;
 #[cfg(test)]
 mod written_rounds;
 

@@ -8,6 +8,7 @@ room=$(mktemp -d) || exit 1
 trap 'rm -rf "$room"' EXIT
 trap 'exit 1' HUP INT TERM
 failed=0 at=
+unset FOEDUS_BUILD FOEDUS_RELEASE
 
 # Tells what should hold, where it doesn't.
 holds() {
@@ -32,6 +33,7 @@ make_toolchain() {
 #!/bin/sh
 name=$(basename "$PWD") room=$(dirname "$(dirname "$0")")
 case $1 in
+version) echo "a toolchain" ;;
 lib)
     # Of a text that was proved before there is nothing to prove.
     text=$(cat src/* | cksum | cut -d ' ' -f 1)
@@ -58,7 +60,7 @@ END
 make_tree() {
     rm -rf "$room/tree" "$room/proved" "$room/fails" "$room/calls"
     mkdir -p "$room/proved" "$room/fails" "$room/tree/.git" "$room/tree/tools"
-    cp "$top/foedus" "$room/tree/" && cp "$top"/tools/*.awk "$top/tools/build.sh" "$room/tree/tools/"
+    cp "$top/foedus" "$room/tree/" && cp "$top"/tools/*.awk "$top"/tools/*.sh "$room/tree/tools/"
     printf 'low: # a comment: foedus\nleft: low std\nright: low\nfoedus: left right\ntests: foedus low\n' \
         >"$room/tree/crates.txt"
     echo 'Handles allowed: none.' >"$room/tree/HANDLES"
@@ -130,15 +132,79 @@ tries_folders() {
 tries_without_the_toolchain() (
     make_tree
     mkdir -p "$room/tools"
-    for tool in sh awk sed find head tail cat cp mkdir mktemp mkfifo rm touch readlink date nproc seq wc flock sleep; do
+    for tool in sh awk sed find head tail cat cp mkdir mktemp mkfifo rm touch readlink date nproc seq wc flock sleep \
+        sort sha256sum cut tr uname mv; do
         ln -sf "$(command -v "$tool")" "$room/tools/$tool"
     done
     PATH=$room/tools "$room/tree/foedus" dump >"$room/out" 2>"$room/err" </dev/null
     holds "without rt there is no program" [ $? = 125 ]
     holds "which is said" told "rt, the command of Rattle's toolchain, isn't on the PATH"
     holds "and nothing is printed" [ ! -s "$room/out" ]
+    ship && echo more >>"$room/tree/crates/left/src/lib.rt"
+    PATH=$room/tools "$room/tree/foedus" dump >"$room/out" 2>"$room/err" </dev/null
+    holds "nor is there with a shipped one of other sources" [ $? = 125 ]
+    holds "which is said" told "the sources here are not those of the shipped program"
+    holds "and the way out" told "FOEDUS_RELEASE=1"
     exit "$failed"
 )
+
+# Ships a program of the tree's sources, which tells its words, and how a file ends that may not grow.
+ship() (
+    cd "$room/tree" && top=$room/tree && mkdir -p release || exit
+    cat >release/foedus <<'END'
+#!/bin/sh
+echo "shipped: $*"
+[ "$1" != fill ] || { (ulimit -f 1; head -c 9999 /dev/zero >"$0.filled") 2>/dev/null; echo "ended $?"; }
+END
+    chmod +x release/foedus
+    . tools/programs.sh
+    {
+        echo "a program"
+        echo "toolchain an older toolchain"
+        echo "sources $(sum_of_sources .)"
+        echo "program $(sum_of release/foedus)"
+    } >release/RELEASE
+)
+
+tries_the_shipped_program() {
+    make_tree && ship && : >"$room/calls"
+    call dump </dev/null
+    holds "a shipped program of these sources is run at once" printed "shipped: dump"
+    call dump </dev/null
+    holds "and again" printed "shipped: dump"
+    call fill </dev/null
+    holds "a file at its limit refuses writes and ends nothing" printed "shipped: fill
+ended 1"
+    holds "nothing is built for it" calls ""
+    holds "and nothing said" [ ! -s "$room/err" ]
+    echo more >>"$room/tree/crates/tests/src/lib.rt"
+    call dump </dev/null
+    holds "what the program doesn't stand on is left alone" printed "shipped: dump"
+    FOEDUS_BUILD=1 call </dev/null
+    holds "FOEDUS_BUILD=1 builds" calls "foedus left low right "
+    call </dev/null
+    holds "what was built is run then" printed "in $room:"
+    FOEDUS_RELEASE=1 call dump </dev/null
+    holds "and with FOEDUS_RELEASE=1 what was shipped" printed "shipped: dump"
+}
+
+tries_other_sources() {
+    make_tree && ship && : >"$room/calls"
+    call dump </dev/null
+    echo more >>"$room/tree/crates/left/src/lib.rt"
+    FOEDUS_RELEASE=1 call dump </dev/null
+    holds "FOEDUS_RELEASE=1 runs what was shipped of other sources" printed "shipped: dump"
+    call </dev/null
+    holds "of other sources a program is built" calls "foedus left low right "
+    holds "which is said" told "the sources here are not those of the shipped program"
+    holds "with the toolchain that proved the shipped one" told "proved with an older toolchain"
+    holds "and the one that is here" told "the toolchain that is here is a toolchain"
+    holds "and the new one is run" printed "in $room:"
+    make_tree && ship && printf '#!/bin/sh\nexit 1\n' >"$room/tree/release/foedus"
+    call </dev/null
+    holds "a program that its text doesn't name isn't run" printed "in $room:"
+    holds "which is said" told "not the file that release/RELEASE names"
+}
 
 tries_a_failure() {
     make_tree
@@ -191,6 +257,8 @@ tries_a_first_call
 tries_edits
 tries_folders
 tries_without_the_toolchain || failed=1
+tries_the_shipped_program
+tries_other_sources
 tries_a_failure
 tries_two_at_once
 tries_an_end TERM 143

@@ -1,6 +1,7 @@
 #!/usr/bin/env python3
 """Tries the tools over small databases that the built program makes: what vault_format reads by the documented format
-is what the program tells, of damaged files too; and dumps and tables that were loaded are dumped again the same.
+is what the program tells, of damaged files too; dumps and tables that were loaded are dumped again the same; and the
+table of commands says what the program takes.
 
 Usage: tests/tools.py PROGRAM, where PROGRAM is the built program, crates/foedus/out/foedus.
 """
@@ -13,6 +14,7 @@ import subprocess
 import sys
 import tempfile
 import unittest
+from dataclasses import dataclass
 
 TOP = os.path.dirname(os.path.dirname(os.path.abspath(__file__)))
 sys.path.insert(0, f"{TOP}/tools")
@@ -256,6 +258,65 @@ class Loading(Folder):
             self.loads("new", script.read())
         status, _, errors = tool(self.folder, "load.py", "--vault", "vault", "--out", "none/part", "kept.txt")
         self.assertEqual((status, "none" in errors), (1, True))
+
+
+def call_words(command, option, value):
+    """A call with a value for one of its options or words, and 1 for its other words."""
+    words = [line.name for line in commands() if line.command == command and line.kind == "word"]
+    given = [str(value) if word == option else "1" for word in words]
+    return [command, *given] if option in words else [command, *given, option.split()[0], str(value)]
+
+
+@dataclass
+class TableLine:
+    """A line of tools/commands.txt, with the command that it stands below."""
+
+    command: str
+    kind: str
+    name: str
+    least: str
+    most: str
+    usual: str
+
+
+def commands():
+    lines, command = [], None
+    with open(f"{TOP}/tools/commands.txt", encoding="ascii") as table:
+        for line in table:
+            fields = [field.strip() for field in line.split("|")]
+            if len(fields) == 6:
+                command = fields[1] if fields[0] == "command" else command
+                lines.append(TableLine(command, *fields[:5]))
+    return lines
+
+
+class Commands(Folder):
+    """The table of which the man page and the completion are made says what the program takes."""
+
+    def status_of(self, words):
+        return answer(self.folder, [PROGRAM, *words], "")[0]
+
+    def test_ranges(self):
+        ranges = [line for line in commands() if line.least]
+        self.assertEqual(len(ranges), 7)
+        for line in ranges:
+            for value, is_taken in (
+                (int(line.least), True),
+                (int(line.most), True),
+                (int(line.least) - 1, False),
+                (int(line.most) + 1, False),
+                (line.usual or line.least, True),
+            ):
+                words = call_words(line.command, line.name, value)
+                self.assertEqual(self.status_of(words) != 2, is_taken, words)
+
+    def test_names(self):
+        told = answer(self.folder, [PROGRAM, "--help"])[2]
+        for line in commands():
+            if line.kind in ("command", "option") and line.name != "--version":
+                self.assertRegex(told, f"(?m)^  {line.name}( |$)")
+            if line.usual:
+                self.assertRegex(told, f"(?m)^  {line.name} .*: {line.least} to {line.most}, {line.usual} if left out")
 
 
 class Refusing(Folder):

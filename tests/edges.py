@@ -13,6 +13,8 @@ import re
 import resource
 import shutil
 import signal
+import socket
+import stat
 import subprocess
 import sys
 import tempfile
@@ -23,6 +25,9 @@ PRINTED = b"0.0 ok 1:1\ndurable 1\n"
 KEPT = b"epoch 1\n1 2 8\n"
 SNAPSHOTS = b"snap 0 at 1\n"
 NOBODY = 65534
+LOGS = [f"bank{number}" for number in range(16)]
+# The calls that open the database, with a script for the first of them.
+OPENING = ["run"], ["dump"], ["snaps"], ["snap", "0"]
 
 
 class LeftOut(Exception):
@@ -47,13 +52,21 @@ def check(came, status, printed, *told):
 
 
 def files(folder="vault"):
-    """What a folder's files hold, and when they were changed last."""
+    """What a folder's files hold, and when they were changed last; of other kinds what they are."""
     found = {}
     for name in sorted(os.listdir(folder)):
         path = os.path.join(folder, name)
-        with open(path, "rb") as file:
-            found[name] = (file.read(), os.stat(path).st_mtime_ns)
+        known = os.lstat(path)
+        found[name] = (known.st_mode, known.st_mtime_ns)
+        if stat.S_ISREG(known.st_mode):
+            with open(path, "rb") as file:
+                found[name] = (file.read(), known.st_mtime_ns)
     return found
+
+
+def write(path, content=b""):
+    with open(path, "wb") as file:
+        file.write(content)
 
 
 def text_in(name):
@@ -185,34 +198,105 @@ def one_of_two_makes_the_database():
 # ---- files that can't be had
 
 
+def check_refused(name, *told):
+    """Each call that opens the database tells that this file can't be had, and changes none; what errors had last."""
+    before = files()
+    for words in OPENING:
+        came = run(words, SCRIPT)
+        check(came, 5, b"device %s\n" % name.encode(), *told)
+    assert files() == before, f"files were changed: {before.keys()}, {files().keys()}"
+    return came[2]
+
+
+def do_as_told(told):
+    """Gives the shell the command that stands in brackets in a text of errors."""
+    subprocess.run(["sh", "-c", re.search(r"\((mv .*)\)", told)[1]], check=True)
+
+
 def a_missing_save_is_no_new_database():
     keep_one()
     os.remove("vault/save")
-    before = files()
-    for words in (["run"], ["dump"], ["snaps"], ["snap", "0"]):
-        check(run(words, SCRIPT), 5, b"device save\n", "is missing", "vault/save")
-    assert files() == before, "files were changed"
+    told = check_refused("save", "vault/save is missing", "put back a copy")
+    assert "has a savepoint" not in told, told
 
 
 def each_file_with_bytes_wants_a_save():
-    for name in ["snaps"] + [f"bank{n}" for n in range(16)]:
+    for name in ["snaps"] + LOGS:
         shutil.rmtree("vault", ignore_errors=True)
         os.mkdir("vault")
-        with open(os.path.join("vault", name), "wb") as file:
-            file.write(b"x")
-        check(run(["dump"]), 5, b"device save\n", "is missing", "vault/save")
-        assert files()[name][0] == b"x"
+        write(os.path.join("vault", name), b"x")
+        check_refused("save", "vault/save is missing")
+
+
+def a_savepoint_under_another_name_is_told():
+    for name in ("save.new", "old.bak", "a copy"):
+        shutil.rmtree("vault", ignore_errors=True)
+        keep_one()
+        os.rename("vault/save", f"vault/{name}")
+        told = check_refused("save", "vault/save is missing", f"vault/{name} has a savepoint")
+        do_as_told(told)
+        check(run(["dump"]), 0, KEPT)
+
+
+def a_file_without_a_savepoint_is_not_named():
+    """Under the savepoint's name it would be that of a new database, and the next run would cut the log files."""
+    keep_one()
+    shutil.move("vault/save", "kept")
+    write("vault/closed", bytes(1024))
+    write("vault/long", b"\xa5" * 1500)
+    os.mkfifo("vault/pipe")
+    os.symlink("../kept", "vault/link")
+    told = check_refused("save", "vault/save is missing")
+    assert "has a savepoint" not in told, told
 
 
 def a_stop_within_the_making_leaves_a_new_database():
     os.mkdir("vault")
-    with open("vault/save.new", "wb") as file:
-        file.write(b"\xa5" * 1500)
-    with open("vault/bank0", "wb"):
-        pass
+    drafts = {"save.new": b"\xa5" * 1500, "save.new1": bytes(1024)}
+    for name, content in drafts.items():
+        write(os.path.join("vault", name), content)
+    write("vault/bank0")
     keep_one()
-    assert sorted(files()) == sorted(["save", "snaps"] + [f"bank{n}" for n in range(16)])
+    kept = files()
+    assert sorted(kept) == sorted(["save", "snaps", *drafts, *LOGS]), kept.keys()
+    for name, content in drafts.items():
+        assert kept[name][0] == content, f"{name} was changed"
     check(run(["dump"]), 0, KEPT)
+
+
+def a_draft_follows_no_link():
+    os.mkdir("vault")
+    write("elsewhere", b"another's")
+    os.symlink("../elsewhere", "vault/save.new")
+    os.symlink("../nowhere", "vault/save.new1")
+    keep_one()
+    with open("elsewhere", "rb") as file:
+        assert file.read() == b"another's", "a file elsewhere was changed"
+    assert not os.path.exists("nowhere"), "a file was made elsewhere"
+    assert os.path.islink("vault/save.new") and os.path.islink("vault/save.new1"), os.listdir("vault")
+    check(run(["dump"]), 0, KEPT)
+
+
+def a_making_that_fails_leaves_no_draft():
+    """A file may get 512 bytes, and a savepoint's has 1,024."""
+
+    def limit():
+        signal.signal(signal.SIGXFSZ, signal.SIG_IGN)
+        resource.setrlimit(resource.RLIMIT_FSIZE, (512, 512))
+
+    for _ in range(3):
+        came = run(["dump"], preexec_fn=limit, restore_signals=False)
+        check(came, 5, b"device save\n", "vault/save: File too large")
+    assert sorted(files()) == sorted(["snaps", *LOGS]), files().keys()
+    keep_one()
+
+
+def who_makes_a_database_keeps_others_away():
+    os.mkdir("vault")
+    with open("vault/snaps", "wb") as file:
+        fcntl.flock(file, fcntl.LOCK_EX)
+        check_refused("save", "vault/save: another process")
+    keep_one()
 
 
 def a_new_database_is_told_where_one_was_asked_for():
@@ -223,15 +307,20 @@ def a_new_database_is_told_where_one_was_asked_for():
     check(run(["snap", "0"]), 9, b"no snapshot 0\n", "there was no database in the folder vault")
 
 
+def by_nobody():
+    """The program, and a user of whom the system asks permissions."""
+    if os.geteuid() != 0:
+        return PROGRAM, {}
+    here = os.getcwd()
+    os.chmod(here, 0o755)
+    program = shutil.copy(PROGRAM, os.path.join(here, "program"))
+    os.chmod(program, 0o755)
+    return program, {"user": NOBODY, "group": NOBODY}
+
+
 def a_copy_that_cannot_be_written_is_read():
     keep_one()
-    as_user = {}
-    program = PROGRAM
-    if os.geteuid() == 0:
-        here = os.getcwd()
-        os.chmod(here, 0o755)
-        program = shutil.copy(PROGRAM, os.path.join(here, "program"))
-        as_user = {"user": NOBODY, "group": NOBODY}
+    program, as_user = by_nobody()
     for name in os.listdir("vault"):
         os.chmod(os.path.join("vault", name), 0o444)
     os.chmod("vault", 0o555)
@@ -249,6 +338,23 @@ def a_copy_that_cannot_be_written_is_read():
     os.chmod("vault", 0o755)
 
 
+def a_folder_around_that_cannot_be_read_is_passed_over():
+    """So its names can't be synced: only the call that makes the folder has to."""
+    program, as_user = by_nobody()
+    os.mkdir("around")
+    os.chmod("around", 0o333)
+
+    def ask(script):
+        done = subprocess.run([program, "run"], input=script, stdout=subprocess.PIPE, stderr=subprocess.PIPE,
+                              timeout=60, cwd="around", **as_user)
+        return done.returncode, done.stdout, done.stderr.decode()
+
+    check(ask(SCRIPT), 5, b"device save\n", "vault/save: Permission denied")
+    check(ask(SCRIPT), 0, PRINTED)
+    check(ask(b"array 1 4\n0 r 1 2\n"), 0, b"0.0 ok 2:1 8\ndurable 2\n")
+    os.chmod("around", 0o755)
+
+
 def a_full_disk_is_told():
     lines = b"".join(b"0 w 1 %d 1\n" % n for n in range(1000))
 
@@ -261,26 +367,41 @@ def a_full_disk_is_told():
     check(run(["dump"]), 0, b"epoch 0\n")
 
 
+def with_failing(call, error, names, words, script=b""):
+    """The answer of a run to which the system refuses these calls on these files."""
+    if shutil.which("strace") is None:
+        raise LeftOut("there is no strace")
+    paths = [part for name in names for part in ("-P", os.path.realpath(os.path.join("vault", name)))]
+    traced = ["strace", "-f", "-o", "calls", *paths, "-e", f"trace={call}", "-e", f"inject={call}:error={error}"]
+    done = subprocess.run([*traced, PROGRAM, *words], input=script, stdout=subprocess.PIPE, stderr=subprocess.PIPE,
+                          timeout=60)
+    if "(INJECTED)" not in text_in("calls"):
+        raise LeftOut("strace can't refuse calls here")
+    return done.returncode, done.stdout, done.stderr.decode("utf-8", "replace")
+
+
 def a_device_without_room_is_told():
-    """The system's file that is always full stands for standard output, and for the log files of a worker."""
+    """The system's file that is always full stands for standard output; a worker's log files get no room."""
     if not os.path.exists("/dev/full"):
         raise LeftOut("there is no /dev/full")
     keep_one()
     with open("/dev/full", "wb") as full:
         done = subprocess.run([PROGRAM, "dump"], stdout=full, stderr=subprocess.PIPE, timeout=60)
     assert done.returncode == 4 and b"Standard output failed" in done.stderr, done
-    # what the log files have becomes a snapshot, so nothing is lost with them
-    check(run(["run"], b"array 1 4\n"), 0, b"durable 2\n")
-    banks = [os.path.join("vault", f"bank{number}") for number in range(2)]
-    for bank in banks:
-        os.remove(bank)
-        os.symlink("/dev/full", bank)
-    came = run(["run"], SCRIPT)
+    came = with_failing("pwrite64", "ENOSPC", ["bank0", "bank1"], ["run"], b"array 1 4\n0 w 1 3 9\n")
     assert came[0] == 5 and came[1].endswith((b"device bank0\n", b"device bank1\n")), came
     assert re.search("vault/bank[01]: No space left on device", came[2]), came
-    for bank in banks:
-        os.remove(bank)
-    check(run(["dump"]), 0, b"epoch 2\n1 2 8\n")
+    status, printed, told = run(["dump"])
+    assert (status, told) == (0, "") and printed.endswith(b"\n1 2 8\n"), (status, printed, told)
+
+
+def a_file_that_cannot_be_looked_at_is_told():
+    keep_one()
+    for name in ("save", "snaps", "bank5"):
+        for words in (["run"], ["dump"]):
+            came = with_failing("statx", "EIO", [name], words, SCRIPT)
+            check(came, 5, b"device %s\n" % name.encode(), f"vault/{name}: Input/output error")
+    check(run(["dump"]), 0, KEPT)
 
 
 def a_disk_that_fills_up_is_told():
@@ -309,16 +430,69 @@ def a_disk_that_fills_up_is_told():
     check((done.returncode, done.stdout, done.stderr.decode()), 0, KEPT)
 
 
+def put_in_place(kind, path):
+    """Puts something else in the place of a file."""
+    os.remove(path)
+    if kind == "folder":
+        os.mkdir(path)
+    elif kind == "pipe":
+        os.mkfifo(path)
+    elif kind == "link":
+        os.symlink("bank2", path)
+    elif kind == "link to nowhere":
+        os.symlink("nowhere", path)
+    elif kind == "device":
+        os.mknod(path, stat.S_IFCHR | 0o600, os.makedev(1, 7))
+    else:
+        with socket.socket(socket.AF_UNIX) as end:
+            end.bind(path)
+
+
 def what_is_no_file_is_told():
-    keep_one()
-    os.remove("vault/bank3")
-    os.mkdir("vault/bank3")
-    check(run(["run"], SCRIPT), 5, b"device bank3\n", "vault/bank3: Is a directory")
+    for kind in ("folder", "pipe", "link", "link to nowhere", "socket", "device"):
+        for name in ("save", "snaps", "bank5"):
+            shutil.rmtree("vault", ignore_errors=True)
+            keep_one()
+            try:
+                put_in_place(kind, os.path.join("vault", name))
+            except PermissionError:
+                continue
+            check_refused(name, f"vault/{name} is no regular file")
     shutil.rmtree("vault")
-    with open("vault", "wb"):
-        pass
-    check(run(["run"], SCRIPT), 5, b"device save\n", "vault/save: Not a directory")
-    check(run(["dump"]), 5, b"device save\n", "vault/save: Not a directory")
+    write("vault")
+    for words in OPENING:
+        check(run(words, SCRIPT), 5, b"device save\n", "vault/save: Not a directory")
+
+
+def what_is_no_file_is_told_before_a_database_is_made():
+    os.makedirs("vault/bank5")
+    check_refused("bank5", "vault/bank5 is no regular file")
+
+
+def two_names_of_one_file_are_told():
+    keep_one()
+    os.remove("vault/bank2")
+    os.link("vault/bank0", "vault/bank2")
+    check_refused("bank2", "vault/bank2 and vault/bank0 are two names of one file")
+
+
+def a_copy_by_hard_links_is_only_read():
+    """A run over it would change both, and the lock is on the savepoint's file alone."""
+    keep_one()
+    shutil.copytree("vault", "other", copy_function=os.link)
+    before = files()
+    check(run(["dump"]), 0, KEPT)
+    check(run(["snaps"]), 0, SNAPSHOTS)
+    came = run(["run"], SCRIPT)
+    check(came, 5, b"device save\n", "vault/save has another name")
+    do_as_told(came[2])
+    check(run(["run"], b"array 1 4\n0 w 1 2 9\n"), 0, b"0.0 ok 2:1\ndurable 2\n")
+    assert files("other") == before, "the other copy was changed"
+    os.link("vault/bank3", "one log file")
+    before = files()
+    check(run(["dump"]), 0, b"epoch 2\n1 2 9\n")
+    check(run(["run"], SCRIPT), 5, b"device bank3\n", "vault/bank3 has another name")
+    assert files() == before, "files were changed"
 
 
 def damage_is_told():
@@ -424,22 +598,34 @@ def index_of(calls, *parts, after=-1):
 
 def a_new_database_is_synced_before_it_has_its_name():
     calls = calls_of(["dump"])
-    locked = index_of(calls, "flock(", "/vault/save.new>", "LOCK_EX")
+    alone = index_of(calls, "flock(", "/vault/snaps>", "LOCK_EX")
+    drafted = index_of(calls, "openat(", "save.new", "O_EXCL", after=alone)
+    locked = index_of(calls, "flock(", "/vault/save.new>", "LOCK_EX", after=drafted)
     written = index_of(calls, "sync(", "/vault/save.new>", after=locked)
     made = index_of(calls, "openat(", "bank15", "O_CREAT")
     names = index_of(calls, "sync(", "/vault>", after=max(written, made))
     named = index_of(calls, "rename", "save.new", after=names)
-    index_of(calls, "sync(", "/vault>", after=named)
-    around = index_of(calls, "mkdir")
-    index_of(calls, "sync(", f"<{os.path.realpath('.')}>", after=around)
-    assert sum("sync(" in call for call in calls) <= 4, calls
+    kept = index_of(calls, "sync(", "/vault>", after=named)
+    around = index_of(calls, "sync(", f"<{os.path.realpath('.')}>", after=index_of(calls, "mkdir"))
+    assert around < named, calls
+    assert sum("sync(" in call for call in calls[:kept + 1]) <= 4, calls
+
+
+def a_run_syncs_all_names_before_it_changes_anything():
+    """A process that died may have made or named some, and have synced none; nobody synced those of a copy."""
+    keep_one()
+    calls = calls_of(["run"], b"array 1 4\n", ",pwrite64,ftruncate")
+    names = index_of(calls, "sync(", "/vault>")
+    around = index_of(calls, "sync(", f"<{os.path.realpath('.')}>")
+    changed = [index for index, call in enumerate(calls) if re.search(r"\b(pwrite64|ftruncate)\(", call)]
+    assert max(names, around) < min(changed), calls
 
 
 def a_file_that_was_missing_stays():
     keep_one()
     os.remove("vault/bank7")
     calls = calls_of(["dump"])
-    made = index_of(calls, "openat(", "bank7", "O_CREAT")
+    made = index_of(calls, "openat(", "bank7", "O_CREAT|O_EXCL")
     index_of(calls, "sync(", "/vault>", after=made)
 
 
@@ -455,6 +641,28 @@ def what_is_told_durable_was_synced():
         elif found:
             waits.discard(found[2])
     assert {"save", "snaps"} < written and not waits, (written, waits, calls)
+
+
+def a_glean_without_threads_waits_for_nobody():
+    """Where no thread can be had, the mappers run before the reducers, which else ask a million times in vain."""
+    if shutil.which("strace") is None:
+        raise LeftOut("there is no strace")
+    script = b"array 1 40\n0 w 1 2 7\n1 w 1 9 8\njoin\nk glean\njoin\n0 r 1 9\n"
+    alike = run(["run"], script)
+    assert alike[0] == 0 and b"\nk.0 snap 1 new " in alike[1], alike
+    os.rename("vault", "before")
+    traced = ["strace", "-f", "-o", "calls", "-e", "trace=clone,clone3,sched_yield",
+              "-e", "inject=clone,clone3:error=EAGAIN:when=1+", PROGRAM, "run"]
+    try:
+        done = subprocess.run(traced, input=script, stdout=subprocess.PIPE, stderr=subprocess.PIPE, timeout=60)
+    except subprocess.TimeoutExpired:
+        raise AssertionError("a run without threads goes on for a minute") from None
+    calls = text_in("calls").splitlines()
+    if not any("clone" in call and "(INJECTED)" in call for call in calls):
+        raise LeftOut("no thread can be refused here")
+    check((done.returncode, done.stdout, done.stderr.decode()), *alike[:2])
+    yields = sum("sched_yield(" in call for call in calls)
+    assert yields < 1000, f"{yields} times the core was given away"
 
 
 def no_file_has_the_place_of_a_stream():
@@ -477,21 +685,33 @@ TESTS = [
     one_of_two_makes_the_database,
     a_missing_save_is_no_new_database,
     each_file_with_bytes_wants_a_save,
+    a_savepoint_under_another_name_is_told,
+    a_file_without_a_savepoint_is_not_named,
     a_stop_within_the_making_leaves_a_new_database,
+    a_draft_follows_no_link,
+    a_making_that_fails_leaves_no_draft,
+    who_makes_a_database_keeps_others_away,
     a_new_database_is_told_where_one_was_asked_for,
     a_copy_that_cannot_be_written_is_read,
+    a_folder_around_that_cannot_be_read_is_passed_over,
     a_full_disk_is_told,
     a_device_without_room_is_told,
+    a_file_that_cannot_be_looked_at_is_told,
     a_disk_that_fills_up_is_told,
     what_is_no_file_is_told,
+    what_is_no_file_is_told_before_a_database_is_made,
+    two_names_of_one_file_are_told,
+    a_copy_by_hard_links_is_only_read,
     damage_is_told,
     the_refused_word_is_told,
     the_faulty_line_is_told,
     a_faulty_line_far_down,
     a_typed_script_is_told,
     a_new_database_is_synced_before_it_has_its_name,
+    a_run_syncs_all_names_before_it_changes_anything,
     a_file_that_was_missing_stays,
     what_is_told_durable_was_synced,
+    a_glean_without_threads_waits_for_nobody,
     no_file_has_the_place_of_a_stream,
 ]
 

@@ -17,8 +17,8 @@ EXAMPLES = ["inventory", "ledger", "prices", "queue", "transfers"]
 KIB, MIB = 1 << 10, 1 << 20
 # What is limited, the limit's name, and the limits that are tried.
 LIMITS = [
-    ("the stack of each thread (ulimit -s)", resource.RLIMIT_STACK, KIB, range(16, 321, 8)),
-    ("address space (ulimit -v)", resource.RLIMIT_AS, MIB // 4, range(3 * 4, 45 * 4)),
+    ("the stack of each thread (ulimit -s)", resource.RLIMIT_STACK, KIB, range(16, 641, 8)),
+    ("address space (ulimit -v)", resource.RLIMIT_AS, MIB // 4, range(3 * 4, 25 * 4)),
 ]
 
 
@@ -52,14 +52,14 @@ def status_under(program, script, what, limit):
 
 def try_limits(program, script, what, unit, limits, goes):
     """The greatest limit under which a run was ended by a signal, and the least above it under which all did all."""
-    signalled, done = None, None
-    for limit in limits:
+    done = None
+    for limit in reversed(limits):
         came = [status_under(program, script, what, limit * unit) for _ in range(goes)]
         if min(came) < 0:
-            signalled, done = limit * unit, None
-        elif max(came) == 0 and done is None:
+            return limit * unit, done
+        if max(came) == 0:
             done = limit * unit
-    return signalled, done
+    return None, done
 
 
 def told(size):

@@ -248,11 +248,12 @@ const STORES: [(u64, Came, u64); 11] = [
     (6, FAULTY, 2),
     (7, FAULTY, 2),
     (8, FAULTY, 2),
-    (9, FAULTY, 3),
+    (9, FAULTY, 2),
     (10, Came::Stored, 3),
 ];
 
-// The third store, in the first place: the calls of loading and storing, each of which fails once.
+// The third store, in the first place: the calls of loading and storing, each of which fails once. Where the last sync
+// fails the valid byte is taken back.
 #[test]
 fn a_store_at_each_fault(rt: HostRuntime) -> Result<(), Fail> {
     for (number, came, sequence) in &STORES {

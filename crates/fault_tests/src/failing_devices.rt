@@ -10,15 +10,14 @@ const SCRIPT: &[u8] = b"array 1 4\n0 w 1 2 7\njoin\n1 w 1 0 9\nk save\n";
 //
 // Of the save, a recovery makes a call for the length and one for each place. A store makes one that reads the valid
 // byte, one that closes the place where it is open, a sync, and a write and a sync for the body and for the valid
-// byte: so the run's four stores begin at the calls 3, 9, 15 and 22. Of a log file, settling makes a call that empties
-// it, as does the first join of those of odd number, which grow from then on.
+// byte: so the run's four stores begin at the calls 3, 9, 15 and 22. Where its last sync fails the valid byte is taken
+// back. Of a log file, settling makes a call that empties it, as does the first join of those of odd number, which grow
+// from then on.
 const FAILING: &str = "\
 save # 0 # 8 # 5 # device save| # epoch 0|
-save # 9 # 13 # 5 # 0.0 ok 1:1|device save| # epoch 0|
-save # 14 # 14 # 5 # 0.0 ok 1:1|device save| # epoch 1|1 2 7|
+save # 9 # 14 # 5 # 0.0 ok 1:1|device save| # epoch 0|
 save # 15 # 21 # 5 # 0.0 ok 1:1|durable 1|1.0 ok 2:2|k.0 device|device save| # epoch 1|1 2 7|
-save # 22 # 27 # 5 # 0.0 ok 1:1|durable 1|1.0 ok 2:2|k.0 save 1|device save| # epoch 1|1 2 7|
-save # 28 # 28 # 5 # 0.0 ok 1:1|durable 1|1.0 ok 2:2|k.0 save 1|device save| # epoch 2|1 0 9|1 2 7|
+save # 22 # 28 # 5 # 0.0 ok 1:1|durable 1|1.0 ok 2:2|k.0 save 1|device save| # epoch 1|1 2 7|
 save # 29 # 29 # 0 # 0.0 ok 1:1|durable 1|1.0 ok 2:2|k.0 save 1|durable 2| # epoch 2|1 0 9|1 2 7|
 snaps # 0 # 2 # 5 # device snaps| # epoch 0|
 snaps # 3 # 3 # 0 # 0.0 ok 1:1|durable 1|1.0 ok 2:2|k.0 save 1|durable 2| # epoch 2|1 0 9|1 2 7|
@@ -42,8 +41,7 @@ const READING: &[u8] = b"array 1 4\n0 r 1 2\n";
 // synced, a savepoint is stored that counts them, and the log files are cut.
 const SETTLING: &str = "\
 save # 0 # 8 # 5 # device save| # epoch 1|1 2 7|
-save # 9 # 14 # 5 # 0.0 ok 2:1 7|device save| # epoch 1|1 2 7|
-save # 15 # 15 # 5 # 0.0 ok 2:1 7|device save| # epoch 2|1 2 7|
+save # 9 # 15 # 5 # 0.0 ok 2:1 7|device save| # epoch 1|1 2 7|
 save # 16 # 16 # 0 # 0.0 ok 2:1 7|durable 2| # epoch 2|1 2 7|
 snaps # 0 # 3 # 5 # device snaps| # epoch 1|1 2 7|
 snaps # 4 # 4 # 0 # 0.0 ok 2:1 7|durable 2| # epoch 2|1 2 7|

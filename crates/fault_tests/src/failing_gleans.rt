@@ -14,12 +14,9 @@ pub(super) const SCRIPT: &[u8] = b"array 1 4\n0 w 1 2 7\njoin\nk glean\njoin\n";
 // The joins store savepoints by the calls 9 to 14 and 15 to 21 of the save. A glean asks each closed log file for its
 // length, and reads what counts; pages are written and synced by two calls. Each swap empties what was closed.
 pub(super) const FAILING: &str = "\
-save # 0 # 7 # 5 # device save| # epoch 0| #
-save # 8 # 8 # 5 # device save| # epoch 0| # snap 0 at 1|
-save # 9 # 13 # 5 # 0.0 ok 1:1|device save| # epoch 0| # snap 0 at 1|
-save # 14 # 14 # 5 # 0.0 ok 1:1|device save| # epoch 1|1 2 7| # snap 0 at 1|
-save # 15 # 20 # 5 # 0.0 ok 1:1|durable 1|k.0 snap 1 new 2|device save| # epoch 1|1 2 7| # snap 0 at 1|
-save # 21 # 21 # 5 # 0.0 ok 1:1|durable 1|k.0 snap 1 new 2|device save| # epoch 2|1 2 7| # snap 0 at 1|snap 1 at 3|
+save # 0 # 8 # 5 # device save| # epoch 0| #
+save # 9 # 14 # 5 # 0.0 ok 1:1|device save| # epoch 0| # snap 0 at 1|
+save # 15 # 21 # 5 # 0.0 ok 1:1|durable 1|k.0 snap 1 new 2|device save| # epoch 1|1 2 7| # snap 0 at 1|
 save # 22 # 22 # 0 # 0.0 ok 1:1|durable 1|k.0 snap 1 new 2|durable 2| # epoch 2|1 2 7| # snap 0 at 1|snap 1 at 3|
 snaps # 0 # 2 # 5 # device snaps| # epoch 0| #
 snaps # 3 # 4 # 5 # 0.0 ok 1:1|durable 1|k.0 device|device snaps| # epoch 1|1 2 7| # snap 0 at 1|

@@ -1,5 +1,6 @@
 pub mod Disk
 pub mod Faults
+pub mod FileDisk
 pub mod Fronts
 pub mod Fuse
 pub mod Growth

@@ -1,6 +1,8 @@
 // A disk over a file of the system. It tells none of its bytes, and a stop may leave anything.
-ghost use Rattle.std.specs.Prelude.{◌≡◌, ◌<◌, ◌+◌, ◌^◌, None, OnOk, OnErr, true};
+ghost use Rattle.std.specs.Prelude.{◌≡◌, ◌<◌, ◌≤◌, ◌+◌, ◌-◌, ◌^◌, None, length, min, IfOk, OnOk, OnErr, true, false};
+ghost use Rattle.outside.specs.Disk.{Torn, Shortened, Same, Calls};
 ghost use Rattle.outside.specs.Faults.{HasCause};
+ghost use Rattle.outside.specs.Listed.{Counted};
 
 use crate::system_file::SystemFile;
 use crate::{Disk, Failed};
@@ -15,7 +17,8 @@ pub struct FileDisk {
     clock: u64,
     // What the last read that answered `Ok` gave, in bytes.
     given: usize,
-    // Whether nothing was written or cut since a sync that answered `Ok`.
+    // Whether nothing was written or cut since a sync that answered `Ok`. No code asks it: contracts alone read it, as
+    // what is settled.
     synced: bool,
 }
 
@@ -23,6 +26,7 @@ impl FileDisk {
     pub fn new(file: File) -> Self
         ensures clock { ⟦<FileDisk as Disk>⟧.clock result ≡ 0 }
         ensures faults { ⟦<FileDisk as Disk>⟧.faults result ≡ 0 }
+        ensures unsynced { result.synced ≡ false }
     {
         FileDisk {
             file: SystemFile::new(file),
@@ -42,6 +46,7 @@ impl FileDisk {
         ensures ok { OnOk result (self.new.clock ≡ self.old.clock + 2) }
         ensures counted { OnOk result (self.new.clock < 2 ^ 64) }
         ensures err { OnErr result (self.new.clock ≡ self.old.clock) }
+        ensures file { OnOk result (self.new.file ≡ self.old.file) }
         ensures cause { HasCause self.old.file.answers.faults self.new.file.answers.faults result }
         ensures synced { self.new.synced ≡ self.old.synced }
     {
@@ -54,6 +59,8 @@ impl FileDisk {
 }
 
 impl Disk for FileDisk {
+    ghost use Rattle.outside.specs.FileDisk.{clock_of, image_of, faults_of, answers_of};
+
     ghost tells = { λ _. None };
 
     ghost clock = { λ disk. disk.clock };
@@ -78,30 +85,56 @@ impl Disk for FileDisk {
         self.file.answers.faults
     }
 
-    fn len(&mut self) -> Result<u64, Failed> {
+    fn len(&mut self) -> Result<u64, Failed>
+        ensures goes { Calls clock_of image_of faults_of Same (clock_of self.new)
+            self.old self.new result }
+        ensures asked { OnOk result (Counted (answers_of self.old) (answers_of self.new)) }
+        ensures synced { self.new.synced ≡ self.old.synced }
+    {
         self.begin()?;
         self.file.len()
     }
 
-    fn read(&mut self, at: u64, buf: &mut [u8]) -> Result<usize, Failed> {
+    fn read(&mut self, at: u64, buf: &mut [u8]) -> Result<usize, Failed>
+        ensures count { IfOk result (λ n. n ≤ length buf.old) }
+        ensures gave { IfOk result (λ n. self.new.given ≡ n) }
+        ensures goes { Calls clock_of image_of faults_of Same (clock_of self.new)
+            self.old self.new result }
+        ensures synced { self.new.synced ≡ self.old.synced }
+    {
         self.begin()?;
         self.given = self.file.read(at, buf)?;
         Ok(self.given)
     }
 
-    fn write(&mut self, at: u64, bytes: &[u8]) -> Result<(), Failed> {
+    fn write(&mut self, at: u64, bytes: &[u8]) -> Result<(), Failed>
+        ensures goes { Calls clock_of image_of faults_of (Torn at (length bytes.now))
+            (clock_of self.new) self.old self.new result }
+        ensures asked { OnOk result (Counted (answers_of self.old) (answers_of self.new)) }
+        ensures unsynced { self.new.synced ≡ false }
+    {
         self.synced = false;
         self.begin()?;
         self.file.write(at, bytes)
     }
 
-    fn cut(&mut self, len: u64) -> Result<(), Failed> {
+    fn cut(&mut self, len: u64) -> Result<(), Failed>
+        ensures goes { Calls clock_of image_of faults_of (Shortened len) (clock_of self.new)
+            self.old self.new result }
+        ensures unsynced { self.new.synced ≡ false }
+    {
         self.synced = false;
         self.begin()?;
         self.file.cut(len)
     }
 
-    fn sync(&mut self) -> Result<(), Failed> {
+    fn sync(&mut self) -> Result<(), Failed>
+        ensures goes { Calls clock_of image_of faults_of Same (clock_of self.new - 1)
+            self.old self.new result }
+        ensures asked { OnOk result (Counted (answers_of self.old) (answers_of self.new)) }
+        ensures synced { OnOk result (self.new.synced ≡ true) }
+        ensures unsynced { OnErr result (self.new.synced ≡ self.old.synced) }
+    {
         self.begin()?;
         self.file.sync()?;
         self.synced = true;

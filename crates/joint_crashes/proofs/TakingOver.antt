@@ -103,6 +103,7 @@ module _ {D : Type 0} {tells : D → Option (List ℕ)} {clock : D → ℕ} {ima
         synced = tt;
         quiet = tt;
         failed = rw same syncs.failed;
+        unwritten = λ differs. save_of syncs.reads;
       }
 
   -- all was done
@@ -123,6 +124,7 @@ module _ {D : Type 0} {tells : D → Option (List ℕ)} {clock : D → ℕ} {ima
     synced = record { save = rests; snaps = syncs.synced.snaps; bank = syncs.synced.bank };
     quiet = quiet_with old mid save syncs.quiet quiet;
     failed = tt;
+    unwritten = tt;
   }
 
   -- the byte couldn't be written again
@@ -142,4 +144,5 @@ module _ {D : Type 0} {tells : D → Option (List ℕ)} {clock : D → ℕ} {ima
     synced = tt;
     quiet = tt;
     failed = (old.save, save, refl, refl, (let later = (save_of syncs.reads).later in omega (arith, rose, later)));
+    unwritten = λ differs. absurd (differs refl);
   }

@@ -21,8 +21,8 @@ pub record IsSynced {D : Type 0} (settled : D → Type 0) (parts : Parts D) : Ty
   pub snaps : settled parts.snaps
   pub bank : (n : ℕ) (bank : D) → parts.banks n ≡ Some bank → settled bank
 
--- Syncs of the devices of a database. Whatever they answer, what reads give stays, and so does what a stop may leave of
--- each moment before; after `Ok` nothing is pending of any. A fault is told of a device whose count of faults rose.
+-- Syncs of the devices of a database. Whatever they answer, what reads give stays, and a stop leaves nothing new; after
+-- `Ok` nothing is pending of any. A fault is told of a device whose count of faults rose.
 pub record SyncsAll {D : Type 0} (tells : D → Option (List ℕ)) (clock : D → ℕ) (image_at : D → ℕ → List ℕ → Type 0)
     (faults : D → ℕ) (settled : D → Type 0) (old new : Vault D) (result : Result (Unit {0}) Device) : Type 0 where
   pub reads : VaultOnlyReads tells clock image_at faults old new
@@ -31,7 +31,7 @@ pub record SyncsAll {D : Type 0} (tells : D → Option (List ℕ)) (clock : D �
   pub failed : IfErr result (λ device. RoseIn faults device old new)
 
 -- What is left of the save device while a byte of it is written again: each stop meanwhile leaves what one before might
--- have left, or a device that names the same savepoint. One that names none is only read.
+-- have left, or a device that names the same savepoint. One that names nothing, as it is damaged, is only read.
 pub record KeepsSavepoint {D : Type 0} (tells : D → Option (List ℕ)) (clock : D → ℕ)
     (image_at : D → ℕ → List ℕ → Type 0) (faults : D → ℕ) (old new : D) : Type 0 where
   pub told : is_some (tells new) ≡ is_some (tells old)
@@ -40,9 +40,12 @@ pub record KeepsSavepoint {D : Type 0} (tells : D → Option (List ℕ)) (clock 
   pub unnamed : IfTold (tells old) (λ file. ((newest : Option Savepoint) → Names file newest → ⊥)
       → OnlyReads tells clock image_at faults old new)
 
--- A database is made ready to be changed, whoever used it last and however that ended: each device is synced, a byte of the
--- save is written again, and the others are only read. No store and no cut is recorded. After `Ok` nothing is pending, and
--- each device tells what it told. A fault is told of a device whose count of faults rose.
+-- A database is made ready to be changed, whoever used it last and however that ended: each device is synced, a byte of
+-- the save is written again, and the others are only read. No store and no cut is recorded. After `Ok` nothing is
+-- pending, and each device tells what it told. A fault is told of a device whose count of faults rose. Where that is
+-- another than the save, the save was only read, too (`unwritten`), as its byte is written only once all are synced.
+-- Of a byte that was written no field says that the others were synced before: each device has a clock of its own, and
+-- calls of two devices that no store and no cut ties together have no order.
 pub record TakesOver {D : Type 0} (tells : D → Option (List ℕ)) (clock : D → ℕ) (image_at : D → ℕ → List ℕ → Type 0)
     (faults : D → ℕ) (settled : D → Type 0) (old new : Vault D) (result : Result (Unit {0}) Device) : Type 0 where
   pub save : KeepsSavepoint tells clock image_at faults old.save new.save
@@ -56,6 +59,7 @@ pub record TakesOver {D : Type 0} (tells : D → Option (List ℕ)) (clock : D �
   pub synced : OnOk result (IsSynced settled (parts_of new))
   pub quiet : OnOk result (AreQuiet faults old new)
   pub failed : IfErr result (λ device. RoseIn faults device old new)
+  pub unwritten : IfErr result (λ device. device ≢ Save → OnlyReads tells clock image_at faults old.save new.save)
 
 module _ {D : Type 0} {tells : D → Option (List ℕ)} {clock : D → ℕ} {image_at : D → ℕ → List ℕ → Type 0}
     {settled : D → Type 0}
@@ -80,7 +84,7 @@ module _ {D : Type 0} {tells : D → Option (List ℕ)} {clock : D → ℕ} {ima
 pub whole_taken : {D : Type 0} {tells : D → Option (List ℕ)} {clock : D → ℕ} {image_at : D → ℕ → List ℕ → Type 0}
     {faults : D → ℕ} {settled : D → Type 0} {old new : Vault D} {result : Result (Unit {0}) Device}
     → TakesOver tells clock image_at faults settled old new result → IsWhole old → IsWhole new
-whole_taken settles whole = record { even = settles.even ∙ whole.even; odd = settles.odd ∙ whole.odd }
+whole_taken takes whole = record { even = takes.even ∙ whole.even; odd = takes.odd ∙ whole.odd }
 
 -- the others are other devices than the save
 snaps_not_save : Snaps ≢ Save
@@ -95,13 +99,13 @@ pub taken_told : {D : Type 0} {tells : D → Option (List ℕ)} {clock : D → �
     → ((disk : D) → settled disk → IfTold (tells disk) (Only clock image_at disk))
     → TakesOver tells clock image_at faults settled old new (Ok done) → IsWhole old → AreTold tells (parts_of old) found
     → AreSettled tells clock image_at (parts_of new) found
-taken_told {tells = tells} {old = old} {new = new} {found = found} done rests settles whole told =
-    let snaps = settles.others Snaps snaps_not_save old.snaps refl in
-    synced_settled rests settles.synced (record {
-      save = settles.told ∙ told.save;
+taken_told {tells = tells} {old = old} {new = new} {found = found} done rests takes whole told =
+    let snaps = takes.others Snaps snaps_not_save old.snaps refl in
+    synced_settled rests takes.synced (record {
+      save = takes.told ∙ told.save;
       snaps = ap tells (same_Some _ _ snaps.1) ∙ snaps.2.told ∙ told.snaps;
       bank = λ n bank there.
-          let was = bank_there whole (whole_taken settles whole) n bank there in
-          let now = settles.others (Bank n) (bank_not_save n) was.0 was.1 in
+          let was = bank_there whole (whole_taken takes whole) n bank there in
+          let now = takes.others (Bank n) (bank_not_save n) was.0 was.1 in
           ap tells (same_Some _ _ (sym there ∙ now.1)) ∙ now.2.told ∙ told.bank n was.0 was.1;
     })

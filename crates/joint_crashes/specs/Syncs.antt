@@ -14,8 +14,8 @@ use Rattle.joint_crashes.specs.Synced.{SyncsAll}
 use Rattle.joint_crashes.specs.VaultReads.{AreQuiet, RoseIn, VaultOnlyReads, quiet_then, rose_then, vault_reads_none, vault_reads_then, was_there, whole_read}
 
 -- a log file of one of these numbers
-abbrev pub IsIn : List ℕ → Device → Type 0
-IsIn numbers device = (n : ℕ) × Contains numbers n × (device ≡ Bank n)
+abbrev pub IsBankIn : List ℕ → Device → Type 0
+IsBankIn numbers device = (n : ℕ) × Contains numbers n × (device ≡ Bank n)
 
 -- of two calls the fault of the first that has one
 abbrev pub first_fault : Result (Unit {0}) Device → Result (Unit {0}) Device → Result (Unit {0}) Device
@@ -23,12 +23,12 @@ first_fault (Ok done) second = second
 first_fault (Err device) second = Err device
 
 -- no log file is one of none
-pub none_in : (device : Device) → IsIn [] device → ⊥
+pub none_in : (device : Device) → IsBankIn [] device → ⊥
 none_in device is = in_none is.0 is.1
 
 -- and those of one number more are the ones before and that one
-pub is_in_more : (numbers : List ℕ) (i : ℕ) → i < length numbers → (device : Device) → IsIn (take (i + 1) numbers) device
-    → IsIn (take i numbers) device ⊎ (device ≡ Bank (get_or numbers i 0))
+pub is_in_more : (numbers : List ℕ) (i : ℕ) → i < length numbers → (device : Device) → IsBankIn (take (i + 1) numbers) device
+    → IsBankIn (take i numbers) device ⊎ (device ≡ Bank (get_or numbers i 0))
 is_in_more numbers i within device is =
     let more = subst (λ l. Contains l is.0) (take_more numbers i 0 within) is.1 in
     elim (Contains-push_cases (take i numbers) (get_or numbers i 0) is.0 more) [

@@ -3,7 +3,7 @@ ghost use Rattle.std.specs.Prelude.{◌≡◌, ◌<◌, ℕ, IsSome};
 ghost use Rattle.std.specs.List.{Contains};
 ghost use Rattle.log_writer.specs.Vault.{disk_in, IsWhole};
 ghost use Rattle.joint_crashes.specs.Synced.{TakesOver, SyncsAll};
-ghost use Rattle.joint_crashes.specs.Syncs.{IsIn, SyncsEach, first_fault};
+ghost use Rattle.joint_crashes.specs.Syncs.{IsBankIn, SyncsEach, first_fault};
 
 use crate::settling::BANKS;
 use log_writer::{Vault, write_again};
@@ -12,10 +12,12 @@ use outside::{Device, Disk, Failed};
 /// Makes a database ready to be changed, whoever used it last and however that ended, or tells the first device that
 /// can't be.
 ///
-/// A process that died may have left writes that reads show and a stop loses: a savepoint's valid byte, then what was to
-/// be cut once it counts. So each device is synced before anything else is written or cut. Then a byte of the save is
-/// written again, and synced (`log_writer::write_again` says why). Each stop meanwhile leaves of the save what one before
-/// might have left, or a device that names the same savepoint, and of the others what one before might have left.
+/// A process that died may have left writes that reads show and a stop loses. Were one of them a savepoint's valid byte,
+/// log files could be cut of which that savepoint counts nothing. Then a stop would lose the byte, and leave the
+/// savepoint before it, which counts them. So each device is synced before anything else is written or cut. Then a byte
+/// of the save is written again, and synced (`log_writer::write_again` says why). Each stop meanwhile leaves of the save
+/// what one before might have left, or a device that names the same savepoint, and of the others what one before might
+/// have left.
 pub fn take_over<D: Disk>(vault: &mut Vault<D>) -> Result<(), Device>
     requires whole { IsWhole vault.old }
     ensures { TakesOver D.tells D.clock D.image_at D.faults D.settled vault.old vault.new result }
@@ -65,7 +67,7 @@ fn sync_device<D: Disk>(vault: &mut Vault<D>, device: Device) -> Result<(), Devi
 fn sync_banks<D: Disk>(vault: &mut Vault<D>, numbers: &[u8]) -> Result<(), Device>
     requires whole { IsWhole vault.old }
     requires numbers { (n : ℕ) → Contains numbers.now n → n < 16 }
-    ensures { SyncsEach D.tells D.clock D.image_at D.faults D.settled (IsIn numbers.now)
+    ensures { SyncsEach D.tells D.clock D.image_at D.faults D.settled (IsBankIn numbers.now)
         vault.old vault.new result }
 {
     let mut outcome = Ok(());

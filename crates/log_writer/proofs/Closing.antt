@@ -1,14 +1,16 @@
 -- The closing of a place: what is read of it, and what a stop leaves meanwhile.
-use Rattle.std.proofs.Common.{◌≡◌, ◌∙◌, ◌<◌, ◌-◌, ◌==◌, inl, inr, ℕ, min, Bool, true, false, List, [], ◌∷◌, ◌++◌}
+use Rattle.std.proofs.Common.{◌≡◌, ◌⊎◌, ◌∙◌, ◌<◌, ◌-◌, ◌==◌, inl, inr, ℕ, min, Bool, true, false, List, [], ◌∷◌, ◌++◌}
 use Rattle.std.proofs.Common.{Option, Result, Ok, Err, OnOk, length, get_or, slice_index, take, drop}
 use Rattle.std.proofs.Common.{sym, ap, subst, arith}
 use Rattle.std.proofs.Common.{eqb-true, drop-cons}
 use Rattle.std.proofs.lemmas.Bool.{eqb-false}
+use Rattle.std.proofs.lemmas.Option.{same_Some}
 use Rattle.wire_form.specs.Savepoint.{valid_byte}
 use Rattle.outside.specs.Disk.{IfTold, Same, Goes, Only, Runs, Torn, written}
 use Rattle.outside.specs.Faults.{HasCause}
 use Rattle.outside.specs.Moments.{runs_then, runs_weaker, runs_call, runs_step, only_same}
 use Rattle.log_writer.specs.Save.{closed, ClosedOrTorn}
+use Rattle.log_writer.specs.Stores.{RoseTwice}
 use Rattle.log_writer.proofs.Stages.{closed_open, closed_shut}
 
 -- the byte that is read of a file that has one there
@@ -34,6 +36,27 @@ module _ {A E : Type 0} (Q : List ℕ → Type 0) (told mid : Option (List ℕ))
   closed_already (Ok x) same found shut done = λ file is.
       subst Q (sym (closed_shut at file (eqb-false _ _ (sym (found file is) ∙ shut)))) (done file (same ∙ is))
   closed_already (Err e) same found shut done = tt
+
+-- the byte that was there is there still, or the count rose twice
+abbrev pub IsThereOrTwice : ℕ → ℕ → ℕ → List ℕ → List ℕ → Type 0
+IsThereOrTwice at before now file left = (slice_index left at ≡ slice_index file at) ⊎ RoseTwice before now
+
+-- what tells the same has that byte
+pub still_there : {told now : Option (List ℕ)} (at before after : ℕ) → now ≡ told
+    → IfTold told (λ file. IfTold now (IsThereOrTwice at before after file))
+still_there at before after same file is left left_is =
+    inl (ap (λ (l : List ℕ). slice_index l at) (same_Some left file (sym left_is ∙ same ∙ is)))
+
+-- and so has an open place whose valid byte is written again
+pub opened_again : {told mid now : Option (List ℕ)} {before between after : ℕ} (at : ℕ) (b : Bool) → mid ≡ told
+    → IfTold told (λ file. b ≡ (slice_index file at == valid_byte)) → b ≡ true → between ≡ before
+    → IfTold mid (λ file. IfTold now (λ left. (slice_index left at ≡ valid_byte) ⊎ RoseTwice between after))
+    → IfTold told (λ file. IfTold now (IsThereOrTwice at before after file))
+opened_again {after = after} at b same found is_open quiet back file is left left_is =
+    elim (back file (same ∙ is) left left_is) [
+      | inl again ↦ inl (again ∙ sym (eqb-true _ _ (sym (found file is) ∙ is_open)))
+      | inr twice ↦ inr (subst (λ n. RoseTwice n after) quiet twice)
+    ]
 
 module _ {D : Type 0} {clock : D → ℕ} {image_at : D → ℕ → List ℕ → Type 0} where
   -- a call that changes nothing, where a stop could leave one content

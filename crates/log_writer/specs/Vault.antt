@@ -1,4 +1,4 @@
--- The devices of a vault, and what a cut of one of them does.
+-- The devices of a vault, and what a cut or a sync of one of them does.
 use Rattle.std.specs.Prelude.{◌≡◌, ◌≢◌, ℕ, ◌/◌, ◌%◌, ◌==◌, List, length, take, Option, Some, is_some, slice_get, if◌then◌else◌, Result, OnOk, OnErr}
 use Rattle.serial_model.specs.Numbers.{workers}
 use Rattle.outside.specs.declared.device.Device.{Device}
@@ -34,7 +34,7 @@ pub record CutsIn {D T E : Type 0} (tells : D → Option (List ℕ)) (clock : D 
   pub even : length new.even.items ≡ length old.even.items
   pub odd : length new.odd.items ≡ length old.odd.items
 
--- a sync of a disk: what reads give and what a stop may leave stay, and after `Ok` nothing is pending
+-- a sync of a disk: what reads give stays, a stop leaves nothing new, and after `Ok` nothing is pending
 pub record Syncs {D T E : Type 0} (tells : D → Option (List ℕ)) (clock : D → ℕ) (image_at : D → ℕ → List ℕ → Type 0) (faults : D → ℕ) (settled : D → Type 0) (old new : D) (result : Result T E) : Type 0 where
   pub reads : OnlyReads tells clock image_at faults old new
   pub done : OnOk result (settled new)

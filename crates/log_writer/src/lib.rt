@@ -11,7 +11,7 @@
 //! - [`write_again`]: nothing is pending of the save device, also where a system forgot what a failed sync was to bring;
 //!   whatever a stop leaves meanwhile names the same savepoint (`any_moment`).
 //! - [`Save::load`] gives the savepoint that the device names (`found`, by `Finds`), or the byte from which on
-//!   it names none (`damaged`). A device names at most one ([`one_newest`]).
+//!   it is damaged, and so names nothing (`damaged`). A device names at most one ([`one_newest`]).
 //! - [`Vault::cut_in`] cuts one device of a vault, of which the trait's clauses hold, and leaves the others (`cut`,
 //!   by `CutsIn` in `specs/Vault.antt`). It records just one cut, whether the device did it or not: the device's
 //!   clock as it began, and the sequence that the save then names (`recorded`, `newest`). Nobody but these two

@@ -24,7 +24,7 @@ pub(crate) const PLACE: u64 = 512;
 /// The valid byte of an open place.
 const VALID: u8 = 0xA5;
 
-/// What is written over the valid byte of a place that is closed.
+/// What is written over the valid byte to close a place.
 const CLOSED: u8 = 0;
 
 /// The last sequence.
@@ -118,7 +118,8 @@ fn newer_of(first: Option<Savepoint>, second: Option<Savepoint>) -> Option<Savep
 }
 
 // Closes the place that begins at this byte, where it is open. A closed one isn't written: a stop
-// within a write may leave any byte, and so an open place of what was there.
+// within a write may leave any byte, and so an open place of what was there. Where the closing fails, reads give the
+// byte that was there, or a second call failed. For a system may show what a failed sync was to bring, and lose it.
 fn close<D: Disk>(disk: &mut D, at: u64) -> Result<(), Failed>
     requires { IfTold (D.tells disk.old) (λ file. at < length file) }
     ensures closed { OnOk result (IfTold (D.tells disk.old) (λ file.
@@ -127,6 +128,9 @@ fn close<D: Disk>(disk: &mut D, at: u64) -> Result<(), Failed>
         Only D.clock D.image_at disk.new (closed at file))) }
     ensures torn { OnErr result (IfTold (D.tells disk.old) (λ file.
         IfTold (D.tells disk.new) (ClosedOrTorn at file))) }
+    ensures taken_back { OnErr result (IfTold (D.tells disk.old) (λ file.
+        IfTold (D.tells disk.new) (λ left. (slice_index left at ≡ slice_index file at)
+        ⊎ RoseTwice (D.faults disk.old) (D.faults disk.new)))) }
     ensures told { is_some (D.tells disk.new) ≡ is_some (D.tells disk.old) }
     ensures any_moment { IfTold (D.tells disk.old) (λ file. Only D.clock D.image_at disk.old file
         → Runs D.clock D.image_at disk.old disk.new (ClosedOrTorn at file)) }

@@ -26,8 +26,9 @@ pub fn write_and_sync<D: Disk>(disk: &mut D, at: u64, bytes: &[u8]) -> Result<()
     disk.sync()
 }
 
-/// Writes one byte and syncs it. Where that fails the byte that was there is written again, whatever comes of it: a system
-/// may forget what a failed sync was to bring, and show it still. So reads give that byte then, or a call failed once more.
+/// Writes one byte and syncs it. Where that fails it writes `was`, the byte that was there, whatever comes of that. For a
+/// system may forget what a failed sync was to bring, and show it still. So reads give `was` then, or a call failed
+/// once more.
 pub fn write_or_take_back<D: Disk>(disk: &mut D, at: u64, byte: u8, was: u8) -> Result<(), Failed>
     requires { IfTold (D.tells disk.old) (λ file. at < length file) }
     ensures written { OnOk result (IfTold (D.tells disk.old) (λ file.

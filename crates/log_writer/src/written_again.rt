@@ -18,7 +18,8 @@ use outside::{Disk, Failed};
 /// A system may forget what a failed sync was to bring: reads show it, and later syncs answer `Ok` without it. Such a sync
 /// may have been a valid byte's. Once a byte beside it is written anew, the next sync brings the block that both are in.
 /// The newest savepoint itself isn't written, since a stop within a write may leave any byte; whatever it leaves of the
-/// other place, the device names the same savepoint (`any_moment`). A device that names none is only read (`unnamed`).
+/// other place, the device names the same savepoint (`any_moment`). One that names nothing, as it is damaged, is only read
+/// (`unnamed`).
 pub fn write_again<D: Disk>(disk: &mut D) -> Result<(), Failed>
     requires settled { D.settled disk.old }
     ensures settled { OnOk result (D.settled disk.new) }
@@ -38,7 +39,7 @@ pub fn write_again<D: Disk>(disk: &mut D) -> Result<(), Failed>
     }
 }
 
-// The same of a device that names this savepoint, or none in both of its places.
+// The same of a device that names this savepoint, or none, where both of its places are closed.
 fn write_beside<D: Disk>(disk: &mut D, save: &Save) -> Result<(), Failed>
     requires settled { D.settled disk.old }
     requires stored { IsStored D.tells D.clock D.image_at disk.old save.now.newest }

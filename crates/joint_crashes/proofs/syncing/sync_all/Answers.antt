@@ -7,14 +7,14 @@ use Rattle.log_writer.specs.Cuts.{whole_ends}
 use Rattle.log_writer.specs.Vault.{IsWhole, disk_in}
 use Rattle.log_writer.specs.declared.vault.Vault.{Vault}
 use Rattle.joint_crashes.specs.Banks.{all_banks, all_below, has_all}
-use Rattle.joint_crashes.specs.Syncs.{IsIn, first_fault, syncs_all, syncs_then}
+use Rattle.joint_crashes.specs.Syncs.{IsBankIn, first_fault, syncs_all, syncs_then}
 use Rattle.joint_crashes.specs.Synced.{SyncsAll}
 use Rattle.joint_crashes.specs.VaultReads.{whole_read}
 use Rattle.joint_crashes.proofs.syncing.sync_all.Goals as goal
 
 -- each device of a whole database is one of these
 each : {D : Type 0} {vault : Vault D} → IsWhole vault → (device : Device) (now : D) → disk_in vault device ≡ Some now
-    → ((device ≡ Save) ⊎ (device ≡ Snaps)) ⊎ IsIn all_banks device
+    → ((device ≡ Save) ⊎ (device ≡ Snaps)) ⊎ IsBankIn all_banks device
 each whole Save now there = inl (inl refl)
 each whole Snaps now there = inl (inr refl)
 each whole (Bank n) now there = elim (cases_lt n 16) [

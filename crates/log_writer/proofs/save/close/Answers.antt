@@ -1,10 +1,10 @@
 use Rattle.std.proofs.Common.{◌≡◌, ◌∙◌, Some, is_some, List, ℕ, ap, subst}
-use Rattle.std.proofs.lemmas.Result.{err_from_is_err_and}
+use Rattle.std.proofs.lemmas.Result.{err_from_is_err_and, on_err_weaker}
 use Rattle.outside.specs.Disk.{Only}
 use Rattle.outside.specs.Faults.{HasCause}
 use Rattle.log_writer.proofs.Closing.{cause_handed, closed_already, closed_by, looked_at, none_done}
-use Rattle.log_writer.proofs.Closing.{synced_then, written_then}
-use Rattle.log_writer.proofs.Flushes.{on_ok}
+use Rattle.log_writer.proofs.Closing.{opened_again, still_there, synced_then, written_then}
+use Rattle.log_writer.proofs.Flushes.{on_err, on_ok}
 use Rattle.log_writer.proofs.save.close.Goals as goal
 
 -- ---- the place can't be read
@@ -21,6 +21,9 @@ returns-in_err-found-clause-durable g c =
 
 pub returns-in_err-found-clause-told : goal.returns-in_err-found-clause-told
 returns-in_err-found-clause-told g c = ap is_some c.is_open.ensures.told
+
+pub returns-in_err-found-clause-taken_back : goal.returns-in_err-found-clause-taken_back
+returns-in_err-found-clause-taken_back g c = on_err c.from_residual.result (still_there c.args.at _ _ c.is_open.ensures.told)
 
 pub returns-in_err-found-clause-any_moment : goal.returns-in_err-found-clause-any_moment
 returns-in_err-found-clause-any_moment g c file told only = looked_at c.args.at file c.is_open.ensures.moments only
@@ -46,6 +49,11 @@ returns-then-found-clause-durable g c =
 
 pub returns-then-found-clause-told : goal.returns-then-found-clause-told
 returns-then-found-clause-told g c = c.write_or_take_back.ensures.told ∙ ap is_some c.is_open.ensures.told
+
+pub returns-then-found-clause-taken_back : goal.returns-then-found-clause-taken_back
+returns-then-found-clause-taken_back g c = on_err_weaker c.write_or_take_back.result
+    (opened_again c.args.at c.in_ok-found.found c.is_open.ensures.told c.in_ok-found.ensures.is c.if-found.true
+    c.in_ok-found.ensures.cause.quiet) c.write_or_take_back.ensures.taken_back
 
 pub returns-then-found-clause-any_moment : goal.returns-then-found-clause-any_moment
 returns-then-found-clause-any_moment g c file told only =
@@ -73,6 +81,10 @@ returns-clause-durable g c =
 
 pub returns-clause-told : goal.returns-clause-told
 returns-clause-told g c = ap is_some (c.sync.ensures.told ∙ c.is_open.ensures.told)
+
+pub returns-clause-taken_back : goal.returns-clause-taken_back
+returns-clause-taken_back g c =
+    on_err c.sync.result (still_there c.args.at _ _ (c.sync.ensures.told ∙ c.is_open.ensures.told))
 
 pub returns-clause-any_moment : goal.returns-clause-any_moment
 returns-clause-any_moment g c file told only =

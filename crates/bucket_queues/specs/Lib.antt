@@ -5,4 +5,6 @@ pub mod PassedLaws
 pub mod Taken
 pub mod TakenLaws
 pub mod Threads
+pub mod TurnLaws
+pub mod Turns
 pub mod ThreadLaws

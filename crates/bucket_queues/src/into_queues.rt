@@ -9,6 +9,7 @@ ghost use Rattle.bucket_queues.specs.Balance.{hand};
 ghost use Rattle.log_mapper.specs.Mapped.{AreMapped, AreMappedLines, IsDamaged};
 ghost use Rattle.bucket_queues.specs.Passed.{HavePassed};
 ghost use Rattle.bucket_queues.specs.Threads.{HasPut, IsSameMapper};
+ghost use Rattle.bucket_queues.specs.Turns.{GoByTurns, TakesTurn};
 
 use crate::rule::{BucketPass, BucketQueue, Puts};
 use lists::{Memory, OrMemory};
@@ -64,6 +65,8 @@ fn put_into<R: Wait>(
     ensures same { IsSamePass at_even.old at_even.new × IsSamePass at_odd.old at_odd.new }
     ensures passed { OnOk result (HavePassed (view at_even.old) (view at_even.new) (view at_odd.old) (view at_odd.new)
         back.old.items back.new.items (bucket ∷ [])) }
+    ensures turn { OnOk result (TakesTurn to_odd (view at_even.old).put (view at_even.new).put
+        (view at_odd.old).put (view at_odd.new).put bucket) }
 {
     if to_odd {
         put_one(rt, odd, at_odd, bucket, back)?;
@@ -88,6 +91,8 @@ fn put_by_turns<R: Wait>(
     ensures same { IsSamePass at_even.old at_even.new × IsSamePass at_odd.old at_odd.new }
     ensures passed { OnOk result (HavePassed (view at_even.old) (view at_even.new) (view at_odd.old) (view at_odd.new)
         back.old.items back.new.items buckets.items) }
+    ensures turns { OnOk result (GoByTurns (view at_even.old).put (view at_even.new).put
+        (view at_odd.old).put (view at_odd.new).put buckets.items) }
 {
     let mut to_odd = false;
     for bucket in buckets {
@@ -97,8 +102,9 @@ fn put_by_turns<R: Wait>(
     Ok(())
 }
 
-/// What `log_mapper::map_bank` makes of a log file goes into the two queues: the bucket of the first storage into the first,
-/// that of the second into the second, and so on. It refuses what `map_bank` does, before any bucket is put.
+/// What `log_mapper::map_bank` makes of a log file goes into the two queues: the bucket of the first storage into the
+/// first, that of the second into the second, and so on by turns (`GoByTurns`), but for those that are kept back. It
+/// refuses what `map_bank` does, before any bucket is put.
 pub fn map_into<D: Disk, R: Wait>(
     rt: &R,
     alloc: Global,
@@ -118,7 +124,9 @@ pub fn map_into<D: Disk, R: Wait>(
     ensures same { IsSameMapper mapper.old mapper.new }
     ensures mapped { OnOk result ((made : List TheBucket) × HasPut mapper.old mapper.new made
         × IfTold (D.tells disk.old) (λ file. AreMapped bank length decls.now from to file made)
-        × (bytes : List ℕ) × AreMappedLines bank decls.now from to bytes made) }
+        × (bytes : List ℕ) × AreMappedLines bank decls.now from to bytes made
+        × GoByTurns (view mapper.old.at_even).put (view mapper.new.at_even).put
+        (view mapper.old.at_odd).put (view mapper.new.at_odd).put made) }
     ensures damaged { (at : ℕ) → result ≡ Err (OrMemory.Fault (MapFault.Damaged at))
         → IfTold (D.tells disk.old) (λ file. IsDamaged length decls.now file at) }
     ensures device { result ≡ Err (OrMemory.Fault MapFault.Device)
@@ -143,6 +151,8 @@ fn put_all<R: Wait>(
     requires odd { IsPassOf odd.now mapper.old.at_odd × (0 < (view mapper.old.at_odd).parts) }
     ensures same { IsSameMapper mapper.old mapper.new }
     ensures put { OnOk result (HasPut mapper.old mapper.new buckets.items) }
+    ensures turns { OnOk result (GoByTurns (view mapper.old.at_even).put (view mapper.new.at_even).put
+        (view mapper.old.at_odd).put (view mapper.new.at_odd).put buckets.items) }
 {
     put_by_turns(
         rt,

@@ -130,8 +130,8 @@ module _ (ds es : List Decl) (same : SameDecls ds es) where
       → IsMet es lines dropped worker ops refusal → IsMet ds lines dropped worker ops refusal
   same_try lines dropped worker ops (InConflict met) m = m
   same_try lines dropped worker ops (NoSlot words) m = m
-  same_try lines dropped worker ops NoRoom m = (m.0, m.1, same_on_tree m.0 m.2)
-  same_try lines dropped worker ops NoNumber m = tt
+  same_try lines dropped worker ops (NoRoom set) m = (m.0, m.1, same_on_tree m.0 m.2)
+  same_try lines dropped worker ops (NoNumber clock) m = tt
 
   same_tries : (lines : List (List (List Op))) (dropped : Type 0) (worker : ℕ) (mine : List (List Op))
       (refused : List (List TryRefusal)) → LinesMet es lines dropped worker mine refused

@@ -96,6 +96,7 @@ module _ {D : Type 0} {before lent : Vault D} (room : RoomAlone before lent) whe
       beside = all.beside;
       seen = all.seen;
       places = all.places;
+      met = all.met;
       sees = all.sees;
       back = all.back;
       keeper = all.keeper;

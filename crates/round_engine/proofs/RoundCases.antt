@@ -280,7 +280,8 @@ module _ {D : Type 0} {tells : D → Option (List ℕ)} {clock : D → ℕ} {ima
     files = files_out;
     between_whole = subst IsWhole (sym now_is) (after_whole stands ready some start_many idle all);
     rests = λ is. absurd (let no = sym is ∙ not_swapped in cc);
-    conflicts = ap (λ (r : RuntimeState). r.stands.conflicts) new_is;
+    refusals = ap (λ (r : RuntimeState). r.stands.refused) new_is;
+    met = ap (λ (r : RuntimeState). r.stands.met) new_is;
     slots = ap (λ (r : RuntimeState). r.stands.slots) new_is;
     mine = ap (λ (r : RuntimeState). r.stands.mine) new_is;
     drops = ap (λ (r : RuntimeState). r.stands.drops) new_is;

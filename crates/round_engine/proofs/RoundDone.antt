@@ -39,11 +39,13 @@ use Rattle.shared_rounds.specs.Shares.{BeginsAt, shown_epochs}
 use Rattle.round_engine.specs.Changes.{AreLogged}
 use Rattle.round_engine.specs.Crashes.{CarriesCrashes}
 use Rattle.engine_pages.specs.declared.view.Dropped.{Dropped as Counts}
+use Rattle.engine_pages.specs.declared.view.Met.{Met}
 use Rattle.round_engine.specs.Drops.{counts_of}
 use Rattle.round_engine.specs.Ends.{comes_to_advance, comes_to_save, durable_of, end_of, epoch_joined, swaps, where_true}
 use Rattle.round_engine.specs.Gleans.{RoundGleans}
 use Rattle.round_engine.specs.Histories.{HasGathered}
 use Rattle.round_engine.specs.Keeping.{IsSavedBySeen, KeepsSaves, epochs_in, keeper_on}
+use Rattle.round_engine.specs.SavesMet.{MetBySaves}
 use Rattle.round_engine.specs.Phases.{RunsAll}
 use Rattle.round_engine.specs.Unbegun.{RoomAlone}
 use Rattle.round_engine.specs.RanRound.{AreRoundMarks, LeavesVault, Rounds, SwapsFiles}
@@ -258,7 +260,8 @@ module _ {D : Type 0} (tells : D → Option (List ℕ)) (clock : D → ℕ) (ima
     pub files : SwapsFiles tells clock image_at faults (ran_with logs failed others) logs old new before now
     pub between_whole : IsWhole files.between
     pub rests : swaps (ran_with logs failed others) ≡ true → (w : ℕ) (log : LogState) → slice_get logs w ≡ Some log → IsAtRest log
-    pub conflicts : new.stands.conflicts ≡ all.kept.stands.conflicts
+    pub refusals : new.stands.refused ≡ all.kept.stands.refused
+    pub met : new.stands.met ≡ all.kept.stands.met
     pub slots : new.stands.slots ≡ all.kept.stands.slots
     pub mine : new.stands.mine ≡ all.kept.stands.mine
     pub drops : new.stands.drops ≡ all.kept.stands.drops
@@ -604,8 +607,8 @@ module _ {D : Type 0} {tells : D → Option (List ℕ)} {clock : D → ℕ} {ima
               run = λ index. (run index).0;
               caused = caused;
               beside = beside;
-              conflicts = ends.conflicts ∙ ap (λ (x : Standing). x.conflicts) kept_stands
-                  ∙ all.lines.over.runs.conflicts;
+              words = all.lines.over.runs.words;
+              refused = ends.refusals ∙ ap (λ (x : Standing). x.refused) kept_stands ∙ all.lines.over.runs.refused;
               lines_are = λ w below. shares_lines old.stands.decls old.stands.clock.epoch old.stands.clock.draw
                   all.worked.clock.draw tries shares w
                   all.lines.over.runs.each;
@@ -623,6 +626,8 @@ module _ {D : Type 0} {tells : D → Option (List ℕ)} {clock : D → ℕ} {ima
                   (map (λ (share : Share). share.tries_refused) shares)) all.lines.lines all.lines.over.runs.met);
             };
             dropped = ends.drops ∙ kept_drops;
+            seen = subst (λ (l : List Met). MetBySaves old.stands.met l all.places)
+                (sym (ends.met ∙ ap (λ (x : Standing). x.met) kept_stands)) all.met;
             history = record {
               gathered = subst (λ m. HasGathered old.stands.decls round report.outcomes old.stands.mine m)
                   (sym (ends.mine ∙ ap (λ (x : Standing). x.mine) kept_stands)) all.history.gathered;

@@ -565,7 +565,9 @@ module _ {D : Type 0} {tells : D → Option (List ℕ)} {clock : D → ℕ} {ima
     files = files_made;
     between_whole = pre_whole facts;
     rests = λ is. rests facts (sym comes_is ∙ (and_parts (comes_to_swap ran) (not (closed_failed ran)) is).0);
-    conflicts = ap (λ (s : Standing). s.conflicts) (new_stands
+    refusals = ap (λ (s : Standing). s.refused) (new_stands
+        ∙ ap (λ (s : Standing). record s { ended = is_some report.end }) js.joins.stands);
+    met = ap (λ (s : Standing). s.met) (new_stands
         ∙ ap (λ (s : Standing). record s { ended = is_some report.end }) js.joins.stands);
     slots = ap (λ (s : Standing). s.slots) (new_stands
         ∙ ap (λ (s : Standing). record s { ended = is_some report.end }) js.joins.stands);

@@ -16,6 +16,7 @@ use Rattle.worker_logs.specs.Shown.{Stood}
 use Rattle.shared_rounds.specs.Below.{met_at, mets_of}
 use Rattle.shared_rounds.specs.Shares.{shown_epochs}
 use Rattle.round_engine.specs.Keeping.{epochs_in}
+use Rattle.round_engine.specs.SavesMet.{AreEights, AreSince, places_since}
 use Rattle.round_engine.specs.SideLines.{all_met, AllMetAt, AllStoodAt, AreStoodAt, HasSeenMarks}
 use Rattle.round_engine.proofs.SideSteps.{first_before, in_left, in_right}
 
@@ -51,8 +52,7 @@ before_of v worker = length (get_or v.parked worker bare_seat).marks - 1
 
 -- places from the worker of this number on, among the marks of the round
 abbrev pub places_from : View → ℕ → List ℕ → List ℕ
-places_from v worker [] = []
-places_from v worker (place ∷ places) = (place - before_of v worker) ∷ places_from v (worker + 1) places
+places_from v worker places = places_since (before_of v) worker places
 
 abbrev pub round_places : View → List (List ℕ) → List (List ℕ)
 round_places v places = map (places_from v 0) places
@@ -148,6 +148,41 @@ module _ (v : View) (marks : List (List Stood)) (all : List Met)
       → AllStoodAt marks (round_places v s.places) seen
   stood_seen seen w eight same s = stood_all seen s.places eight s.all (λ x has.
       subst (λ l. Contains l x) (sym s.met ∙ same) (in_right v.met (all_met seen s.places) x has))
+
+-- ---- eight marks of each save, all of them of the round
+
+-- each is one of the round
+since_from : (v : View) (worker : ℕ) (places : List ℕ)
+    → ((j place : ℕ) → slice_get places j ≡ Some place
+    → length (get_or v.parked (worker + j) bare_seat).marks ≤ place + 1)
+    → AreSince (before_of v) worker places
+since_from v worker [] begun = tt
+since_from v worker (p ∷ places) begun =
+    let low = subst (λ n. length (get_or v.parked n bare_seat).marks ≤ p + 1) (plus_zero worker) (begun 0 p refl) in (
+      omega (arith, low),
+      since_from v (worker + 1) places (λ j place there.
+          subst (λ n. length (get_or v.parked n bare_seat).marks ≤ place + 1) (plus_suc worker j)
+          (begun (suc j) place there)),
+    )
+  where
+    plus_zero : (n : ℕ) → n + 0 ≡ n
+    plus_zero n = omega arith
+
+    plus_suc : (n j : ℕ) → n + suc j ≡ (n + 1) + j
+    plus_suc n j = omega arith
+
+pub met_eights : (v : View) (seen : List (List Mark)) (places : List (List ℕ)) → AllMetAt v seen places
+    → AreEights (before_of v) seen places
+met_eights v [] [] all = tt
+met_eights v [] (t ∷ places) all = absurd all
+met_eights v (m ∷ seen) [] all = absurd all
+met_eights v (m ∷ seen) (t ∷ places) all = (
+  all.0.eight,
+  all.0.count,
+  since_from v 0 t (λ j place there. subst (λ n. length (get_or v.parked n bare_seat).marks ≤ place + 1)
+      (sym (zero_plus j)) (all.0.begun j place there)),
+  met_eights v seen places all.1,
+)
 
 -- ---- the epochs of marks that stood there
 

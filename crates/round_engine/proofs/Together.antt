@@ -1,12 +1,14 @@
 -- Lines of the workers and of the maintenance thread, which ran beside each other, as one step of a runtime and of a
 -- vault.
-use Rattle.std.proofs.Common.{◌≡◌, ◌∙◌, sym, ap, subst, refl, ℕ, Bool, false, List, [], ◌∷◌, length, Option, arith}
+use Rattle.std.proofs.Common.{◌≡◌, ◌∙◌, ◌++◌, sym, ap, subst, refl, ℕ, Bool, false, List, [], ◌∷◌, length, Option}
+use Rattle.std.proofs.Common.{arith}
 use Rattle.std.specs.Prelude.{replicate}
 use Rattle.std.proofs.lemmas.List.{length-map}
 use Rattle.log_writer.specs.declared.vault.Vault.{Vault}
 use Rattle.serial_model.specs.declared.decl.Decl.{Decl}
 use Rattle.script_grammar.specs.Script.{Round, keeper_lines}
 use Rattle.engine_pages.specs.declared.view.Dropped.{Dropped as Counts}
+use Rattle.engine_pages.specs.declared.view.Met.{Met}
 use Rattle.engine_pages.specs.declared.view.View.{View}
 use Rattle.wire_form.specs.declared.clock.Mark.{Mark}
 use Rattle.tx_script.specs.declared.answer.Answer.{Answer}
@@ -21,7 +23,7 @@ use Rattle.round_engine.specs.Keeping.{RunsKeeper}
 use Rattle.round_engine.specs.Lines.{standing}
 use Rattle.round_engine.specs.Phases.{RunsLines, as_begun}
 use Rattle.round_engine.specs.Shares.{Share}
-use Rattle.round_engine.specs.SideLines.{AllMetAt, HasRunBeside, lent_at, stands_in_view}
+use Rattle.round_engine.specs.SideLines.{all_met, AllMetAt, HasRunBeside, lent_at, stands_in_view}
 use Rattle.round_engine.specs.Sides.{SameButGrowing, closed_in, growing_in}
 use Rattle.round_engine.specs.Standing.{RuntimeState, Standing}
 use Rattle.round_engine.specs.Together.{RunsTogether}
@@ -30,7 +32,7 @@ use Rattle.round_engine.specs.declared.keeper.KeeperEnd.{KeeperEnd}
 use Rattle.round_engine.specs.declared.keeper_side.Lent.{Lent}
 use Rattle.round_engine.proofs.SharesRun.{same_decls}
 use Rattle.round_engine.proofs.SideBack.{keeper_back, with_rest}
-use Rattle.round_engine.proofs.SideSeen.{AllLong, round_back, round_places, stood_seen}
+use Rattle.round_engine.proofs.SideSeen.{AllLong, before_of, met_eights, round_back, round_places, stood_seen}
 
 -- ---- the vault
 
@@ -273,6 +275,16 @@ module _ {D : Type 0} {tells : D → Option (List ℕ)} {clock : D → ℕ} {ima
     beside = beside_with r.side before apart now lent_out;
     seen = b.did_so.runs.seen;
     places = round_places v b.did_so.runs.saw.places;
+    met = record {
+      before = before_of v;
+      seen = b.did_so.runs.seen;
+      places = b.did_so.runs.saw.places;
+      met = ap (λ (x : Standing). x.met) together.now_is ∙ b.marks_met ∙ b.did_so.runs.saw.met
+          ∙ ap (λ (l : List Met). l ++ all_met b.did_so.runs.seen b.did_so.runs.saw.places)
+          (b.begins.met ∙ sym (ap (λ (x : Standing). x.met) together.was_is));
+      eight = met_eights v b.did_so.runs.seen b.did_so.runs.saw.places b.did_so.runs.saw.all;
+      told_are = refl;
+    };
     sees = stood_seen v together.marks w.met (λ x has below mine at from. b.met x has below mine at from)
         b.did_so.runs.seen w marks_many refl b.did_so.runs.saw;
     back = round_back v b.did_so.runs.saw.places b.did_so.runs.saw.back
@@ -306,6 +318,7 @@ did_less did less so together = record {
         epoch = b.epoch;
         pages = b.pages;
         drops = b.drops;
+        marks_met = b.marks_met;
         known = b.known;
         met = b.met;
       };

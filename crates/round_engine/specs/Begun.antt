@@ -22,7 +22,8 @@ begins_at decls state words first = record words {
   state = state;
   clock = first;
   mine = [];
-  conflicts = 0;
+  refused = [];
+  met = [];
   drops = [];
   ended = false;
 }

@@ -11,6 +11,7 @@ pub mod Gleans
 pub mod Swaps
 pub mod Crashes
 pub mod GleanStops
+pub mod SavesMet
 pub mod RanRound
 pub mod Joins
 pub mod Shares

@@ -18,6 +18,7 @@ use Rattle.round_engine.specs.Keeping.{RunsJoin, RunsKeeper}
 use Rattle.round_engine.specs.Histories.{KeepsHistory}
 use Rattle.round_engine.specs.Refusals.{device_refused, end_told, first_full, leaves_out, lines_refused, names_device}
 use Rattle.round_engine.specs.Sides.{growing_in, SameButGrowing}
+use Rattle.round_engine.specs.SavesMet.{MetBySaves}
 use Rattle.round_engine.specs.SideLines.{AllStoodAt}
 use Rattle.round_engine.specs.Standing.{AreClosed, HasSnapshot, LogsStand, RuntimeState, Standing}
 use Rattle.round_engine.specs.Swaps.{SwapsAt}
@@ -122,6 +123,7 @@ module _ {D : Type 0} (tells : D → Option (List ℕ)) (clock : D → ℕ) (ima
     pub beside : SameButGrowing old.side before between
     pub seen : List (List Mark)
     pub places : List (List ℕ)
+    pub met : MetBySaves old.stands.met worked.met places
     pub sees : AllStoodAt marks places seen
     pub back : NeverBack first_places places
     pub keeper : RunsKeeper tells clock image_at faults seen (keeper_lines round) said refusal mid kept between after
@@ -149,6 +151,7 @@ module _ {D : Type 0} (tells : D → Option (List ℕ)) (clock : D → ℕ) (ima
     pub beside : SameButGrowing old.side lent between
     pub seen : List (List Mark)
     pub places : List (List ℕ)
+    pub met : MetBySaves old.stands.met worked.met places
     pub sees : AllStoodAt marks places seen
     pub back : NeverBack first_places places
     pub keeper : RunsKeeper tells clock image_at faults seen (keeper_lines round) report.keeper refused.keeper mid kept

@@ -49,8 +49,9 @@ use Rattle.round_engine.specs.Histories.{KeepsHistory}
 use Rattle.round_engine.specs.Logs.{AreClosedFiles, AreLogs, IsRefusedBy, LeavesLog}
 use Rattle.round_engine.specs.Saves.{ArePages, AreSaved, beside_at_end, GoesOnWith, IsSavedBy, newest_after}
 use Rattle.round_engine.specs.Saves.{AreShownAt, AreTied, beside_at_save, GoesBy, HaveEnded, saves_told}
+use Rattle.round_engine.specs.SavesMet.{MetBySaves}
 use Rattle.round_engine.specs.Sides.{closed_numbers, other_side}
-use Rattle.round_engine.specs.Shares.{all_conflicts}
+use Rattle.round_engine.specs.Shares.{AreWordsTold, causes_of}
 use Rattle.round_engine.specs.Standing.{beside_of, files_of, RuntimeState, StandsOn}
 use Rattle.round_engine.specs.Swaps.{CutsBanks, behind_swap, since_swap}
 use Rattle.round_engine.specs.Unbegun.{IsUnbegun}
@@ -90,8 +91,9 @@ pub record Begins (tries : ℕ) (round : Round) (old : RuntimeState) (ran : Ran)
 
 -- What was run of a round on the engine: its commits are a serial run from the old contents to the new, and the logs
 -- have what they changed, as log lines; each outcome, answer and refusal has its cause, and so has what the maintenance
--- thread's saves saw of the workers' marks, beside which it may have run. The conflicts that are told of lines' tries
--- are those that the engine counted.
+-- thread's saves saw of the workers' marks, beside which it may have run. What the engine refused tries for gets the
+-- refusals that are told of the round's lines, each whole, worker by worker and in their order, and no others; the word
+-- of a conflict stands where it is told.
 pub record RunsRoundLines (round : Round) (old new : RuntimeState) (ran : Ran) (logged : ℕ → List Commit) : Type 0 where
   pub decls : new.stands.decls ≡ old.stands.decls
   pub slots : new.stands.slots ≡ old.stands.slots
@@ -99,7 +101,8 @@ pub record RunsRoundLines (round : Round) (old new : RuntimeState) (ran : Ran) (
       → IsRun old.stands.decls index (round ∷ []) old.stands.state old.stands.clock (ran ∷ []) new.stands.state
   pub caused : AllCaused ran
   pub beside : CausedBeside ran
-  pub conflicts : new.stands.conflicts ≡ old.stands.conflicts + all_conflicts ran.beside.refused
+  pub refused : new.stands.refused ≡ old.stands.refused ++ causes_of ran.beside.refused
+  pub words : AreWordsTold old.stands.decls old.stands.slots ran.beside.refused
   pub lines_are : (worker : ℕ) → worker < 8 → AllByRecursion (IsLineOf old.stands.decls) (logged worker)
   pub logged_are : (index worker : ℕ) → worker < 8
       → AreLogged old.stands.decls worker old.stands.state (run index).ordered (logged worker)
@@ -240,11 +243,12 @@ module _ {D : Type 0} (tells : D → Option (List ℕ)) (clock : D → ℕ) (ima
 -- ---- a round
 
 -- A round was run, each line being tried so often at most, and joined. Each number was drawn for a commit, or for a try
--- that was refused behind its draw. A try in conflict at a record of an array met a line of another worker of the round,
--- at a key that it touches and that one may change, or pages were dropped in the round; a line that found no slot may
--- change some key, and one that filled a set has an operation on a tree. The engine's counts of drops get those of the
--- round, and nothing else. Where nothing ends the run, its last epoch is durable. The commits are those which came to
--- the history that threads share. The runtime is down just where a device failed.
+-- that was refused behind its draw. A try in conflict at a record of an array met a line of another worker of the
+-- round, at a key that it touches and that one may change, or pages were dropped in the round; one on the way to a key
+-- is of a line that touches it; a line that was to be given a slot may change some key, and one that filled a set has
+-- an operation on a tree. The engine's counts of drops get those of the round, and nothing else, and what it met of
+-- marks gets those of the round's saves: eight a save, in order. Where nothing ends the run, its last epoch is durable.
+-- The commits are those which came to the history that threads share. The runtime is down just where a device failed.
 pub record RanRound (tries : ℕ) (round : Round) (old new : RuntimeState) (report : Report) : Type 0 where
   pub ran : Ran
   pub logged : ℕ → List Commit
@@ -254,6 +258,7 @@ pub record RanRound (tries : ℕ) (round : Round) (old new : RuntimeState) (repo
   pub counted : DrawsAreCounted ran
   pub met : AreMet old.stands.decls ran round
   pub dropped : new.stands.drops ≡ old.stands.drops ++ map counts_of ran.beside.drops
+  pub seen : MetBySaves old.stands.met new.stands.met ran.beside.seen
   pub history : KeepsHistory round ran.printed.outcomes old.stands new.stands
   pub durable : ran.printed.durable ≡ durable_of ran
   pub lasts : report.end ≡ None → ran.printed.durable ≡ Some ran.printed.end.epoch

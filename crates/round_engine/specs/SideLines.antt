@@ -36,13 +36,14 @@ use Rattle.worker_logs.specs.Logs.{fresh_log}
 use Rattle.worker_logs.specs.Shown.{Stood}
 use Rattle.worker_logs.specs.declared.savepoints.Beside.{Beside}
 use Rattle.worker_logs.specs.declared.savepoints.Side.{Side}
-use Rattle.shared_rounds.specs.Below.{AreClaimed, calls_for, calls_in, mets_of}
+use Rattle.shared_rounds.specs.Below.{AreClaimed, calls_for, calls_in}
 use Rattle.shared_rounds.specs.Beside.{HoldsNothing, Went}
 use Rattle.shared_rounds.specs.Drops.{HasDropped}
 use Rattle.round_engine.specs.Ends.{save_limited}
 use Rattle.round_engine.specs.Keeping.{CanKeep, RunsKeeper, seen_unless, StepsKeeper, StepsSave}
 use Rattle.round_engine.specs.RoundCalls.{is_answered}
 use Rattle.round_engine.specs.Gleans.{GleansFiles}
+pub use Rattle.round_engine.specs.SavesMet.{all_met}
 use Rattle.round_engine.specs.Sides.{closed_in, growing_in, is_odd}
 use Rattle.round_engine.specs.Standing.{RuntimeState, Standing}
 use Rattle.round_engine.specs.declared.keeper.KeeperEnd.{KeeperEnd}
@@ -58,7 +59,8 @@ bare_stands decls epoch slots pages resident drops = record {
   opening = [];
   clock = record { epoch = epoch; draw = 1 };
   mine = [];
-  conflicts = 0;
+  refused = [];
+  met = [];
   slots = slots;
   pages = pages;
   resident = resident;
@@ -130,12 +132,6 @@ pub record HasGleanedOver {D : Type 0} (tells : D → Option (List ℕ)) (clock 
   pub save : now.save ≡ before.save
   pub ties : now.ties ≡ before.ties
   pub cuts : now.cuts ≡ before.cuts
-
--- the marks of workers, list by list, as they are met, each at its place
-abbrev pub all_met : List (List Mark) → List (List ℕ) → List Met
-all_met [] places = []
-all_met (marks ∷ seen) [] = []
-all_met (marks ∷ seen) (these ∷ places) = mets_of 0 marks these ++ all_met seen places
 
 -- The marks of all workers were met at these places, none before the last that the pass knew of as it seated the
 -- worker.

@@ -12,7 +12,7 @@ use Rattle.resident_pages.specs.Fills.{AreClaimed}
 use Rattle.resident_pages.specs.Publishes.{OnlyFilled}
 use Rattle.engine_pages.specs.Passes.{view, Pass}
 use Rattle.engine_pages.specs.Views.{bare_seat, opening_view, IsResting}
-use Rattle.shared_rounds.specs.SharedState.{conflicts_in, marks_of, opened, shared_by}
+use Rattle.shared_rounds.specs.SharedState.{marks_of, opened, shared_by}
 use Rattle.shared_rounds.specs.SharedState.{state_of, IsKept, SharedState}
 use Rattle.shared_rounds.proofs.Contents.{opened_is}
 use Rattle.shared_rounds.proofs.Declared.{OpensDeclared}
@@ -32,7 +32,8 @@ unused l clock = record {
   opening = l.opening;
   clock = clock;
   mine = [];
-  conflicts = 0;
+  refused = [];
+  met = [];
   marks = replicate 8 (record { epoch = Some (l.first.epoch - 1); length = 0 });
   slots = l.slots;
   pages = l.pages;
@@ -50,7 +51,8 @@ first_shared l clock keeper is same =
       opening = v.layout.opening;
       clock = clock;
       mine = v.mine;
-      conflicts = conflicts_in v.refused;
+      refused = v.refused;
+      met = v.met;
       marks = marks_of v.parked;
       slots = v.layout.slots;
       pages = v.pages;

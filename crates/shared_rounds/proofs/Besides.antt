@@ -62,6 +62,7 @@ begins_on was mid seated kept some sets past owns is =
       rests = subst (λ (s : Seat). IsResting s) (sym sets.seat) kept.rests;
       declared = subst (λ (l : Layout). AreDecls l.decls) (sym sets.layout) kept.decls;
       drops = sets.drops;
+      met = sets.met;
       free = free_still mid (with_made (seats_from 8 0) mid) refl refl refl refl refl (sets.free kept.free);
     })
   where
@@ -85,6 +86,7 @@ begins_beside keeper clock v epoch on = record {
   rests = on.rests;
   declared = on.declared;
   drops = on.drops;
+  met = on.met;
   free = on.free;
 }
 
@@ -170,6 +172,7 @@ module _ {D : Type 0} (tells : D → Option (List ℕ)) (clock : D → ℕ) (ima
         pages = ap (λ (v : View). v.pages) audited.2.is ∙ ap (λ (v : View). v.pages) audited.1.is
             ∙ same_pages behind ended (ran.went.claimed ran.begins.claimed) owns layout so.fills so.pages;
         drops = ap (λ (v : View). v.drops) audited.2.is ∙ ap (λ (v : View). v.drops) audited.1.is ∙ so.drops;
+        marks_met = ap (λ (v : View). v.met) audited.2.is ∙ ap (λ (v : View). v.met) audited.1.is ∙ so.met;
         known = λ worker small. omega (arith, ran.known worker small);
         met = λ x has small mine there low.
             let p = marks_at so.parts x.worker mine there in

@@ -18,7 +18,8 @@ use Rattle.tx_script.specs.Run.{LogRefusal}
 use Rattle.tx_script.specs.declared.outcome.Outcome.{Outcome}
 use Rattle.tx_script.specs.declared.outcome.Outcome.TheVariants.{Committed, Conflict, Full, Wide, Limit, Unrun}
 use Rattle.worker_cells.specs.Rows.{AreInARow, ComesOf, LineRan, lines_of, outcomes_of, unrun}
-use Rattle.shared_rounds.specs.Parts.{no_tries, tries_of, try_refusal}
+use Rattle.shared_rounds.specs.Parts.{no_tries, tries_of}
+use Rattle.shared_rounds.specs.Refusals.{set_of, try_refusal}
 use Rattle.tx_script.specs.Tries.{AllCome, AreConflicts, ComesTo, EndsWith}
 use Rattle.shared_rounds.proofs.Made.{seen_then}
 
@@ -73,8 +74,10 @@ line_comes first tries last log ops Conflict refused logged v w some from below 
     (omega (arith, line.began some, from), refused_so ops line.losts line.each, as_many line.losts ∙ line.count)
 line_comes first tries last log ops Limit refused logged v w some from below comes =
     let line = comes.1 in (
+      line.clock,
       ends_with ops tries (ToClock line.clock) refused v w line.refused comes.2,
-      omega (arith, line.high, line.draws, below),
+      line.high,
+      omega (arith, line.draws, below),
     )
 line_comes first tries last log ops Full refused logged v w some from below comes =
     let line = comes.1 in (
@@ -85,6 +88,7 @@ line_comes first tries last log ops Full refused logged v w some from below come
 line_comes first tries last log ops Wide refused logged v w some from below comes =
     let line = comes.1 in (
       omega (arith, line.began, from),
+      set_of line.set,
       ends_with ops tries (ToSet line.set) refused v w line.refused comes.2,
     )
 line_comes first tries last log ops Unrun refused logged v w some from below comes = absurd comes

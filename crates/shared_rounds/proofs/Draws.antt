@@ -8,7 +8,8 @@ use Rattle.tx_script.specs.Draws.{commit_count, drew_by, lost_of, lost_of_line, 
 use Rattle.tx_script.specs.Run.{is_commit}
 use Rattle.tx_script.specs.declared.outcome.Outcome.{Outcome}
 use Rattle.worker_cells.specs.Rows.{LineRan, drawn_in, draws_of, outcomes_of, unrun}
-use Rattle.shared_rounds.specs.Parts.{Part, drawn_in_all, no_tries, share_of, tries_of, try_refusal}
+use Rattle.shared_rounds.specs.Parts.{Part, drawn_in_all, no_tries, share_of, tries_of}
+use Rattle.shared_rounds.specs.Refusals.{try_refusal}
 use Rattle.shared_rounds.specs.Shares.{Share}
 use Rattle.shared_rounds.proofs.Joined.{shares_of}
 

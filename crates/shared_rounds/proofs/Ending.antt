@@ -20,6 +20,7 @@ use Rattle.engine_seats.specs.Cuts.{HasSeen, ended, gathered, worker_of}
 use Rattle.engine_seats.specs.Gathered.{gathered_all}
 use Rattle.engine_pages.specs.Times.{HasTimed}
 use Rattle.engine_pages.specs.Views.{IsResting, bare_seat, seat_number}
+use Rattle.engine_pages.specs.declared.view.RefusalCause.{RefusalCause}
 use Rattle.engine_pages.specs.declared.view.Touch.{Touch}
 use Rattle.engine_pages.specs.declared.view.Role.TheVariants.{Worker}
 use Rattle.engine_pages.specs.declared.view.View.{View}
@@ -33,9 +34,9 @@ use Rattle.worker_logs.specs.Logs.{LogState}
 use Rattle.shared_rounds.specs.Ended.{AreLeft, AreTold, EndedSoFar}
 use Rattle.shared_rounds.specs.Left.{LeavesLog, LeavesPart, TellsPart}
 use Rattle.shared_rounds.specs.Parts.{Part, drawn_in_all, share_of}
-use Rattle.shared_rounds.specs.SharedState.{conflicts_in}
-use Rattle.shared_rounds.specs.Shares.{Share, all_conflicts}
-use Rattle.shared_rounds.proofs.Conflicts.{conflicts_append, more_conflicts}
+use Rattle.shared_rounds.specs.Refusals.{causes_of}
+use Rattle.shared_rounds.specs.Shares.{Share}
+use Rattle.shared_rounds.proofs.Conflicts.{more_told}
 use Rattle.shared_rounds.specs.Seating.{seats_from}
 use Rattle.shared_rounds.proofs.Claimed.{free_still}
 use Rattle.shared_rounds.proofs.Made.{seen_then}
@@ -213,12 +214,10 @@ module _ {D : Type 0} (tells : D → Option (List ℕ)) (clock : D → ℕ) (ima
             (sym is)
             ∙ sym (gathered_push was.mine (map (λ (q : Part). q.to.mine) so.parts) p.to.mine)
             ∙ ap (gathered_all was.mine) (sym (mines_push so.parts p));
-        conflicts = ap (λ (v : View). conflicts_in v.refused) timed.is ∙ conflicts_append mid.refused u.refused
-            ∙ ap (λ k. k + conflicts_in u.refused) so.conflicts
-            ∙ ap (λ (v : View). conflicts_in was.refused
-            + all_conflicts (map (λ (share : Share). share.tries_refused)
-            (map share_of so.parts)) + conflicts_in v.refused)
-            (sym is) ∙ more_conflicts tries was now count so.parts p (conflicts_in was.refused) leaves.part;
+        refused = ap (λ (v : View). v.refused) timed.is ∙ ap (λ (l : List RefusalCause). l ++ u.refused) so.refused
+            ∙ ap (λ (v : View). (was.refused ++ causes_of (map (λ (share : Share). share.tries_refused)
+            (map share_of so.parts))) ++ v.refused)
+            (sym is) ∙ more_told tries was now count so.parts p was.refused leaves.part;
         draws =
             let drew : now.draws ≡ mid.draws + u.draws = ap (λ (v : View). v.draws) timed.is in
             let own : p.to.draws ≡ u.draws = ap (λ (v : View). v.draws) is in

@@ -37,3 +37,4 @@ mod Shared
 mod Told
 mod TriesCaused
 mod Whole
+mod WordsTold

@@ -38,7 +38,7 @@ module _ {D : Type 0} (tells : D → Option (List ℕ)) (clock : D → ℕ) (ima
         met = so.met;
         made = so.made;
         gathers = so.gathers;
-        conflicts = so.conflicts;
+        refused = so.refused;
         draws = so.draws;
         drops = so.drops;
         dropped = so.dropped;

@@ -1,7 +1,7 @@
 -- Whom tries in conflict met: where one met another's lock, a line of another worker may change that key, or pages were
 -- dropped. A line that found no slot may change some key.
 use Rattle.std.proofs.Common.{◌≡◌, ◌⊎◌, ◌∙◌, inl, inr, sym, ap, subst, refl, ℕ, zero, suc, ◌+◌, Bool, true, false, List}
-use Rattle.std.proofs.Common.{[], ◌∷◌, ◌++◌, length, map, arith, Option, Some, None, eqb, eq-eqb, eqb-true}
+use Rattle.std.proofs.Common.{[], ◌∷◌, ◌++◌, length, map, arith, Some, eqb, eq-eqb, eqb-true}
 use Rattle.std.specs.Prelude.{◌==◌, ◌&&◌, nat_le, slice_get}
 use Rattle.std.proofs.lemmas.Bool.{and_parts}
 use Rattle.std.specs.List.{AllByRecursion, Contains}
@@ -17,15 +17,20 @@ use Rattle.engine_pages.specs.Pointers.{one_kind}
 use Rattle.engine_pages.specs.Touches.{AreBlamed, touch}
 use Rattle.engine_pages.specs.declared.layout.Layout.{Layout}
 use Rattle.engine_pages.specs.declared.view.Dropped.{Dropped}
+use Rattle.engine_pages.specs.declared.view.RefusalCause.{RefusalCause}
+use Rattle.engine_pages.specs.declared.view.RefusalCause.TheVariants as refusals
 use Rattle.engine_pages.specs.declared.view.Touch.{Touch}
 use Rattle.engine_pages.specs.declared.view.View.{View}
-use Rattle.worker_cells.specs.Below.{blame_at, blame_of, blames_of, IsKeyOf, IsMetKey, IsOfArray, IsOfKey, IsWrittenBy, Lost}
-use Rattle.worker_cells.specs.Below.{IsOnTree, MayWrite, ToClock, ToOther, ToSet, ToSlots}
+use Rattle.worker_cells.specs.Below.{blame_at, blame_of, blames_of, IsKeyOf, IsMetOf, IsOfKey, IsOnTree, IsWordAt}
+use Rattle.worker_cells.specs.Below.{IsWrittenBy, Lost, MayWrite, OfRecord, OfSlot, OfWay, Spot, ToClock, ToOther}
+use Rattle.worker_cells.specs.Below.{ToSet, ToSlots}
+use Rattle.tx_script.specs.Run.{AtRecord}
 use Rattle.tx_script.specs.Conflicts.{IsMet, IsMetAt, IsMetBy, LinesMet, WorkersMet, changes, changes_key, same_key}
 use Rattle.tx_script.specs.Conflicts.{IsOnTree as IsOfTree, touches, touches_key}
 use Rattle.worker_cells.specs.InARow.{IsTakenBy, line_keeps, row_before}
 use Rattle.worker_cells.specs.Rows.{AreInARow, LineRan, lines_of, refused_of}
-use Rattle.shared_rounds.specs.Parts.{AreParts, IsPart, IsRound, Part, no_tries, tries_of, try_refusal}
+use Rattle.shared_rounds.specs.Parts.{AreParts, IsPart, IsRound, Part, no_tries, tries_of}
+use Rattle.shared_rounds.specs.Refusals.{try_refusal, where_of}
 use Rattle.shared_rounds.specs.Shares.{Share}
 use Rattle.shared_rounds.proofs.Claimed.{grown}
 use Rattle.shared_rounds.proofs.Conflicts.{IsLostOf, line_lost}
@@ -81,6 +86,14 @@ line_touches ops k key = any_in (touches_key k) ops key.op key.among (touched_by
 line_changes : (ops : List Op) (k : Key) → IsWrittenBy ops k → changes ops k ≡ true
 line_changes ops k key = any_in (changes_key k) ops key.op key.among (changed_by key.op k key.writes)
 
+-- a conflict at a record is one at an array's
+array_of : (l : Layout) (k : Key) (why : RefusalCause) → IsWordAt l (OfRecord k) why
+    → is_array l.decls k.storage ≡ true
+array_of l k (refusals.Conflict at expected seen) is = is
+array_of l k (refusals.Full held) is = absurd is
+array_of l k (refusals.Wide set) is = absurd is
+array_of l k (refusals.NumberLimit clock) is = absurd is
+
 -- an operation is on a tree
 on_tree : (decls : List Decl) (op : Op) → IsOnTree decls op → IsOfTree decls op
 on_tree decls (Read k) on = on
@@ -122,15 +135,15 @@ ops_in (x ∷ ran) left line has = elim (in_cases line x ran has) [
 ]
 
 row_lost : (tries : ℕ) (v : View) (ran : List LineRan) (w : View) → AreInARow tries v ran w → (line : LineRan)
-    → Contains ran line → AllByRecursion (IsLostOf v.layout.decls line.ops) line.refused
+    → Contains ran line → AllByRecursion (IsLostOf v.layout line.ops) line.refused
 row_lost tries v [] w row line has = absurd (in_none line has)
 row_lost tries v (x ∷ ran) w row line has = elim (in_cases line x ran has) [
-  | inl same ↦ subst (λ (y : LineRan). AllByRecursion (IsLostOf v.layout.decls y.ops) y.refused) same
-      (subst (λ (l : Layout). AllByRecursion (IsLostOf l.decls x.ops) x.refused) row.0.layout
+  | inl same ↦ subst (λ (y : LineRan). AllByRecursion (IsLostOf v.layout y.ops) y.refused) same
+      (subst (λ (l : Layout). AllByRecursion (IsLostOf l x.ops) x.refused) row.0.layout
       (line_lost tries x.ops x.outcome x.refused x.logged x.before x.after row.1))
   | inr later ↦
       let kept = line_keeps tries x.ops x.outcome x.refused x.logged x.before x.after row.1 in
-      subst (λ (l : Layout). AllByRecursion (IsLostOf l.decls line.ops) line.refused) (kept.layout ∙ row.0.layout)
+      subst (λ (l : Layout). AllByRecursion (IsLostOf l line.ops) line.refused) (kept.layout ∙ row.0.layout)
       (row_lost tries x.after ran w row.2 line later)
 ]
 
@@ -191,24 +204,25 @@ module _ (tries : ℕ) (was now : View) (parts : List Part) (r : IsRound tries w
       ]
 
   lost_met : (worker : ℕ) (p : Part) → slice_get parts worker ≡ Some p → (line : LineRan) → Contains p.ran line
-      → (lost : Lost) → Contains line.refused lost → IsLostOf was.layout.decls line.ops lost
+      → (lost : Lost) → Contains line.refused lost → IsLostOf was.layout line.ops lost
       → IsMet was.layout.decls lines_all dropped worker line.ops (try_refusal lost)
   lost_met worker p at line among (ToClock clock) has of = tt
   lost_met worker p at line among (ToSlots words) has of = (of.0, line_changes line.ops of.0 of.1)
   lost_met worker p at line among (ToSet set) has of = (of.0, of.1, on_tree was.layout.decls of.0 of.2)
   lost_met worker p at line among (ToOther clash) has of =
-      by_met clash.met refl of.1
+      by_spot clash.spot refl of.1
     where
-      by_line : r.ended.drops ≡ was.drops → (k : Key) → clash.met ≡ Some k → IsKeyOf line.ops k
+      by_line : r.ended.drops ≡ was.drops → (k : Key) → clash.spot ≡ OfRecord k → IsKeyOf line.ops k
           → IsMetBy lines_all worker line.ops k
       by_line same k met key =
           let b : Touch = touch (suc worker) k in
           let here : Contains (blame_of (suc worker) (ToOther clash)) b =
-          subst (λ (o : Option Key). Contains (blame_at (suc worker) o) b) (sym met) (in_head b []) in
+          subst (λ (s : Spot). Contains (blame_at (suc worker) s) b) (sym met) (in_head b []) in
           let o = blamed_all b (r.blamed worker p at b (blame_in (suc worker) k (refused_of p.ran) (ToOther clash)
           (refused_in p.ran line (ToOther clash) among has) here)) in
           let x = r.touched same (touch o.by k) o.taken in
-          let array : is_array was.layout.decls k.storage ≡ true = subst (IsOfArray was.layout.decls) met of.2 in
+          let word = subst (λ (s : Spot). IsWordAt was.layout s clash.why) met of.2 in
+          let array = array_of was.layout k clash.why word in
           let own : o.by ≡ suc x.0 = x.3.own in
           record {
             key = line_touches line.ops k key;
@@ -223,8 +237,8 @@ module _ (tries : ℕ) (was now : View) (parts : List Part) (r : IsRound tries w
             };
           }
 
-      at_key : (k : Key) → clash.met ≡ Some k → IsKeyOf line.ops k
-          → IsMetAt lines_all dropped worker line.ops (Some k)
+      at_key : (k : Key) → clash.spot ≡ OfRecord k → IsKeyOf line.ops k
+          → IsMetAt lines_all dropped worker line.ops (AtRecord k)
       at_key k met key = elim (grown was.drops r.ended.drops r.drops) [
         | inl same ↦ inl (by_line same k met key)
         | inr more ↦ inr (
@@ -235,15 +249,21 @@ module _ (tries : ℕ) (was now : View) (parts : List Part) (r : IsRound tries w
         )
       ]
 
-      by_met : (met : Option Key) → clash.met ≡ met → IsMetKey line.ops clash.met
-          → IsMetAt lines_all dropped worker line.ops clash.met
-      by_met (Some k) is key =
-          subst (IsMetAt lines_all dropped worker line.ops) (sym is) (at_key k is (subst (IsMetKey line.ops) is key))
-      by_met None is key = subst (IsMetAt lines_all dropped worker line.ops) (sym is) tt
+      at_spot : (spot : Spot) → clash.spot ≡ spot → IsMetOf line.ops spot
+          → IsMetAt lines_all dropped worker line.ops (where_of spot)
+      at_spot (OfRecord k) is key = at_key k is key
+      at_spot (OfWay k) is key = line_touches line.ops k key
+      at_spot OfSlot is may = (may.0, line_changes line.ops may.0 may.1)
+
+      by_spot : (spot : Spot) → clash.spot ≡ spot → IsMetOf line.ops clash.spot
+          → IsMetAt lines_all dropped worker line.ops (where_of clash.spot)
+      by_spot spot is key =
+          subst (λ (s : Spot). IsMetAt lines_all dropped worker line.ops (where_of s)) (sym is)
+          (at_spot spot is (subst (IsMetOf line.ops) is key))
 
   line_met : (worker : ℕ) (p : Part) → slice_get parts worker ≡ Some p → (line : LineRan) → Contains p.ran line
       → (losts : List Lost) → ((lost : Lost) → Contains losts lost → Contains line.refused lost)
-      → AllByRecursion (IsLostOf was.layout.decls line.ops) losts
+      → AllByRecursion (IsLostOf was.layout line.ops) losts
       → AllByRecursion (IsMet was.layout.decls lines_all dropped worker line.ops) (map try_refusal losts)
   line_met worker p at line among [] within of = tt
   line_met worker p at line among (lost ∷ losts) within of = (
@@ -263,7 +283,7 @@ module _ (tries : ℕ) (was now : View) (parts : List Part) (r : IsRound tries w
       let among = within line (in_head line ran) in
       let part = part_at tries was r.ended 0 parts worker p r.parts_are at in (
         line_met worker p at line among line.refused (λ lost has. has)
-            (subst (λ (l : Layout). AllByRecursion (IsLostOf l.decls line.ops) line.refused) part.seated.layout
+            (subst (λ (l : Layout). AllByRecursion (IsLostOf l line.ops) line.refused) part.seated.layout
             (row_lost tries p.from p.ran p.to part.row line among)),
         lines_met worker p at ran (λ x has. within x (in_tail x line ran has)) left,
       )

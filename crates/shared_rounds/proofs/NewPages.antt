@@ -20,7 +20,7 @@ use Rattle.resident_pages.specs.Fills.{AreClaimed, HasLooked}
 use Rattle.resident_pages.specs.Publishes.{CanNameAll, HasPublished, OnlyFilled}
 use Rattle.resident_pages.proofs.PagesPublished.{can_name_all, of_catalogue}
 use Rattle.shared_rounds.specs.Published.{HasPages}
-use Rattle.shared_rounds.specs.SharedState.{IsKept, SharedState, conflicts_in, marks_of, shared_by, state_of}
+use Rattle.shared_rounds.specs.SharedState.{IsKept, SharedState, marks_of, shared_by, state_of}
 
 -- ---- the storages of a catalogue
 
@@ -154,7 +154,8 @@ shared_published pages old new clock is =
       opening = v.layout.opening;
       clock = clock;
       mine = v.mine;
-      conflicts = conflicts_in v.refused;
+      refused = v.refused;
+      met = v.met;
       marks = marks_of v.parked;
       slots = v.layout.slots;
       pages = v.pages;

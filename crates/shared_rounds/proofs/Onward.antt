@@ -21,7 +21,6 @@ use Rattle.worker_logs.specs.Logs.{LogState}
 use Rattle.shared_rounds.specs.Ended.{EndedSoFar, EndsOn}
 use Rattle.shared_rounds.specs.Seated.{AreRan, backward}
 use Rattle.shared_rounds.specs.Seating.{StandsFor}
-use Rattle.shared_rounds.specs.SharedState.{conflicts_in}
 use Rattle.shared_rounds.proofs.Backward.{backward_push}
 use Rattle.shared_rounds.proofs.Ending.{ends_one, told_push}
 use Rattle.shared_rounds.proofs.Left.{cell_left}
@@ -112,7 +111,7 @@ module _ {D : Type 0} (tells : D → Option (List ℕ)) (clock : D → ℕ) (ima
       met = refl;
       made = stands.made;
       gathers = stands.mine;
-      conflicts = ap conflicts_in stands.refused ∙ omega arith;
+      refused = stands.refused ∙ sym (append-nil was.refused);
       draws = stands.draws ∙ omega arith;
       drops = refl;
       dropped = stands.drops;

@@ -27,6 +27,8 @@ use Rattle.engine_pages.specs.declared.view.Dropped.{Dropped}
 use Rattle.engine_pages.specs.declared.view.View.{View}
 use Rattle.tx_script.specs.Run.{IsBetween, of_worker}
 use Rattle.shared_rounds.specs.Changes.{AreLogged}
+use Rattle.engine_pages.specs.declared.view.Met.{Met}
+use Rattle.engine_pages.specs.declared.view.RefusalCause.{RefusalCause}
 use Rattle.shared_rounds.specs.Contents.{after_commits}
 use Rattle.shared_rounds.specs.Parts.{IsClockOf, IsRound, Part, clock_number}
 use Rattle.shared_rounds.specs.Shares.{AreOrdered, entries_in}
@@ -42,15 +44,17 @@ use Rattle.shared_rounds.proofs.Orders.{at_end_of, pairs_rise, placed_below, ris
 use Rattle.shared_rounds.proofs.Pairs.{ArePairs, pairs_attempts, pairs_permuted}
 use Rattle.shared_rounds.proofs.Seats.{mine_ascends, mine_at, mine_logged, mine_on}
 
--- where the engine stands, with the layout's storages, these pages, and what these drops came to
-abbrev pub standing_at : View → State → Number → List Attempt → ℕ → List (List ℕ) → List Dropped → Bool → Standing
-standing_at v state clock mine conflicts pages drops done = record {
+-- where the engine stands, with the layout's storages, these refusals, marks and pages, and what these drops came to
+abbrev pub standing_at : View → State → Number → List Attempt → List RefusalCause → List Met → List (List ℕ)
+    → List Dropped → Bool → Standing
+standing_at v state clock mine refused met pages drops done = record {
   decls = v.layout.decls;
   state = state;
   opening = v.layout.opening;
   clock = clock;
   mine = mine;
-  conflicts = conflicts;
+  refused = refused;
+  met = met;
   slots = v.layout.slots;
   pages = pages;
   resident = v.layout.resident;
@@ -154,14 +158,15 @@ module _ (tries : ℕ) (was now : View) (parts : List Part) (r : IsRound tries w
       some_key = record { storage = 0; key = 0 }
 
   pub ordered_so : (index : ℕ) (state : State) (clock : Number) (mine_was mine : List Attempt)
-      (before after : ℕ) (first_pages last_pages : List (List ℕ)) (first_drops last_drops : List Dropped) (done : Bool)
+      (before after : List RefusalCause) (first_met last_met : List Met) (first_pages last_pages : List (List ℕ))
+      (first_drops last_drops : List Dropped) (done : Bool)
       → Agrees was.layout.decls state (after_attempts (content_at was.layout.opening) was.mine) → IsClockOf clock was
-      → AreOrdered index (standing_at was state clock mine_was before first_pages first_drops done)
+      → AreOrdered index (standing_at was state clock mine_was before first_met first_pages first_drops done)
       (standing_at was (after_commits state (split tries was now parts r).new)
-      (clock_number r.clock) mine after last_pages last_drops done)
+      (clock_number r.clock) mine after last_met last_pages last_drops done)
       (shares_of parts)
-  ordered_so index state clock mine_was mine before after first_pages last_pages first_drops last_drops done agrees
-      at =
+  ordered_so index state clock mine_was mine before after first_met last_met first_pages last_pages first_drops
+      last_drops done agrees at =
       let decls = was.layout.decls in
       let new = (split tries was now parts r).new in
       let moved = pairs_permuted decls (entries_in index (shares_of parts)) (joined (mines_of parts)) new

@@ -18,10 +18,10 @@ use Rattle.worker_cells.specs.Cells.{epochs_of}
 use Rattle.worker_cells.specs.Rows.{LineRan, lines_of, logged_of, outcomes_of, readied_of, unrun}
 use Rattle.shared_rounds.specs.Contents.{after_commits}
 use Rattle.shared_rounds.specs.Parts.{AreParts, IsClockOf, IsPart, IsRound, Part, clock_number, share_of}
-use Rattle.shared_rounds.specs.SharedState.{conflicts_in}
 use Rattle.shared_rounds.specs.Shares.{BeginsAt, IsShare, RunsShares, Share}
 use Rattle.tx_script.specs.Causes.{IsTryCause}
 use Rattle.shared_rounds.proofs.Comes.{row_comes, row_each, row_last}
+use Rattle.shared_rounds.proofs.WordsTold.{words_told}
 use Rattle.shared_rounds.proofs.Counted.{split}
 use Rattle.shared_rounds.proofs.Joined.{shares_of}
 use Rattle.shared_rounds.proofs.Made.{seen_then}
@@ -98,9 +98,9 @@ pub round_runs : (tries : ℕ) (was now : View) (parts : List Part) (r : IsRound
     (clock : Number) (done : Bool) → 1 ≤ tries
     → Agrees was.layout.decls state (after_attempts (content_at was.layout.opening) was.mine) → IsClockOf clock was
     → was.draws ≡ length was.history
-    → RunsShares tries (standing_at was state clock was.mine (conflicts_in was.refused) was.pages was.drops done)
+    → RunsShares tries (standing_at was state clock was.mine was.refused was.met was.pages was.drops done)
     (standing_at was (after_commits state (split tries was now parts r).new) (clock_number r.clock) now.mine
-    (conflicts_in now.refused) now.pages now.drops done) (shares_of parts)
+    now.refused now.met now.pages now.drops done) (shares_of parts)
 round_runs tries was now parts r state clock done some agrees at drew =
     let ends = ended_draws tries was now parts r in
     let begins = at.draw in
@@ -114,12 +114,17 @@ round_runs tries was now parts r state clock done some agrees at drew =
           omega (arith, clock_is, drawn, begins, drew, parts_drawn parts);
       met = all_met tries was now parts r;
       caused = parts_caused tries was r.ended 0 parts r.parts_are;
-      conflicts = ap (λ (v : View). conflicts_in v.refused) r.audited.2.is
-          ∙ ap (λ (v : View). conflicts_in v.refused) r.audited.1.is ∙ r.conflicts;
+      words = record {
+        layout = was.layout;
+        decls_are = refl;
+        slots_are = refl;
+        each = words_told tries was r.ended 0 parts r.parts_are;
+      };
+      refused = ap (λ (v : View). v.refused) r.audited.2.is ∙ ap (λ (v : View). v.refused) r.audited.1.is ∙ r.refused;
       each = parts_share clock.epoch clock.draw tries (r.clock % 2 ^ 40) was r.ended 0 parts (sym at.epoch) some
           (omega (arith, begins)) ends r.parts_are;
-      ordered = λ index. ordered_so tries was now parts r index state clock was.mine now.mine (conflicts_in was.refused)
-          (conflicts_in now.refused) was.pages now.pages was.drops now.drops done agrees at;
+      ordered = λ index. ordered_so tries was now parts r index state clock was.mine now.mine was.refused
+          now.refused was.met now.met was.pages now.pages was.drops now.drops done agrees at;
     }
 
 -- ---- part by part

@@ -1,4 +1,4 @@
--- The cause of each try that was refused: where no slot was usable, the words of all slots.
+-- The cause of each try that was refused: a word in conflict; where no slot was usable, the words of all slots.
 use Rattle.std.proofs.Common.{◌≡◌, ◌∙◌, sym, ap, subst, ℕ, List, [], ◌∷◌, ◌++◌, map, Option}
 use Rattle.std.specs.List.{AllByRecursion}
 use Rattle.lists.specs.Each.{all_append}
@@ -6,19 +6,34 @@ use Rattle.serial_model.specs.declared.number.Commit.{Commit}
 use Rattle.serial_model.specs.declared.op.Op.{Op}
 use Rattle.engine_pages.specs.declared.layout.Layout.{Layout}
 use Rattle.engine_pages.specs.declared.view.View.{View}
-use Rattle.worker_cells.specs.Below.{IsClash, Lost, ToClock, ToOther, ToSet, ToSlots}
-use Rattle.tx_script.specs.Causes.{IsTryCause}
+use Rattle.engine_pages.specs.declared.view.RefusalCause.{RefusalCause}
+use Rattle.engine_pages.specs.declared.view.RefusalCause.TheVariants as refusals
+use Rattle.worker_cells.specs.Below.{IsClash, IsConflicting, Lost, OfRecord, OfSlot, OfWay, Spot, ToClock, ToOther}
+use Rattle.worker_cells.specs.Below.{ToSet, ToSlots}
+use Rattle.tx_script.specs.Causes.{IsOfConflict, IsTryCause}
 use Rattle.tx_script.specs.declared.outcome.Outcome.{Outcome}
 use Rattle.tx_script.specs.declared.outcome.Outcome.TheVariants.{Committed, Conflict, Full, Wide, Limit, Unrun}
 use Rattle.worker_cells.specs.InARow.{line_keeps}
 use Rattle.worker_cells.specs.Rows.{AreInARow, ComesOf, LineRan}
-use Rattle.shared_rounds.specs.Parts.{no_tries, tries_of, try_refusal}
+use Rattle.shared_rounds.specs.Parts.{no_tries, tries_of}
+use Rattle.shared_rounds.specs.Refusals.{expected_in, seen_in, try_refusal, where_of}
+
+-- the word of a conflict is told as it was seen
+clash_caused : (why : RefusalCause) (spot : Spot) → IsConflicting why spot
+    → IsOfConflict (where_of spot) (expected_in why) (seen_in why)
+clash_caused (refusals.Conflict at expected seen) (OfRecord k) is = is
+clash_caused (refusals.Conflict at expected seen) (OfWay k) is = is
+clash_caused (refusals.Conflict at expected seen) OfSlot is = is
+clash_caused (refusals.Full held) spot is = absurd is
+clash_caused (refusals.Wide set) spot is = absurd is
+clash_caused (refusals.NumberLimit clock) spot is = absurd is
 
 -- conflicts have theirs
 clashes_caused : (slots : ℕ) (ops : List Op) (losts : List Lost) → AllByRecursion (IsClash ops) losts
     → AllByRecursion (IsTryCause slots) (map try_refusal losts)
 clashes_caused slots ops [] each = tt
-clashes_caused slots ops (ToOther clash ∷ losts) each = (tt, clashes_caused slots ops losts each.1)
+clashes_caused slots ops (ToOther clash ∷ losts) each =
+    (clash_caused clash.why clash.spot each.0.0, clashes_caused slots ops losts each.1)
 clashes_caused slots ops (ToSlots words ∷ losts) each = absurd each.0
 clashes_caused slots ops (ToSet set ∷ losts) each = absurd each.0
 clashes_caused slots ops (ToClock clock ∷ losts) each = absurd each.0
@@ -28,7 +43,7 @@ behind_caused : (slots : ℕ) (ops : List Op) (losts : List Lost) (last : Lost) 
     → IsTryCause slots (try_refusal last) → AllByRecursion (IsTryCause slots) (map try_refusal (losts ++ last ∷ []))
 behind_caused slots ops [] last each cause = (cause, tt)
 behind_caused slots ops (ToOther clash ∷ losts) last each cause =
-    (tt, behind_caused slots ops losts last each.1 cause)
+    (clash_caused clash.why clash.spot each.0.0, behind_caused slots ops losts last each.1 cause)
 behind_caused slots ops (ToSlots words ∷ losts) last each cause = absurd each.0
 behind_caused slots ops (ToSet set ∷ losts) last each cause = absurd each.0
 behind_caused slots ops (ToClock clock ∷ losts) last each cause = absurd each.0

@@ -19,7 +19,7 @@ use Rattle.shared_rounds.specs.Contents.{after_commits}
 use Rattle.shared_rounds.specs.Ended.{EndedSoFar}
 use Rattle.shared_rounds.specs.Marks.{AreMarksBehind}
 use Rattle.shared_rounds.specs.Parts.{IsClockOf, IsRound, clock_number, marks_parked}
-use Rattle.shared_rounds.specs.SharedState.{IsKept, conflicts_in, last_mark, marks_of, state_of}
+use Rattle.shared_rounds.specs.SharedState.{IsKept, last_mark, marks_of, state_of}
 use Rattle.shared_rounds.specs.Shares.{BeginsAt, RunsShares, Share}
 use Rattle.shared_rounds.specs.Standing.{Standing}
 use Rattle.shared_rounds.specs.Workers.{LeavesOut, LeftBy, RunsOver, RunsWorkers}
@@ -35,7 +35,7 @@ use Rattle.shared_rounds.proofs.Told.{told_rests, words_at}
 
 -- where the engine stands, as the keeper's view and the clock have it
 abbrev pub stands : View → Number → Bool → Standing
-stands v clock done = standing_at v (state_of v) clock v.mine (conflicts_in v.refused) v.pages v.drops done
+stands v clock done = standing_at v (state_of v) clock v.mine v.refused v.met v.pages v.drops done
 
 module _ {D : Type 0} (tells : D → Option (List ℕ)) (clock : D → ℕ) (image_at : D → ℕ → List ℕ → Type 0)
     (faults : D → ℕ) (tries : ℕ) (round : Round) (was behind ended now : View) (logs_was logs : List LogState)
@@ -55,7 +55,7 @@ module _ {D : Type 0} (tells : D → Option (List ℕ)) (clock : D → ℕ) (ima
     epoch = omega (arith, so.low, so.epoch);
     gathers = so.gathers;
     seen = so.seen;
-    conflicts = so.conflicts;
+    refused = so.refused;
     draws = so.draws;
     drops = subst (IsFront was.drops) (sym so.drops) so.dropped;
     touched = so.touched;
@@ -73,9 +73,9 @@ module _ {D : Type 0} (tells : D → Option (List ℕ)) (clock : D → ℕ) (ima
       where
         same : standing_at was (after_commits (state_of was) (split tries was now so.parts round_is).new)
             (clock_number word) now.mine
-            (conflicts_in now.refused) now.pages now.drops done ≡ stands now (clock_number word) done
+            now.refused now.met now.pages now.drops done ≡ stands now (clock_number word) done
         same =
-            ap (λ s. standing_at was s (clock_number word) now.mine (conflicts_in now.refused) now.pages now.drops done)
+            ap (λ s. standing_at was s (clock_number word) now.mine now.refused now.met now.pages now.drops done)
             (sym (state_now tries was now so.parts round_is))
             ∙ ap (λ (l : Layout). let t : Standing = record {
               decls = l.decls;
@@ -83,7 +83,8 @@ module _ {D : Type 0} (tells : D → Option (List ℕ)) (clock : D → ℕ) (ima
               opening = l.opening;
               clock = clock_number word;
               mine = now.mine;
-              conflicts = conflicts_in now.refused;
+              refused = now.refused;
+              met = now.met;
               slots = l.slots;
               pages = now.pages;
               resident = l.resident;

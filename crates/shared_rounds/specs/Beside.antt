@@ -111,6 +111,7 @@ pub record BeginsOn (was v : View) : Type 0 where
   pub rests : IsResting v.seat
   pub declared : AreDecls v.layout.decls
   pub drops : v.drops ≡ was.drops
+  pub met : v.met ≡ was.met
   pub free : HoldsNothing v
 
 -- the same on an engine, of which nothing else is known
@@ -128,6 +129,7 @@ pub record BeginsBeside (s : SharedState) (v : View) : Type 0 where
   pub rests : IsResting v.seat
   pub declared : AreDecls v.layout.decls
   pub drops : v.drops ≡ s.drops
+  pub met : v.met ≡ s.met
   pub free : HoldsNothing v
 
 -- The mark that was met of a worker, of whom the keeper knew so many marks as the lines began, is one of these, which
@@ -136,8 +138,8 @@ abbrev pub IsMetAmong : ℕ → List Stood → Met → Type 0
 IsMetAmong known marks met = (m : Stood) × (slice_get marks (met.place - (known - 1)) ≡ Some m)
     × IsMark m.mark × (met.word ≡ mark_word m.mark)
 
--- Beside the lines the maintenance thread did this on its own pass. Of each worker the words showed these marks
--- meanwhile, and each mark that it met from the round's begin on is one of them.
+-- Beside the lines the maintenance thread did this on its own pass. What it met of marks is kept. Of each worker the
+-- words showed these marks meanwhile, and each mark that it met from the round's begin on is one of them.
 pub record BesideRan (did : View → View → Type 0) (marks : List (List Stood)) (was now : SharedState) : Type 0 where
   pub from : View
   pub to : View
@@ -147,6 +149,7 @@ pub record BesideRan (did : View → View → Type 0) (marks : List (List Stood)
   pub epoch : now.clock.epoch ≡ to.epoch
   pub pages : now.pages ≡ to.pages
   pub drops : now.drops ≡ to.drops
+  pub marks_met : now.met ≡ to.met
   pub known : (worker : ℕ) → worker < 8 → 1 ≤ length (get_or from.parked worker bare_seat).marks
   pub met : (x : Met) → Contains to.met x → x.worker < 8 → (mine : List Stood) → slice_get marks x.worker ≡ Some mine
       → length (get_or from.parked x.worker bare_seat).marks ≤ x.place + 1

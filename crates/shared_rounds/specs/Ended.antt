@@ -19,8 +19,9 @@ use Rattle.shared_rounds.specs.Left.{LeavesLog, TellsPart}
 use Rattle.shared_rounds.specs.Parts.{AreParts, HasBlames, Part, TouchesAre, drawn_in_all, share_of}
 use Rattle.shared_rounds.specs.Seated.{AreRan, backward}
 use Rattle.shared_rounds.specs.Seating.{seats_from}
-use Rattle.shared_rounds.specs.SharedState.{HoldsNothing, conflicts_in}
-use Rattle.shared_rounds.specs.Shares.{Share, all_conflicts}
+use Rattle.shared_rounds.specs.Refusals.{causes_of}
+use Rattle.shared_rounds.specs.SharedState.{HoldsNothing}
+use Rattle.shared_rounds.specs.Shares.{Share}
 
 -- what is told of all lines of the workers from this one on
 abbrev pub AreTold : Round → ℕ → List Part → List (List Outcome) → List LogEnd → List LogState → List LogState → Type 0
@@ -64,8 +65,8 @@ module _ {D : Type 0} (tells : D → Option (List ℕ)) (clock : D → ℕ) (ima
     pub met : now.met ≡ behind.met
     pub made : now.made ≡ seats_from (8 - count) count
     pub gathers : now.mine ≡ gathered_all was.mine (map (λ (p : Part). p.to.mine) parts)
-    pub conflicts : conflicts_in now.refused
-        ≡ conflicts_in was.refused + all_conflicts (map (λ (share : Share). share.tries_refused) (map share_of parts))
+    pub refused : now.refused
+        ≡ was.refused ++ causes_of (map (λ (share : Share). share.tries_refused) (map share_of parts))
     pub draws : now.draws ≡ was.draws + drawn_in_all parts
     pub drops : now.drops ≡ behind.drops
     pub dropped : IsFront was.drops behind.drops

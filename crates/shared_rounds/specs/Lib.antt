@@ -1,4 +1,5 @@
 pub mod Below
+pub mod Refusals
 pub mod Standing
 pub mod Changes
 pub mod Shares

@@ -15,7 +15,7 @@ use Rattle.engine_pages.specs.declared.view.Role.TheVariants.{Keeper, Worker}
 use Rattle.engine_pages.specs.declared.view.Touch.{Touch}
 use Rattle.engine_pages.specs.declared.view.View.{View}
 use Rattle.engine_pages.specs.Views.{bare_seat}
-use Rattle.worker_cells.specs.Below.{blames_of, Lost, ToClock, ToOther, ToSet, ToSlots}
+use Rattle.worker_cells.specs.Below.{blames_of}
 use Rattle.worker_cells.specs.Cells.{core_of, epochs_of}
 use Rattle.worker_cells.specs.InARow.{IsTakenBy}
 use Rattle.worker_cells.specs.Rows.{AreInARow, IsSince, LineRan, draws_of, lines_of, logged_of, outcomes_of, refused_of}
@@ -23,9 +23,10 @@ use Rattle.worker_cells.specs.Rows.{readied_of, unrun}
 use Rattle.worker_logs.specs.Shown.{Stood}
 use Rattle.tx_script.specs.Readied.{AreReadied}
 use Rattle.tx_script.specs.Seen.{AreMarksInOrder}
-use Rattle.tx_script.specs.Run.{LogRefusal, TryRefusal, InConflict, NoNumber, NoRoom, NoSlot}
-use Rattle.shared_rounds.specs.SharedState.{IsCounted, conflicts_in}
-use Rattle.shared_rounds.specs.Shares.{BeginsAt, Share, all_conflicts}
+use Rattle.tx_script.specs.Run.{LogRefusal, TryRefusal}
+use Rattle.shared_rounds.specs.Refusals.{causes_of, try_refusal}
+use Rattle.shared_rounds.specs.SharedState.{IsCounted}
+use Rattle.shared_rounds.specs.Shares.{BeginsAt, Share}
 
 -- ---- one worker
 
@@ -38,13 +39,6 @@ pub record Part : Type 0 where
   pub refusal : Option LogRefusal
   pub from : View
   pub to : View
-
--- what a try was refused for
-abbrev pub try_refusal : Lost → TryRefusal
-try_refusal (ToOther clash) = InConflict (record { key = clash.met; drew = clash.drew })
-try_refusal (ToSlots words) = NoSlot words
-try_refusal (ToSet set) = NoRoom
-try_refusal (ToClock clock) = NoNumber
 
 -- the refusals of each line's tries
 abbrev pub tries_of : List LineRan → List (List TryRefusal)
@@ -143,8 +137,8 @@ pub record IsRound (tries : ℕ) (was now : View) (parts : List Part) : Type 0 w
   pub epoch : was.epoch ≤ ended.epoch
   pub gathers : ended.mine ≡ gathered_all was.mine (map (λ (p : Part). p.to.mine) parts)
   pub seen : HasSeen was ended
-  pub conflicts : conflicts_in ended.refused
-      ≡ conflicts_in was.refused + all_conflicts (map (λ (share : Share). share.tries_refused) (map share_of parts))
+  pub refused : ended.refused
+      ≡ was.refused ++ causes_of (map (λ (share : Share). share.tries_refused) (map share_of parts))
   pub draws : ended.draws ≡ was.draws + drawn_in_all parts
   pub drops : IsFront was.drops ended.drops
   pub touched : ended.drops ≡ was.drops → TouchesAre parts ended

@@ -18,8 +18,8 @@ use Rattle.commit_core.specs.declared.seat.Mark.{Mark}
 use Rattle.commit_core.specs.declared.seat.Seat.{Seat}
 use Rattle.engine_pages.specs.declared.engine.Engine.{Engine}
 use Rattle.engine_pages.specs.declared.view.Dropped.{Dropped}
+use Rattle.engine_pages.specs.declared.view.Met.{Met}
 use Rattle.engine_pages.specs.declared.view.RefusalCause.{RefusalCause}
-use Rattle.engine_pages.specs.declared.view.RefusalCause.TheVariants.{Conflict, Full, Wide, NumberLimit}
 use Rattle.engine_pages.specs.declared.view.Role.TheVariants.{Keeper}
 use Rattle.engine_pages.specs.declared.view.View.{View}
 use Rattle.engine_seats.specs.Between.{counts}
@@ -52,28 +52,19 @@ last_mark marks = fold (λ before mark. mark) no_mark marks
 abbrev pub marks_of : List Seat → List Mark
 marks_of seats = map (λ (seat : Seat). last_mark seat.marks) seats
 
--- the refusal is a conflict
-abbrev pub was_conflict : RefusalCause → Bool
-was_conflict (Conflict word expected seen) = true
-was_conflict (Full held) = false
-was_conflict (Wide set) = false
-was_conflict (NumberLimit clock) = false
-
--- how many of the refusals are conflicts
-abbrev pub conflicts_in : List RefusalCause → ℕ
-conflicts_in refused = length (filter was_conflict refused)
-
 -- the storages, their contents, what stood at keys at first, with its numbers, the number that the next commit gets,
--- the attempts that count, in order of number, how many tries were refused with a conflict so far, the workers' marks
--- on the words, worker 0's first, how many slots there are for pages in memory, the words of the snapshot pages that
--- are published, for how many such pages there is room, and what each drop of pages came to so far
+-- the attempts that count, in order of number, what each try was refused for so far, which marks of workers saves met
+-- so far, the workers' marks on the words, worker 0's first, how many slots there are for pages in memory, the words of
+-- the snapshot pages that are published, for how many such pages there is room, and what each drop of pages came to so
+-- far
 pub record SharedState : Type 0 where
   pub decls : List Decl
   pub state : State
   pub opening : List (Key × Content)
   pub clock : Number
   pub mine : List Attempt
-  pub conflicts : ℕ
+  pub refused : List RefusalCause
+  pub met : List Met
   pub marks : List Mark
   pub slots : ℕ
   pub pages : List (List ℕ)
@@ -88,7 +79,8 @@ shared_by keeper clock = record {
   opening = (view keeper).layout.opening;
   clock = clock;
   mine = (view keeper).mine;
-  conflicts = conflicts_in (view keeper).refused;
+  refused = (view keeper).refused;
+  met = (view keeper).met;
   marks = marks_of (view keeper).parked;
   slots = (view keeper).layout.slots;
   pages = (view keeper).pages;

@@ -1,7 +1,7 @@
 -- What the workers' lines of a round come to: what came of each line, and an order in which the commits are serial.
 -- Nothing is said of the order in which the workers ran: their commits may lie among each other, in any order of their
 -- numbers.
-use Rattle.std.specs.Prelude.{◌≡◌, ◌<◌, ◌≤◌, ◌+◌, ◌-◌, ℕ, zero, suc, List, [], ◌∷◌, filter, length, map, sum_by, Option}
+use Rattle.std.specs.Prelude.{◌≡◌, ◌<◌, ◌≤◌, ◌+◌, ◌-◌, ◌++◌, ℕ, zero, suc, List, [], ◌∷◌, length, map, Option}
 use Rattle.std.specs.Prelude.{None, Some}
 use Rattle.std.specs.List.{AllByRecursion}
 use Rattle.std.specs.List.Sorted.{IsPermutation}
@@ -17,16 +17,16 @@ use Rattle.tx_script.specs.Draws.{commit_count, lost_of}
 use Rattle.tx_script.specs.Run.{IsBetween, LogRefusal, TryRefusal, entries_of_workers, of_worker}
 use Rattle.tx_script.specs.Readied.{AreReadied, Readied}
 use Rattle.tx_script.specs.Seen.{AreMarksInOrder}
-use Rattle.tx_script.specs.Tries.{AllCome, is_conflict}
+use Rattle.tx_script.specs.Tries.{AllCome}
 use Rattle.tx_script.specs.declared.outcome.Outcome.{Outcome}
 use Rattle.worker_logs.specs.Shown.{Stood}
 use Rattle.shared_rounds.specs.Changes.{AreLogged}
+use Rattle.shared_rounds.specs.Refusals.{AreWordsTold, causes_of}
 use Rattle.shared_rounds.specs.Standing.{Standing}
 
 -- A worker's share of a round: its lines, what came of each of them, the refusals of the tries of each, what refused
 -- its log, if anything did, and what its commits logged; the marks of its log that others were shown meanwhile, and
--- what it had as each line began that was run. The engine counts the conflicts among the refusals
--- (`RunsShares.conflicts`).
+-- what it had as each line began that was run. The engine has each of the refusals (`RunsShares.refused`).
 pub record Share : Type 0 where
   pub lines : List (List Op)
   pub outcomes : List Outcome
@@ -85,27 +85,23 @@ pub record AreOrdered (index : ℕ) (s t : Standing) (shares : List Share) : Typ
   pub workers : (worker : ℕ) → Rises (of_worker worker (entries_in index shares))
   pub logged : (worker : ℕ) → worker < 8 → AreLogged s.decls worker s.state ordered (logged_in shares worker)
 
--- how many of the refusals are conflicts
-abbrev pub conflicts_among : List TryRefusal → ℕ
-conflicts_among refusals = length (filter is_conflict refusals)
-
--- and of those of all workers' lines
-abbrev pub all_conflicts : List (List (List TryRefusal)) → ℕ
-all_conflicts refused = sum_by (λ of_worker. sum_by conflicts_among of_worker) refused
-
 -- The lines of eight workers were run from s to t, each with so many tries. Contents, clock, the attempts that count
--- and the count of conflicts change alone, and which pages are published, and what drops came to; the clock may be in a
--- later epoch then, where the maintenance thread's lines ran beside them. Each number was drawn for a commit of theirs,
--- or for a try of theirs that was refused behind its draw. Each conflict that is told of a line at a record of an array
--- is with a line of another worker, or pages were dropped meanwhile; the engine counted each, and no others. Where a try
--- found no slot usable, the words of all slots are told; where one filled a set, its line has an operation on a tree.
+-- and the refusals change alone, and which marks were met, which pages are published, and what drops came to; the clock
+-- may be in a later epoch then, where the maintenance thread's lines ran beside them. Each number was drawn for a
+-- commit of theirs, or for a try of theirs that was refused behind its draw. The engine has each refusal that is told
+-- of a try, whole, and no others: worker by worker, line by line and try by try. Each conflict that is told of a line
+-- at a record of an array is with a line of another worker, or pages were dropped meanwhile; one on the way to a key is
+-- of a line that touches it, at a word that is on the way there; a line that was to be given a slot may change some
+-- key. Where a try found no slot usable, the words of all slots are told; where one filled a set, its line has an
+-- operation on a tree.
 pub record RunsShares (tries : ℕ) (s t : Standing) (shares : List Share) : Type 0 where
   pub workers : length shares ≡ 8
   pub only : t ≡ record s {
     state = t.state;
     clock = t.clock;
     mine = t.mine;
-    conflicts = t.conflicts;
+    refused = t.refused;
+    met = t.met;
     pages = t.pages;
     drops = t.drops;
   }
@@ -116,6 +112,7 @@ pub record RunsShares (tries : ℕ) (s t : Standing) (shares : List Share) : Typ
       (map (λ (share : Share). share.lines) shares) (map (λ (share : Share). share.tries_refused) shares)
   pub caused : AllByRecursion (λ (share : Share).
       AllByRecursion (AllByRecursion (IsTryCause s.slots)) share.tries_refused) shares
-  pub conflicts : t.conflicts ≡ s.conflicts + all_conflicts (map (λ (share : Share). share.tries_refused) shares)
+  pub words : AreWordsTold s.decls s.slots (map (λ (share : Share). share.tries_refused) shares)
+  pub refused : t.refused ≡ s.refused ++ causes_of (map (λ (share : Share). share.tries_refused) shares)
   pub each : AllByRecursion (IsShare s.decls s.clock.epoch s.clock.draw t.clock.draw tries) shares
   pub ordered : (index : ℕ) → AreOrdered index s t shares

@@ -63,7 +63,8 @@ impl SharedEngine {
           opening = start.opening;
           clock = start.first;
           mine = [];
-          conflicts = 0;
+          refused = [];
+          met = [];
           marks = replicate 8 (record { epoch = Some (start.first.epoch - 1); length = 0 });
           slots = start.slots;
           pages = start.pages;

@@ -5,16 +5,17 @@
 //! epoch with all else as it is (`advance`). Between two rounds nobody is seated, all attempts that count
 //! are the keeper's own, and these leave the contents (`IsKept`).
 //!
-//! `RunsWorkers` says what a round's lines come to: each line's outcome with its cause, an order of all commits in which
-//! they are serial from the standing before to the one after, and of each log that it took what its own worker's commits
-//! changed. A line is left out only where its log refused one earlier in the round (`LeavesOut`). Each number was drawn
-//! for a commit, or for a try that was refused behind its draw, and a try in conflict at a record of an array met a line
-//! of another worker, or pages were dropped meanwhile (`RunsShares`). [`make_rooms`] takes all memory that the lines of
-//! a round want (`IsRoomOf`), and [`run_workers`], which is lent it, wants none: it runs the lines in as many threads
-//! as workers have lines, of which the caller's is one. What it tells is `LinesCome`, and the commits that it tells
-//! are those that came to the history, each the attempt of its line's transaction (`HasGathered`). Behind the lines
-//! the mark of a worker without a line is idle, and that of one with lines, whose log is up, is its log's
-//! (`AreMarksBehind`). After it the engine is kept as between two rounds.
+//! `RunsWorkers` says what a round's lines come to: each line's outcome with its cause, an order of all commits in
+//! which they are serial from the standing before to the one after, and of each log that it took what its own worker's
+//! commits changed. A line is left out only where its log refused one earlier in the round (`LeavesOut`). Each number
+//! was drawn for a commit, or for a try that was refused behind its draw. The engine has each refusal that is told,
+//! whole and in order, and no others (`RunsShares.refused`); a try in conflict at a record of an array met a line of
+//! another worker, or pages were dropped meanwhile, and one on the way to a key is of a line that touches it.
+//! [`make_rooms`] takes all memory that the lines of a round want (`IsRoomOf`), and [`run_workers`], which is lent it,
+//! wants none: it runs the lines in as many threads as workers have lines, of which the caller's is one. What it tells
+//! is `LinesCome`, and the commits that it tells are those that came to the history, each the attempt of its line's
+//! transaction (`HasGathered`). Behind the lines the mark of a worker without a line is idle, and that of one with
+//! lines, whose log is up, is its log's (`AreMarksBehind`). After it the engine is kept as between two rounds.
 //!
 //! Beside the lines runs what the maintenance thread has to do ([`Beside`]). Before it and the lines begin each
 //! worker's mark is set on the words (`ShowsMarks`): of the epoch before the clock's where the worker has lines, else

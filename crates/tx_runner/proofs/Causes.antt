@@ -1,6 +1,6 @@
 -- Why an operation is refused.
 use Rattle.std.proofs.Common.{◌≡◌, ◌≢◌, ◌⊎◌, inl, inr, ℕ, ◌+◌, ◌/◌, ◌%◌, ◌^◌, ◌≤◌, true, false, [], ◌∷◌}
-use Rattle.std.proofs.Common.{◌++◌, length, Option, Some, None, Result, Ok, Err, sym, ap, ◌∙◌, subst, arith}
+use Rattle.std.proofs.Common.{◌++◌, length, Option, Result, Ok, Err, sym, ap, ◌∙◌, subst, arith}
 use Rattle.std.specs.Prelude.{IfErr, nat_lt, ⊤}
 use Rattle.std.proofs.lemmas.List.{append-nil}
 use Rattle.std.proofs.lemmas.Bool.Decides.{nat_tests}
@@ -31,14 +31,11 @@ use Rattle.tree_ranges.specs.Causes.{RefusesScan}
 use Rattle.tree_writes.specs.Causes.{IsGrowConflict, RefusesTreeAlter, RefusesTreeWrite}
 use Rattle.tx_runner.specs.Lines.{IsOfKey, IsOnTree}
 use Rattle.tx_runner.specs.Steps.{IsOpCause, IsOpConflict, IsOpFull, IsOpWhy}
-use Rattle.tx_runner.specs.Tries.{IsBesideRecords, IsChangedAt, IsOfArray, IsPageWord, TouchesOnly, blame_at}
+use Rattle.tx_runner.specs.Tries.{IsAtSpot, IsChangedAt, IsPageWord, OfRecord, OfSlot, OfWay, TouchesOnly, blame_at}
 use Rattle.tx_runner.proofs.Arrays.{written_at}
 use Rattle.tx_runner.proofs.Touched.{touches_then, trees_locked, untouched}
 
 -- ---- on arrays
-
-some_none : (k : Key) → Some k ≡ None → ⊥
-some_none k same = absurd cc
 
 -- records and headers fill their set
 no_room : (sets : Sets) → has_read_room sets ≡ false → 256 ≤ length sets.reads + length sets.headers
@@ -53,18 +50,16 @@ read_cause op sets new k (refusals.Conflict at expected seen) v w of array grows
   touched = untouched (op ∷ []) v w r.4;
   cause = elim r.3 [
     | inl here ↦ record {
-      met = Some k;
-      key = λ q is. let same : k ≡ q = cc in subst (IsOfKey op) same of;
-      array = array;
-      place = λ none. absurd (some_none k none);
+      spot = OfRecord k;
+      key = of;
+      place = array;
       cause = here.0.conflict.cause;
       blamed = here.0.blamed;
     }
     | inr pointer ↦ record {
-      met = None;
-      key = λ q is. absurd cc;
-      array = tt;
-      place = λ none. inr (k, of, inl pointer.2);
+      spot = OfWay k;
+      key = of;
+      place = inl pointer.2;
       cause = pointer.0.cause;
       blamed = pointer.1 ∙ sym (append-nil v.blamed);
     }
@@ -91,10 +86,9 @@ read_cause op sets new k (refusals.NumberLimit clock) v w of array grows r = abs
 slot_conflict : (op : Op) (k : Key) → MayWrite op k → (at expected seen : ℕ) (v w : View) → IsSlotConflict at expected seen v w
     → w.blamed ≡ v.blamed → IsOpConflict op at expected seen v w
 slot_conflict op k may at expected seen v w slot blamed = record {
-  met = None;
-  key = λ q is. absurd cc;
-  array = tt;
-  place = λ none. inl (slot.slot, slot.within, slot.place, (k, may));
+  spot = OfSlot;
+  key = (k, may);
+  place = (slot.slot, slot.within, slot.place);
   cause = inr slot.other;
   blamed = blamed ∙ sym (append-nil v.blamed);
 }
@@ -123,10 +117,9 @@ write_cause op sets new k (refusals.Conflict at expected seen) v w may grows r =
   touched = untouched (op ∷ []) v w r.5;
   cause = elim r.3 [
     | inl pointer ↦ record {
-      met = None;
-      key = λ q is. absurd cc;
-      array = tt;
-      place = λ none. inr (k, written_at op k may, inl pointer.1);
+      spot = OfWay k;
+      key = written_at op k may;
+      place = inl pointer.1;
       cause = pointer.0.cause;
       blamed = r.4 ∙ sym (append-nil v.blamed);
     }
@@ -193,13 +186,12 @@ locked_high seen expected (inr other) = inr other
 
 -- a conflict at such a word, for a key of a tree
 page_conflict : (op : Op) (k : Key) (at expected seen : ℕ) (v w : View) → IsOfKey op k
-    → is_tree v.layout.decls k.storage ≡ true → IsPageWord v.layout at → IsChangedAt None expected seen
+    → is_tree v.layout.decls k.storage ≡ true → IsPageWord v.layout at → IsChangedAt (OfWay k) expected seen
     → w.blamed ≡ v.blamed → IsOpConflict op at expected seen v w
 page_conflict op k at expected seen v w of tree word changed blamed = record {
-  met = None;
-  key = λ q is. absurd cc;
-  array = tt;
-  place = λ none. inr (k, of, inr (tree, word));
+  spot = OfWay k;
+  key = of;
+  place = inr (tree, word);
   cause = changed;
   blamed = blamed ∙ sym (append-nil v.blamed);
 }
@@ -289,12 +281,11 @@ tree_write_cause op first sets new k (refusals.NumberLimit clock) v w may are tr
 pub conflict_since : (op : Op) (at expected seen : ℕ) (v u w : View) → OnlyWalked v u
     → IsOpConflict op at expected seen u w → IsOpConflict op at expected seen v w
 conflict_since op at expected seen v u w only c = record {
-  met = c.met;
+  spot = c.spot;
   key = c.key;
-  array = subst (λ (l : Layout). IsOfArray l.decls c.met) (walked_layout v u only) c.array;
-  place = λ none. subst (λ (l : Layout). IsBesideRecords l ((k : Key) × MayWrite op k) (IsOfKey op) at) (walked_layout v u only) (c.place none);
+  place = subst (λ (l : Layout). IsAtSpot l c.spot at) (walked_layout v u only) c.place;
   cause = c.cause;
-  blamed = c.blamed ∙ ap (λ (x : View). x.blamed ++ blame_at (seat_number x.role) c.met) only.is;
+  blamed = c.blamed ∙ ap (λ (x : View). x.blamed ++ blame_at (seat_number x.role) c.spot) only.is;
 }
 
 pub full_since : (op : Op) (told : Option (ℕ × ℕ)) (v u w : View) → OnlyWalked v u → IsOpFull op told u w

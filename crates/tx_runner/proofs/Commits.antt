@@ -225,8 +225,8 @@ line_committed ops done tries verdict replies commit u v w less h k = record {
   losts = h.losts ++ k.losts;
   fewer = omega (arith, less, h.count, k.fewer, length-append h.losts k.losts);
   each = all_append (IsClash ops) h.losts k.losts h.each k.each;
-  placed = all_append (IsPlaced u.layout ops) h.losts k.losts h.placed
-      (subst (λ (y : Layout). AllByRecursion (IsPlaced y ops) k.losts) h.tried.layout k.placed);
+  placed = all_append (IsPlaced u.layout) h.losts k.losts h.placed
+      (subst (λ (y : Layout). AllByRecursion (IsPlaced y) k.losts) h.tried.layout k.placed);
   refused = k.refused ∙ ap (λ l. l ++ whys_of k.losts) h.tried.refused
       ∙ append_assoc u.refused (whys_of h.losts) (whys_of k.losts)
       ∙ ap (λ l. u.refused ++ l) (sym (map-append why_of h.losts k.losts));

@@ -40,14 +40,13 @@ use Rattle.tx_runner.specs.declared.lines.LineEnd.TheVariants as answers
 use Rattle.tx_runner.specs.declared.room.LineRoom.{LineRoom}
 use Rattle.tx_runner.specs.LineEnds.{RunsLine}
 use Rattle.tx_runner.specs.Lines.{try_steps, HasTreeOp, IsOfKey}
-use Rattle.tx_runner.specs.Steps.{AreKeysOf, IsCauseAmong, IsTryCause, IsWhyAmong, RefusesTry, end_of}
-use Rattle.tx_runner.specs.Tries.{AreAllTaken, HasConflicted, HasDrawsLeft, HasTriedFor, IsBesideRecords, IsChangedAt}
-use Rattle.tx_runner.specs.Tries.{IsClash, IsConflicting, IsKeyOf, IsLostAt, IsMetKey, IsOfArray, IsPlaced, IsWayWord}
-use Rattle.tx_runner.specs.Tries.{IsWrittenBy, Lost}
+use Rattle.tx_runner.specs.Steps.{AreKeysOf, IsCauseAmong, IsMetBy, IsTryCause, IsWhyAmong, RefusesTry, end_of}
+use Rattle.tx_runner.specs.Tries.{AreAllTaken, HasConflicted, HasDrawsLeft, HasTriedFor, IsAtSpot, IsChangedAt}
+use Rattle.tx_runner.specs.Tries.{IsClash, IsConflicting, IsKeyOf, IsLostAt, IsMetOf, IsPlaced, IsWayWord}
+use Rattle.tx_runner.specs.Tries.{IsWrittenBy, Lost, OfRecord, OfSlot, OfWay, Spot}
 use Rattle.tx_runner.specs.Tries.{ToClock, ToOther}
 use Rattle.tx_runner.specs.Tries.{ToSet, ToSlots, TouchesOnly, Writes, blame_at, blame_of, blames_of, drawn_for}
 use Rattle.tx_runner.specs.Tries.{why_of, whys_of}
-use Rattle.page_commit.specs.Turning.{MayWrite}
 use Rattle.tx_runner.proofs.Arrays.{written_at}
 use Rattle.tx_runner.proofs.Causes.{locked_high, record_word}
 use Rattle.tx_runner.proofs.Standing.{StandsAs, left_before, seen_then, still}
@@ -124,32 +123,18 @@ begin_refused ops why v w r =
       cause = (r.high, r.draws, v.steps, r.last);
     }
 
--- where a record was in conflict, its key is one of the line
-met_key : (ops : List Op) (met : Option Key) → ((k : Key) → met ≡ Some k → IsKeyOf ops k) → IsMetKey ops met
-met_key ops (Some k) keys = keys k refl
-met_key ops None keys = tt
-
 -- a conflict, behind which so many numbers were drawn
-clash_try : (ops : List Op) (at expected seen : ℕ) (met : Option Key) (u v w : View) → HasDrawsLeft u
-    → StandsAs ops u v → HasRefused (refusals.Conflict at expected seen) v w → IsChangedAt met expected seen
-    → ((k : Key) → met ≡ Some k → IsKeyOf ops k) → IsOfArray v.layout.decls met
-    → (met ≡ None → IsBesideRecords v.layout (Writes ops) (IsKeyOf ops) at)
-    → w.blamed ≡ v.blamed ++ blame_at (seat_number v.role) met → TouchesOnly ops u w
+clash_try : (ops : List Op) (at expected seen : ℕ) (spot : Spot) (u v w : View) → HasDrawsLeft u → StandsAs ops u v
+    → HasRefused (refusals.Conflict at expected seen) v w → IsChangedAt spot expected seen → IsMetOf ops spot
+    → IsAtSpot v.layout spot at → w.blamed ≡ v.blamed ++ blame_at (seat_number v.role) spot → TouchesOnly ops u w
     → RefusesTry ops (refusals.Conflict at expected seen) u w
-clash_try ops at expected seen met u v w left s r cause keys array place blamed touched =
+clash_try ops at expected seen spot u v w left s r cause key place blamed touched =
     let why : RefusalCause = refusals.Conflict at expected seen in
-    let lost : Lost = ToOther (record { why = why; met = met; drew = r.drew }) in record {
+    let lost : Lost = ToOther (record { why = why; spot = spot; drew = r.drew }) in record {
       lost = lost;
       is = refl;
       tried = tried_once ops why lost u v w s r refl r.draws blamed touched;
-      cause = (
-        (cause, met_key ops met keys),
-        left,
-        (
-          subst (λ (y : Layout). IsOfArray y.decls met) s.layout array,
-          λ none. subst (λ (y : Layout). IsBesideRecords y (Writes ops) (IsKeyOf ops) at) s.layout (place none),
-        ),
-      );
+      cause = ((cause, key), left, subst (λ (y : Layout). IsAtSpot y spot at) s.layout place);
     }
 
 -- no slot was usable
@@ -195,18 +180,16 @@ pub op_refused : (ops : List Op) (why : RefusalCause) (u v w : View) → HasDraw
 op_refused ops why u v w left s r c =
     by_why why r c.op c.among c.draws (touches_then ops u v w s.layout s.role s.touched c.touched) c.cause
   where
-    beside : {at : ℕ} (op : Op) → Contains ops op → IsBesideRecords v.layout ((k : Key) × MayWrite op k) (IsOfKey op) at
-        → IsBesideRecords v.layout (Writes ops) (IsKeyOf ops) at
-    beside op among (inl slot) =
-        inl (slot.0, slot.1, slot.2, (slot.3.0, record { op = op; among = among; writes = slot.3.1 }))
-    beside op among (inr way) = inr (way.0, record { op = op; among = among; at = way.1 }, way.2)
+    key_of : (op : Op) → Contains ops op → (spot : Spot) → IsMetBy op spot → IsMetOf ops spot
+    key_of op among (OfRecord k) of = record { op = op; among = among; at = of }
+    key_of op among (OfWay k) of = record { op = op; among = among; at = of }
+    key_of op among OfSlot may = (may.0, record { op = op; among = among; writes = may.1 })
 
     by_why : (y : RefusalCause) → HasRefused y v w → (op : Op) → Contains ops op → w.draws ≡ v.draws
         → TouchesOnly ops u w → IsWhyAmong ops op y v w → RefusesTry ops y u w
     by_why (refusals.Conflict at expected seen) r op among draws touched c =
-        clash_try ops at expected seen c.met u v w left s r c.cause
-        (λ k is. record { op = op; among = among; at = c.key k is }) c.array (λ none. beside op among (c.place none))
-        c.blamed touched
+        clash_try ops at expected seen c.spot u v w left s r c.cause (key_of op among c.spot c.key) c.place c.blamed
+        touched
     by_why (refusals.Full told) r op among draws touched c =
         full_try ops told c.words u v w left s r c.told_is c.all
         (c.key, record { op = op; among = among; writes = c.writes }) draws touched
@@ -228,9 +211,6 @@ commit_refused ops why sets keep u v w left s keys live r c = by_why why r c
     read_or_written k at (inr write) =
         let w = kept k keep (has_written k write.0 (kept_writes keep sets.writes) write.1 write.2) in
         record { op = w.op; among = w.among; at = written_at w.op k w.writes }
-
-    some_none : (k : Key) → Some k ≡ None → ⊥
-    some_none k same = absurd cc
 
     pointer_way : (at : ℕ) → has_word at sets.pointers ≡ true → (k : Key) × IsKeyOf ops k × IsWayWord v.layout k at
     pointer_way at has =
@@ -262,26 +242,24 @@ commit_refused ops why sets keep u v w left s keys live r c = by_why why r c
         → RefusesTry ops y u w
     by_why (refusals.Conflict at expected seen) r c = elim c.0 [
       | inl here ↦
-          clash_try ops at expected seen (Some here.0) u v w left s r here.2.conflict.cause
-          (λ k is. let same : here.0 ≡ k = cc in subst (IsKeyOf ops) same (read_or_written here.0 at here.1)) here.3
-          (λ none. absurd (some_none here.0 none)) here.2.blamed (touches c.1)
+          clash_try ops at expected seen (OfRecord here.0) u v w left s r here.2.conflict.cause
+          (read_or_written here.0 at here.1) here.3 here.2.blamed (touches c.1)
       | inr other ↦ elim other [
         | inl pointer ↦
-            clash_try ops at expected seen None u v w left s r pointer.1.cause (λ k is. absurd cc) tt
-            (λ none. inr (pointer_way at pointer.0)) (pointer.2 ∙ sym (append-nil v.blamed)) (touches c.1)
+            let way = pointer_way at pointer.0 in
+            clash_try ops at expected seen (OfWay way.0) u v w left s r pointer.1.cause way.1 way.2
+            (pointer.2 ∙ sym (append-nil v.blamed)) (touches c.1)
         | inr rest ↦ elim rest [
           | inl header ↦
-              clash_try ops at expected seen None u v w left s r (locked_high seen expected header.1.cause)
-              (λ k is. absurd cc) tt
-              (λ none. inr (keys.headers at header.0)) (header.2 ∙ sym (append-nil v.blamed)) (touches c.1)
+              let way = keys.headers at header.0 in
+              clash_try ops at expected seen (OfWay way.0) u v w left s r
+              (locked_high seen expected header.1.cause) way.1 way.2 (header.2 ∙ sym (append-nil v.blamed))
+              (touches c.1)
           | inr tree ↦
-              clash_try ops at expected seen None u v w left s r (locked_high seen expected tree.2.cause)
-              (λ k is. absurd cc) tt
-              (λ none. inr (
-                tree.0,
-                read_or_written tree.0 at tree.1,
-                tree_word tree.0 at (place_of tree.0 at tree.1) tree.4,
-              )) (tree.3 ∙ sym (append-nil v.blamed)) (touches c.1)
+              clash_try ops at expected seen (OfWay tree.0) u v w left s r
+              (locked_high seen expected tree.2.cause) (read_or_written tree.0 at tree.1)
+              (tree_word tree.0 at (place_of tree.0 at tree.1) tree.4) (tree.3 ∙ sym (append-nil v.blamed))
+              (touches c.1)
         ]
       ]
     ]
@@ -354,8 +332,8 @@ conflicted_more ops done why u v w h r goes = by_lost r.lost r.is r.tried r.caus
           losts = h.losts ++ lost ∷ [];
           count = length-append h.losts (lost ∷ []) ∙ ap (λ n. n + 1) h.count;
           each = all_push (IsClash ops) h.losts lost h.each cause.0;
-          placed = all_push (IsPlaced u.layout ops) h.losts lost h.placed
-              (subst (λ (y : Layout). IsPlaced y ops (ToOther clash)) h.tried.layout cause.2);
+          placed = all_push (IsPlaced u.layout) h.losts lost h.placed
+              (subst (λ (y : Layout). IsPlaced y (ToOther clash)) h.tried.layout cause.2);
           tried = tried_then ops h.losts (lost ∷ []) u v w h.tried tried;
         }
     by_lost (ToSlots words) is tried cause = absurd (goes answers.Full (ap end_of (sym is)))
@@ -363,11 +341,11 @@ conflicted_more ops done why u v w h r goes = by_lost r.lost r.is r.tried r.caus
     by_lost (ToClock clock) is tried cause = absurd (goes answers.Limit (ap end_of (sym is)))
 
 -- a conflict ends no line
-conflict_goes_on : (why : RefusalCause) (met : Option Key) → IsConflicting why met → end_of why ≡ None
-conflict_goes_on (refusals.Conflict at expected seen) met cause = refl
-conflict_goes_on (refusals.Full told) met cause = absurd cause
-conflict_goes_on (refusals.Wide set) met cause = absurd cause
-conflict_goes_on (refusals.NumberLimit clock) met cause = absurd cause
+conflict_goes_on : (why : RefusalCause) (spot : Spot) → IsConflicting why spot → end_of why ≡ None
+conflict_goes_on (refusals.Conflict at expected seen) spot cause = refl
+conflict_goes_on (refusals.Full told) spot cause = absurd cause
+conflict_goes_on (refusals.Wide set) spot cause = absurd cause
+conflict_goes_on (refusals.NumberLimit clock) spot cause = absurd cause
 
 -- the try behind others was lost so
 abbrev lost_behind : (ops : List Op) (done tries : ℕ) (lost : Lost) (u v w : View) → done < tries
@@ -394,7 +372,7 @@ line_ended ops done tries why end room u v w less h r ends = by_lost r.lost r.is
     by_lost : (lost : Lost) → why_of lost ≡ why → HasTriedFor ops (lost ∷ []) v w → IsTryCause ops lost v w
         → RunsLine ops tries end room u w
     by_lost (ToOther clash) is tried cause =
-        absurd (let goes = conflict_goes_on clash.why clash.met cause.0.0 in let same = ap end_of is in cc)
+        absurd (let goes = conflict_goes_on clash.why clash.spot cause.0.0 in let same = ap end_of is in cc)
     by_lost (ToSlots words) is tried cause = as_end answers.Full (ap end_of (sym is)) record {
       began = left_before u v h.tried.layout h.tried.seen cause.2;
       writes = cause.0;

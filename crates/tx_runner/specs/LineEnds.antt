@@ -56,7 +56,7 @@ pub record HasCommittedLine (ops : List Op) (tries : ℕ) (verdict : Verdict) (r
   pub losts : List Lost
   pub fewer : length losts < tries
   pub each : AllByRecursion (IsClash ops) losts
-  pub placed : AllByRecursion (IsPlaced v.layout ops) losts
+  pub placed : AllByRecursion (IsPlaced v.layout) losts
   pub refused : w.refused ≡ v.refused ++ whys_of losts
   pub over : IsOver w
   pub layout : w.layout ≡ v.layout

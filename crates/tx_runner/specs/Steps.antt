@@ -27,9 +27,9 @@ use Rattle.page_commit.specs.Running.{HasRun, HasEnded}
 use Rattle.tx_runner.specs.declared.lines.LineEnd.{LineEnd}
 use Rattle.tx_runner.specs.declared.lines.LineEnd.TheVariants as ends
 use Rattle.tx_runner.specs.Lines.{HasTreeOp, IsOfKey, IsOnTree, op_steps}
-use Rattle.tx_runner.specs.Tries.{AreAllTaken, HasDrawsLeft, HasTriedFor, IsBesideRecords, IsChangedAt, IsClash}
-use Rattle.tx_runner.specs.Tries.{IsKeyOf, IsOfArray, IsPlaced, IsWayWord, IsWrittenBy, Lost, ToClock, ToOther, ToSet}
-use Rattle.tx_runner.specs.Tries.{ToSlots, TouchesOnly, Writes, blame_at, why_of}
+use Rattle.tx_runner.specs.Tries.{AreAllTaken, HasDrawsLeft, HasTriedFor, IsAtSpot, IsChangedAt, IsClash, IsKeyOf}
+use Rattle.tx_runner.specs.Tries.{IsPlaced, IsWayWord, IsWrittenBy, Lost, OfRecord, OfSlot, OfWay, Spot, ToClock}
+use Rattle.tx_runner.specs.Tries.{ToOther, ToSet, ToSlots, TouchesOnly, Writes, blame_at, why_of}
 
 -- ---- operations
 
@@ -99,15 +99,20 @@ pub record HasAnsweredAll (ops : List Op) (verdict : Verdict) (replies : List Re
   pub run : HasRunTo ops verdict replies sets w
   pub keys : AreKeysOf w.layout ops sets
 
+-- the key is one of the operation; at a slot it may write one
+abbrev pub IsMetBy : Op → Spot → Type 0
+IsMetBy op (OfRecord k) = IsOfKey op k
+IsMetBy op (OfWay k) = IsOfKey op k
+IsMetBy op OfSlot = (k : Key) × MayWrite op k
+
 -- An operation met a word that was changed, or is locked or shut: that of the record of its key in an array, or else a
 -- slot's, that of a pointer on the way to its key, or one of a page of a tree.
 pub record IsOpConflict (op : Op) (at expected seen : ℕ) (v w : View) : Type 0 where
-  pub met : Option Key
-  pub key : (k : Key) → met ≡ Some k → IsOfKey op k
-  pub array : IsOfArray v.layout.decls met
-  pub place : met ≡ None → IsBesideRecords v.layout ((k : Key) × MayWrite op k) (IsOfKey op) at
-  pub cause : IsChangedAt met expected seen
-  pub blamed : w.blamed ≡ v.blamed ++ blame_at (seat_number v.role) met
+  pub spot : Spot
+  pub key : IsMetBy op spot
+  pub place : IsAtSpot v.layout spot at
+  pub cause : IsChangedAt spot expected seen
+  pub blamed : w.blamed ≡ v.blamed ++ blame_at (seat_number v.role) spot
 
 -- An operation that may write found no slot usable; of those that were seen the lowest retired one is told.
 pub record IsOpFull (op : Op) (told : Option (ℕ × ℕ)) (v w : View) : Type 0 where
@@ -162,7 +167,7 @@ pub record IsCauseAmong (ops : List Op) (why : RefusalCause) (v w : View) : Type
 -- which was loaded last.
 abbrev pub IsTryCause : List Op → Lost → View → View → Type 0
 IsTryCause ops (ToOther clash) v w =
-    IsClash ops (ToOther clash) × HasDrawsLeft v × IsPlaced v.layout ops (ToOther clash)
+    IsClash ops (ToOther clash) × HasDrawsLeft v × IsPlaced v.layout (ToOther clash)
 IsTryCause ops (ToSlots words) v w = Writes ops × AreAllTaken words v w × HasDrawsLeft v
 IsTryCause ops (ToSet set) v w = HasTreeOp v.layout.decls ops × HasDrawsLeft v
 IsTryCause ops (ToClock clock) v w =

@@ -1,6 +1,6 @@
 -- Tries of a line that were refused.
 use Rattle.std.specs.Prelude.{◌≡◌, ◌≢◌, ◌⊎◌, ℕ, ◌+◌, ◌%◌, ◌^◌, ◌≤◌, ◌<◌, Bool, true, List, [], ◌∷◌, ◌++◌, length}
-use Rattle.std.specs.Prelude.{Some, None, Option, Contains, cond, flat_map, map, sum_by, ⊤}
+use Rattle.std.specs.Prelude.{Some, Option, Contains, cond, flat_map, map, sum_by, ⊤}
 use Rattle.std.specs.List.{AllByRecursion, list_all}
 use Rattle.serial_model.specs.Numbers.{draw_limit}
 use Rattle.serial_model.specs.declared.decl.Decl.{Decl}
@@ -53,28 +53,32 @@ IsLockedFor decls ops k = IsWrittenBy ops k ⊎ ((is_tree decls k.storage ≡ tr
 
 -- ---- conflicts
 
+-- Where a try was in conflict: at the record of this key of an array; at a pointer, or at a word of a root or a page,
+-- on the way to this key; or at the word of a slot that it was to be given.
+pub data Spot : Type 0 where
+  OfRecord : Key → Spot
+  OfWay : Key → Spot
+  OfSlot : Spot
+
 -- A word was in conflict: that of the record of an array's key, which was locked, or not the expected one; or else that
 -- of a pointer, a slot or a page of a tree, which was locked or shut, or not the expected one.
-abbrev pub IsChangedAt : Option Key → ℕ → ℕ → Type 0
-IsChangedAt (Some k) expected seen = (2 ^ 60 ≤ seen) ⊎ ((expected < 2 ^ 60) × (seen ≢ expected))
-IsChangedAt None expected seen = (2 ^ 60 ≤ seen) ⊎ (seen ≢ expected)
+abbrev pub IsChangedAt : Spot → ℕ → ℕ → Type 0
+IsChangedAt (OfRecord k) expected seen = (2 ^ 60 ≤ seen) ⊎ ((expected < 2 ^ 60) × (seen ≢ expected))
+IsChangedAt (OfWay k) expected seen = (2 ^ 60 ≤ seen) ⊎ (seen ≢ expected)
+IsChangedAt OfSlot expected seen = (2 ^ 60 ≤ seen) ⊎ (seen ≢ expected)
 
 -- the refusal is a conflict there
-abbrev pub IsConflicting : RefusalCause → Option Key → Type 0
-IsConflicting (refusals.Conflict at expected seen) met = IsChangedAt met expected seen
-IsConflicting (refusals.Full held) met = ⊥
-IsConflicting (refusals.Wide set) met = ⊥
-IsConflicting (refusals.NumberLimit clock) met = ⊥
+abbrev pub IsConflicting : RefusalCause → Spot → Type 0
+IsConflicting (refusals.Conflict at expected seen) spot = IsChangedAt spot expected seen
+IsConflicting (refusals.Full held) spot = ⊥
+IsConflicting (refusals.Wide set) spot = ⊥
+IsConflicting (refusals.NumberLimit clock) spot = ⊥
 
--- where the record of an array was in conflict, its key is one of the line
-abbrev pub IsMetKey : List Op → Option Key → Type 0
-IsMetKey ops (Some k) = IsKeyOf ops k
-IsMetKey ops None = ⊤
-
--- and is one of an array, indeed
-abbrev pub IsOfArray : List Decl → Option Key → Type 0
-IsOfArray decls (Some k) = is_array decls k.storage ≡ true
-IsOfArray decls None = ⊤
+-- the key at whose record, or on the way to which, it was is one of the line, which may write if it was at a slot
+abbrev pub IsMetOf : List Op → Spot → Type 0
+IsMetOf ops (OfRecord k) = IsKeyOf ops k
+IsMetOf ops (OfWay k) = IsKeyOf ops k
+IsMetOf ops OfSlot = Writes ops
 
 -- the word is a root's, or stands in a slot's page
 abbrev pub IsPageWord : Layout → ℕ → Type 0
@@ -84,17 +88,18 @@ IsPageWord l at = (at < 32) ⊎ ((t : ℕ) × (i : ℕ) × (at ≡ page_at l.slo
 abbrev pub IsWayWord : Layout → Key → ℕ → Type 0
 IsWayWord l k at = IsWayPlace l k at ⊎ ((is_tree l.decls k.storage ≡ true) × IsPageWord l at)
 
--- the word is that of a slot, where it may write, or so one for such a key
-abbrev pub IsBesideRecords : Layout → Type 0 → (Key → Type 0) → ℕ → Type 0
-IsBesideRecords l may of at =
-    ((t : ℕ) × (t < l.slots) × (at ≡ slot_at t) × may) ⊎ ((k : Key) × of k × IsWayWord l k at)
+-- the record is one of an array; the word is on the way to the key; or it is that of a slot
+abbrev pub IsAtSpot : Layout → Spot → ℕ → Type 0
+IsAtSpot l (OfRecord k) at = is_array l.decls k.storage ≡ true
+IsAtSpot l (OfWay k) at = IsWayWord l k at
+IsAtSpot l OfSlot at = (t : ℕ) × (t < l.slots) × (at ≡ slot_at t)
 
--- so it is with the word of a conflict, for a key of the line
-abbrev pub IsBesideOf : Layout → List Op → RefusalCause → Type 0
-IsBesideOf l ops (refusals.Conflict at expected seen) = IsBesideRecords l (Writes ops) (IsKeyOf ops) at
-IsBesideOf l ops (refusals.Full held) = ⊥
-IsBesideOf l ops (refusals.Wide set) = ⊥
-IsBesideOf l ops (refusals.NumberLimit clock) = ⊥
+-- so it is with the word of a conflict
+abbrev pub IsWordAt : Layout → Spot → RefusalCause → Type 0
+IsWordAt l spot (refusals.Conflict at expected seen) = IsAtSpot l spot at
+IsWordAt l spot (refusals.Full held) = ⊥
+IsWordAt l spot (refusals.Wide set) = ⊥
+IsWordAt l spot (refusals.NumberLimit clock) = ⊥
 
 -- ---- no slot was usable
 
@@ -109,11 +114,10 @@ pub record AreAllTaken (words : List ℕ) (v w : View) : Type 0 where
 
 -- ---- tries
 
--- A try that was refused with Conflict: why, at the record of which key, if it was at the word of an array's record and
--- not at that of a pointer, a slot or a page of a tree, and whether it had drawn its number by then.
+-- A try that was refused with Conflict: why, where, and whether it had drawn its number by then.
 pub record Clash : Type 0 where
   pub why : RefusalCause
-  pub met : Option Key
+  pub spot : Spot
   pub drew : Bool
 
 -- How a try was lost: it met another transaction, or a word that was changed; it was to be given a slot, and all of
@@ -146,29 +150,30 @@ drawn_for (ToClock clock) = 0
 abbrev pub lost_to : List Lost → ℕ
 lost_to losts = sum_by drawn_for losts
 
--- the try of this line was refused with Conflict, at a key of its, or at no record
+-- the try of this line was refused with Conflict, for a key of its, or at a slot, where it may write
 abbrev pub IsClash : List Op → Lost → Type 0
-IsClash ops (ToOther clash) = IsConflicting clash.why clash.met × IsMetKey ops clash.met
+IsClash ops (ToOther clash) = IsConflicting clash.why clash.spot × IsMetOf ops clash.spot
 IsClash ops (ToSlots words) = ⊥
 IsClash ops (ToSet set) = ⊥
 IsClash ops (ToClock clock) = ⊥
 
--- A try that met a conflict at a record met an array's; else it met it at a slot, at a pointer on the way to a key of
--- the line, or at a word of a root or of a page, if the line has a key of a tree.
-abbrev pub IsPlaced : Layout → List Op → Lost → Type 0
-IsPlaced l ops (ToOther clash) = IsOfArray l.decls clash.met × (clash.met ≡ None → IsBesideOf l ops clash.why)
-IsPlaced l ops (ToSlots words) = ⊤
-IsPlaced l ops (ToSet set) = ⊤
-IsPlaced l ops (ToClock clock) = ⊤
+-- A try that met a conflict at a record met an array's; else it met it at a slot's word, at a pointer on the way to the
+-- key, or at a word of a root or of a page, if the key is one of a tree.
+abbrev pub IsPlaced : Layout → Lost → Type 0
+IsPlaced l (ToOther clash) = IsWordAt l clash.spot clash.why
+IsPlaced l (ToSlots words) = ⊤
+IsPlaced l (ToSet set) = ⊤
+IsPlaced l (ToClock clock) = ⊤
 
 -- what the pass of this seat tells of such a conflict
-abbrev pub blame_at : ℕ → Option Key → List Touch
-blame_at q (Some k) = touch q k ∷ []
-blame_at q None = []
+abbrev pub blame_at : ℕ → Spot → List Touch
+blame_at q (OfRecord k) = touch q k ∷ []
+blame_at q (OfWay k) = []
+blame_at q OfSlot = []
 
 -- at which key the pass of this seat met another one's, where the try was refused for that
 abbrev pub blame_of : ℕ → Lost → List Touch
-blame_of q (ToOther clash) = blame_at q clash.met
+blame_of q (ToOther clash) = blame_at q clash.spot
 blame_of q (ToSlots words) = []
 blame_of q (ToSet set) = []
 blame_of q (ToClock clock) = []
@@ -208,7 +213,7 @@ pub record HasConflicted (ops : List Op) (tries : ℕ) (v w : View) : Type 0 whe
   pub losts : List Lost
   pub count : length losts ≡ tries
   pub each : AllByRecursion (IsClash ops) losts
-  pub placed : AllByRecursion (IsPlaced v.layout ops) losts
+  pub placed : AllByRecursion (IsPlaced v.layout) losts
   pub tried : HasTriedFor ops losts v w
 
 -- The last try was lost so, and those before it, which were fewer than the line has, were refused with Conflict.
@@ -216,7 +221,7 @@ pub record IsLostAt (ops : List Op) (last : Lost) (tries : ℕ) (v w : View) : T
   pub losts : List Lost
   pub fewer : length losts < tries
   pub each : AllByRecursion (IsClash ops) losts
-  pub placed : AllByRecursion (IsPlaced v.layout ops) losts
+  pub placed : AllByRecursion (IsPlaced v.layout) losts
   pub tried : HasTriedFor ops (losts ++ last ∷ []) v w
 
 -- ---- ends of a line that isn't tried again

@@ -1,5 +1,6 @@
 -- What must have happened for each outcome and each answer of a round. None comes without a cause.
-use Rattle.std.specs.Prelude.{◌≡◌, ◌<◌, ◌≤◌, ◌+◌, ◌-◌, ◌*◌, ◌/◌, ◌%◌, ◌^◌, ◌==◌, ◌&&◌, ◌||◌, ℕ, Bool, true, false, not}
+use Rattle.std.specs.Prelude.{◌≡◌, ◌≢◌, ◌⊎◌, ◌<◌, ◌≤◌, ◌+◌, ◌-◌, ◌*◌, ◌/◌, ◌%◌, ◌^◌, ◌==◌, ◌&&◌, ◌||◌, ℕ, Bool}
+use Rattle.std.specs.Prelude.{true, false, not}
 use Rattle.std.specs.Prelude.{List, [], ◌∷◌, flat_map, fold, min, MatchBool, Option, Some, None}
 use Rattle.std.specs.Prelude.{is_some, length, nat_lt, option_to_list, if◌then◌else◌, ⊤}
 use Rattle.std.specs.List.{AllByRecursion, Contains, list_all, list_any}
@@ -12,8 +13,8 @@ use Rattle.tx_script.specs.declared.answer.Answer.{Answer}
 use Rattle.tx_script.specs.declared.answer.Answer.TheVariants as answers
 use Rattle.tx_script.specs.declared.outcome.Outcome.{Outcome}
 use Rattle.tx_script.specs.declared.outcome.Outcome.TheVariants.{Unrun}
-use Rattle.tx_script.specs.Run.{InConflict, LogFiles, LogRefusal, LogFailed, LogFull, NoNumber, NoRoom, NoSlot, Ran}
-use Rattle.tx_script.specs.Run.{TryRefusal}
+use Rattle.tx_script.specs.Run.{AtRecord, AtSlot, InConflict, LogFiles, LogRefusal, LogFailed, LogFull, NoNumber}
+use Rattle.tx_script.specs.Run.{NoRoom, NoSlot, OnWay, Ran, TryRefusal, Where}
 use Rattle.tx_script.specs.Tries.{AllCome}
 
 -- ---- logs
@@ -68,13 +69,21 @@ abbrev pub is_usable : ℕ → Bool
 is_usable word =
     ((word % 2 ^ 18 == 0) || (word % 2 ^ 18 == 3 * 2 ^ 16)) && nat_lt (word / 2 ^ 18) (2 ^ 46 - 1)
 
--- The cause of a refusal, where there are so many slots: no slot is usable, by the words of all of them, as the try's
--- steps saw them. Which lines may fill a set is said with what they met: `Conflicts.antt`.
+-- A word is one of a conflict: that of an array's record is locked, or is none that another lock hides and not the
+-- expected one; one on the way to a key, or a slot's, is locked or shut, or isn't the expected one.
+abbrev pub IsOfConflict : Where → ℕ → ℕ → Type 0
+IsOfConflict (AtRecord k) expected seen = (2 ^ 60 ≤ seen) ⊎ ((expected < 2 ^ 60) × (seen ≢ expected))
+IsOfConflict (OnWay k) expected seen = (2 ^ 60 ≤ seen) ⊎ (seen ≢ expected)
+IsOfConflict AtSlot expected seen = (2 ^ 60 ≤ seen) ⊎ (seen ≢ expected)
+
+-- The cause of a refusal, where there are so many slots: a word that was changed or is locked; or no slot is usable, by
+-- the words of all of them, as the try's steps saw them. Who may have changed a word, and which lines may fill a set,
+-- is said with what they met: `Conflicts.antt`. What the clock's word comes to is said with the line: `Tries.antt`.
 abbrev pub IsTryCause : ℕ → TryRefusal → Type 0
-IsTryCause slots (InConflict met) = ⊤
+IsTryCause slots (InConflict met) = IsOfConflict met.at met.expected met.seen
 IsTryCause slots (NoSlot words) = (length words ≡ slots) × (list_all (λ word. not (is_usable word)) words ≡ true)
-IsTryCause slots NoRoom = ⊤
-IsTryCause slots NoNumber = ⊤
+IsTryCause slots (NoRoom set) = ⊤
+IsTryCause slots (NoNumber clock) = ⊤
 
 -- Each worker's outcomes have their causes, by the refusals of its lines' tries and by what refused its log: `ComesTo`.
 abbrev pub WorkersCaused : Ran → List (Option LogRefusal) → List (List Outcome) → List (List (List TryRefusal))

@@ -1,8 +1,9 @@
 -- What lines have to do with the refusals of their tries: one in conflict at a record of an array touches a key there
--- that another worker's line of the same round may change, or pages were dropped in the round; one that found no slot
--- may change some key; and one that filled a set has an operation on a tree.
+-- that another worker's line of the same round may change, or pages were dropped in the round; one in conflict on the
+-- way to a key touches that key; one in conflict at a slot, or that found none, may change some key; and one that
+-- filled a set has an operation on a tree.
 use Rattle.std.specs.Prelude.{◌≡◌, ◌≢◌, ◌⊎◌, ◌+◌, ◌==◌, ◌&&◌, ℕ, Bool, true, false, List, [], ◌∷◌, nat_le, Contains}
-use Rattle.std.specs.Prelude.{slice_get, ◌++◌, ◌≤◌, Option, Some, None, ⊤}
+use Rattle.std.specs.Prelude.{slice_get, ◌++◌, ◌≤◌, Option, Some, ⊤}
 use Rattle.std.specs.List.{AllByRecursion, list_any}
 use Rattle.std.proofs.Common.{inl, inr, arith, refl, subst}
 use Rattle.lists.specs.Elements.{in_none}
@@ -12,7 +13,8 @@ use Rattle.serial_model.specs.declared.key.Key.{Key}
 use Rattle.serial_model.specs.declared.op.Op.{Op}
 use Rattle.serial_model.specs.declared.op.Op.TheVariants.{Read, Write, Remove, Add, Take, Scan}
 use Rattle.script_grammar.specs.Script.{Round, worker_lines}
-use Rattle.tx_script.specs.Run.{InConflict, LogRefusal, Met, NoNumber, NoRoom, NoSlot, Ran, TryRefusal}
+use Rattle.tx_script.specs.Run.{AtRecord, AtSlot, InConflict, LogRefusal, Met, NoNumber, NoRoom, NoSlot, OnWay, Ran}
+use Rattle.tx_script.specs.Run.{TryRefusal, Where}
 use Rattle.tx_script.specs.Tries.{ComesTo}
 use Rattle.tx_script.specs.declared.outcome.Outcome.TheVariants.{Conflict, Full, Wide}
 
@@ -78,26 +80,26 @@ pub record IsMetBy (lines : List (List (List Op))) (worker : ℕ) (ops : List Op
   pub other : by ≢ worker
   pub changer : ChangesIn lines by k
 
--- A try in conflict at a record of an array met another worker's line so; or it touches the key, in a round in which
--- pages were dropped, as is said where this is asked: the maintenance thread locks records of pages that it may take
--- out of memory. At a pointer, a slot or a word of a tree nobody is told: its word was changed since the try saw it, or
--- is locked or shut, and that may have been for another key, or by the worker itself.
-abbrev pub IsMetAt : List (List (List Op)) → Type 0 → ℕ → List Op → Option Key → Type 0
-IsMetAt lines dropped worker ops (Some k) = IsMetBy lines worker ops k ⊎ ((touches ops k ≡ true) × dropped)
-IsMetAt lines dropped worker ops None = ⊤
-
 -- the line may change some key
 abbrev pub ChangesSome : List Op → Type 0
 ChangesSome ops = (k : Key) × (changes ops k ≡ true)
 
--- What a line has to do with the refusal of a try: in conflict, where that was at a record of an array, it met another
--- worker's line, or a drop; it found no slot only if it may change some key, since what is read takes none; and it
--- filled a set only if an operation of it is on a tree.
+-- A try in conflict at a record of an array met another worker's line so; or it touches the key, in a round in which
+-- pages were dropped, as is said where this is asked: the maintenance thread locks records of pages that it may take
+-- out of memory. On the way to a key it touches that key, and nobody is told who was there: that may have been for
+-- another key, or the worker itself. It was to be given a slot only if it may change some key: what is read takes none.
+abbrev pub IsMetAt : List (List (List Op)) → Type 0 → ℕ → List Op → Where → Type 0
+IsMetAt lines dropped worker ops (AtRecord k) = IsMetBy lines worker ops k ⊎ ((touches ops k ≡ true) × dropped)
+IsMetAt lines dropped worker ops (OnWay k) = touches ops k ≡ true
+IsMetAt lines dropped worker ops AtSlot = ChangesSome ops
+
+-- What a line has to do with the refusal of a try: with a conflict as is said above; it found no slot only if it may
+-- change some key; and it filled a set only if an operation of it is on a tree.
 abbrev pub IsMet : List Decl → List (List (List Op)) → Type 0 → ℕ → List Op → TryRefusal → Type 0
-IsMet decls lines dropped worker ops (InConflict met) = IsMetAt lines dropped worker ops met.key
+IsMet decls lines dropped worker ops (InConflict met) = IsMetAt lines dropped worker ops met.at
 IsMet decls lines dropped worker ops (NoSlot words) = ChangesSome ops
-IsMet decls lines dropped worker ops NoRoom = TouchesTree decls ops
-IsMet decls lines dropped worker ops NoNumber = ⊤
+IsMet decls lines dropped worker ops (NoRoom set) = TouchesTree decls ops
+IsMet decls lines dropped worker ops (NoNumber clock) = ⊤
 
 -- so it is of the tries of each line of a worker
 abbrev pub LinesMet : List Decl → List (List (List Op)) → Type 0 → ℕ → List (List Op) → List (List TryRefusal)
@@ -118,28 +120,29 @@ WorkersMet decls lines dropped worker [] (refused ∷ others) = ⊥
 WorkersMet decls lines dropped worker (mine ∷ more) [] = ⊥
 
 -- Each conflict of the round at a record of an array is with a line of another worker in it, or pages were dropped in
--- the round; each line that found no slot may change some key; and each that filled a set has an operation on a tree.
+-- the round; each on the way to a key is of a line that touches it; each line that was to be given a slot may change
+-- some key; and each that filled a set has an operation on a tree.
 pub record AreMet (decls : List Decl) (ran : Ran) (round : Round) : Type 0 where
   pub workers : WorkersMet decls (worker_lines round) (ran.beside.drops ≡ [] → ⊥) 0 (worker_lines round)
       ran.beside.refused
 
 -- ---- what is told
 
--- A line that is told in conflict met a line of another worker, or a drop, or was in conflict at a pointer, a slot or a
--- word of a tree.
+-- A line that is told in conflict met a line of another worker, or a drop, or was in conflict on the way to a key that
+-- it touches, or at a slot, which a line is given only if it may change some key.
 pub conflict_met : (decls : List Decl) (lines : List (List (List Op))) (dropped : Type 0)
     (worker first last tries : ℕ)
     (log : Option LogRefusal) (ops : List Op) (refusals : List TryRefusal) → 1 ≤ tries
     → ComesTo first last tries log Conflict refusals → AllByRecursion (IsMet decls lines dropped worker ops) refusals
-    → (met : Met) × IsMetAt lines dropped worker ops met.key
+    → (met : Met) × IsMetAt lines dropped worker ops met.at
 conflict_met decls lines dropped worker first last tries log ops [] some come all =
     absurd (let none = come.2 in omega (arith, some, none))
 conflict_met decls lines dropped worker first last tries log ops (InConflict met ∷ more) some come all = (met, all.0)
 conflict_met decls lines dropped worker first last tries log ops (NoSlot words ∷ more) some come all =
     absurd (let no = come.1.0 in cc)
-conflict_met decls lines dropped worker first last tries log ops (NoRoom ∷ more) some come all =
+conflict_met decls lines dropped worker first last tries log ops (NoRoom set ∷ more) some come all =
     absurd (let no = come.1.0 in cc)
-conflict_met decls lines dropped worker first last tries log ops (NoNumber ∷ more) some come all =
+conflict_met decls lines dropped worker first last tries log ops (NoNumber clock ∷ more) some come all =
     absurd (let no = come.1.0 in cc)
 
 -- what holds of each of these refusals and one behind them holds of that one
@@ -165,8 +168,8 @@ pub wide_touches : (decls : List Decl) (lines : List (List (List Op))) (dropped 
     → ComesTo first last tries log Wide refusals → AllByRecursion (IsMet decls lines dropped worker ops) refusals
     → TouchesTree decls ops
 wide_touches decls lines dropped worker first last tries log ops refusals come all =
-    let ends = come.1 in
-    last_of (IsMet decls lines dropped worker ops) ends.before NoRoom
+    let ends = come.2 in
+    last_of (IsMet decls lines dropped worker ops) ends.before (NoRoom come.1)
     (subst (AllByRecursion (IsMet decls lines dropped worker ops)) ends.all all)
 
 -- ---- a worker by itself
@@ -182,25 +185,32 @@ meets_nobody lines worker ops k alone m =
     let c = m.changer in
     in_none c.ops (subst (λ (l : List (List Op)). Contains l c.ops) (alone m.by c.mine m.other c.at) c.among)
 
+-- the place is no record of an array
+abbrev pub IsBesideRecords : Where → Type 0
+IsBesideRecords (AtRecord k) = ⊥
+IsBesideRecords (OnWay k) = ⊤
+IsBesideRecords AtSlot = ⊤
+
 -- the try was in conflict at no record of an array
 abbrev pub MeetsNobody : TryRefusal → Type 0
-MeetsNobody (InConflict met) = met.key ≡ None
+MeetsNobody (InConflict met) = IsBesideRecords met.at
 MeetsNobody (NoSlot words) = ⊤
-MeetsNobody NoRoom = ⊤
-MeetsNobody NoNumber = ⊤
+MeetsNobody (NoRoom set) = ⊤
+MeetsNobody (NoNumber clock) = ⊤
 
 one_alone : (decls : List Decl) (lines : List (List (List Op))) (dropped : Type 0) (worker : ℕ)
     (ops : List Op) (refusal : TryRefusal)
     → (dropped → ⊥) → IsByItself lines worker → IsMet decls lines dropped worker ops refusal → MeetsNobody refusal
-one_alone decls lines dropped worker ops (InConflict met) none alone m = by_key met.key m
+one_alone decls lines dropped worker ops (InConflict met) none alone m = by_place met.at m
   where
-    by_key : (key : Option Key) → IsMetAt lines dropped worker ops key → key ≡ None
-    by_key (Some k) (inl m) = absurd (meets_nobody lines worker ops k alone m)
-    by_key (Some k) (inr m) = absurd (none m.1)
-    by_key None m = refl
+    by_place : (at : Where) → IsMetAt lines dropped worker ops at → IsBesideRecords at
+    by_place (AtRecord k) (inl m) = absurd (meets_nobody lines worker ops k alone m)
+    by_place (AtRecord k) (inr m) = absurd (none m.1)
+    by_place (OnWay k) m = tt
+    by_place AtSlot m = tt
 one_alone decls lines dropped worker ops (NoSlot words) none alone m = tt
-one_alone decls lines dropped worker ops NoRoom none alone m = tt
-one_alone decls lines dropped worker ops NoNumber none alone m = tt
+one_alone decls lines dropped worker ops (NoRoom set) none alone m = tt
+one_alone decls lines dropped worker ops (NoNumber clock) none alone m = tt
 
 no_try_met : (decls : List Decl) (lines : List (List (List Op))) (dropped : Type 0) (worker : ℕ) (ops : List Op)
     (refusals : List TryRefusal) → (dropped → ⊥) → IsByItself lines worker
@@ -231,15 +241,16 @@ alone_met decls lines dropped worker (ops ∷ mine) (refusals ∷ more) none alo
 try_for : (decls : List Decl) (lines : List (List (List Op))) (dropped other : Type 0) (worker : ℕ)
     (ops : List Op) (refusal : TryRefusal)
     → (dropped → other) → IsMet decls lines dropped worker ops refusal → IsMet decls lines other worker ops refusal
-try_for decls lines dropped other worker ops (InConflict met) says m = by_key met.key m
+try_for decls lines dropped other worker ops (InConflict met) says m = by_place met.at m
   where
-    by_key : (key : Option Key) → IsMetAt lines dropped worker ops key → IsMetAt lines other worker ops key
-    by_key (Some k) (inl m) = inl m
-    by_key (Some k) (inr m) = inr (m.0, says m.1)
-    by_key None m = tt
+    by_place : (at : Where) → IsMetAt lines dropped worker ops at → IsMetAt lines other worker ops at
+    by_place (AtRecord k) (inl m) = inl m
+    by_place (AtRecord k) (inr m) = inr (m.0, says m.1)
+    by_place (OnWay k) m = m
+    by_place AtSlot m = m
 try_for decls lines dropped other worker ops (NoSlot words) says m = m
-try_for decls lines dropped other worker ops NoRoom says m = m
-try_for decls lines dropped other worker ops NoNumber says m = tt
+try_for decls lines dropped other worker ops (NoRoom set) says m = m
+try_for decls lines dropped other worker ops (NoNumber clock) says m = tt
 
 tries_for : (decls : List Decl) (lines : List (List (List Op))) (dropped other : Type 0) (worker : ℕ) (ops : List Op)
     (refusals : List TryRefusal) → (dropped → other) → AllByRecursion (IsMet decls lines dropped worker ops) refusals

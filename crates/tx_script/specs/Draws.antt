@@ -31,8 +31,8 @@ commit_count = sum_by (λ outcomes. length (filter is_commit outcomes))
 abbrev pub drew_by : TryRefusal → ℕ
 drew_by (InConflict met) = cond met.drew 1 0
 drew_by (NoSlot words) = 0
-drew_by NoRoom = 0
-drew_by NoNumber = 0
+drew_by (NoRoom set) = 0
+drew_by (NoNumber clock) = 0
 
 -- how many numbers were drawn for tries of a line that were refused
 abbrev pub lost_of_line : List TryRefusal → ℕ
@@ -64,8 +64,8 @@ drew_at_most_one (InConflict met) = one met.drew
     one true = omega arith
     one false = omega arith
 drew_at_most_one (NoSlot words) = omega arith
-drew_at_most_one NoRoom = omega arith
-drew_at_most_one NoNumber = omega arith
+drew_at_most_one (NoRoom set) = omega arith
+drew_at_most_one (NoNumber clock) = omega arith
 
 lost_few : (refusals : List TryRefusal) → lost_of_line refusals ≤ length refusals
 lost_few [] = omega arith
@@ -90,9 +90,9 @@ line_within first last tries log Conflict refusals come = let all = come.2 in om
 line_within first last tries log Full refusals come =
     let few = ended_few tries (NoSlot come.1) refusals come.2 in omega (arith, few)
 line_within first last tries log Wide refusals come =
-    let few = ended_few tries NoRoom refusals come.1 in omega (arith, few)
+    let few = ended_few tries (NoRoom come.1) refusals come.2 in omega (arith, few)
 line_within first last tries log Limit refusals come =
-    let few = ended_few tries NoNumber refusals come.0 in omega (arith, few)
+    let few = ended_few tries (NoNumber come.0) refusals come.1 in omega (arith, few)
 line_within first last tries log Unrun refusals come =
     let none : lost_of_line refusals ≡ 0 = ap lost_of_line come.0 in omega (arith, none)
 
@@ -164,7 +164,8 @@ of_worker_limited : (first last tries : ℕ) (log : Option LogRefusal) (outcomes
     → list_any is_limit outcomes ≡ true → draw_limit ≤ last
 of_worker_limited first last tries log [] refused come is = absurd cc
 of_worker_limited first last tries log (outcome ∷ outcomes) [] come is = absurd come
-of_worker_limited first last tries log (Limit ∷ outcomes) (refusals ∷ refused) come is = come.0.1
+of_worker_limited first last tries log (Limit ∷ outcomes) (refusals ∷ refused) come is =
+    let high = come.0.2 in let below = come.0.3 in omega (arith, high, below)
 of_worker_limited first last tries log (Committed verdict number replies ∷ outcomes) (refusals ∷ refused) come is =
     of_worker_limited first last tries log outcomes refused come.1 is
 of_worker_limited first last tries log (Conflict ∷ outcomes) (refusals ∷ refused) come is =

@@ -26,19 +26,37 @@ pub data LogRefusal : Type 0 where
   LogFailed : LogRefusal
   LogFull : ℕ → LogRefusal
 
--- Where a try was in conflict: at the record of this key of an array, where it met another transaction, or at none, but
--- at a pointer, a slot or a word of a tree; and `drew` where it had drawn its number by then.
+-- A set of a transaction: of the records and headers that it read, of its writes, of the pointers that it met, and of
+-- the slots that it holds.
+pub data FullSet : Type 0 where
+  OfReads : FullSet
+  OfWrites : FullSet
+  OfPointers : FullSet
+  OfHolds : FullSet
+
+-- Where a try was in conflict: at the record of this key of an array; at a pointer, or at a word of a tree, on the way
+-- to this key; or at the word of a slot that it was to be given.
+pub data Where : Type 0 where
+  AtRecord : Key → Where
+  OnWay : Key → Where
+  AtSlot : Where
+
+-- A conflict: where it was, and the number of the word among all that threads share; what the word was expected to be
+-- and what it was; and `drew` where the try had drawn its number by then.
 pub record Met : Type 0 where
-  pub key : Option Key
+  pub at : Where
+  pub word : ℕ
+  pub expected : ℕ
+  pub seen : ℕ
   pub drew : Bool
 
 -- Why a try of a line was refused: it was in conflict; it was to be given a slot for a page, and the slots had these
--- words, one for each; it needed more than a set has room for; or no number was left for it.
+-- words, one for each; it needed more than this set has room for; or the clock had this word, and gave it no number.
 pub data TryRefusal : Type 0 where
   InConflict : Met → TryRefusal
   NoSlot : List ℕ → TryRefusal
-  NoRoom : TryRefusal
-  NoNumber : TryRefusal
+  NoRoom : FullSet → TryRefusal
+  NoNumber : ℕ → TryRefusal
 
 -- How many pages a drop took out of memory, and how many it kept.
 pub record Dropped : Type 0 where

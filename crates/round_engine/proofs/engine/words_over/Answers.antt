@@ -26,7 +26,8 @@ unused l = record {
   opening = l.opening;
   clock = l.first;
   mine = [];
-  conflicts = 0;
+  refused = [];
+  met = [];
   marks = replicate 8 (record { epoch = Some (l.first.epoch - 1); length = 0 });
   slots = l.slots;
   pages = l.pages;

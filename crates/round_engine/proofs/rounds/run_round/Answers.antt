@@ -68,6 +68,7 @@ returns-clause-all g c =
       beside = ran.beside;
       seen = ran.seen;
       places = ran.places;
+      met = ran.met;
       sees = ran.sees;
       back = ran.back;
       keeper = subst (λ (a : List Answer). RunsKeeper g.D.Disk.tells g.D.Disk.clock g.D.Disk.image_at g.D.Disk.faults

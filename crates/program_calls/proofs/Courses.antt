@@ -233,7 +233,7 @@ module _ {D : Type 0} (v : Vaults D) (whole : IsWhole v.was)
     history = nothing_come [];
     caused = record {
       in_rounds = record { caused = tt; beside = tt; durable = tt; sequences = tt; marks = tt; tried = tt; counted = tt; met = tt; slotted = tt };
-      full = λ found told. tt;
+      full = (tt, λ found told. tt);
       files = none_over;
     };
     shown = shown;

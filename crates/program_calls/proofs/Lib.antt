@@ -30,6 +30,7 @@ pub mod Statuses
 pub mod Told
 pub mod OneState
 pub mod Listed
+pub mod LongLogs
 pub mod SnapshotsFound
 pub mod SnapshotsKept
 pub mod SnapshotsTold

@@ -196,22 +196,30 @@ module _ {D : Type 0} {tells : D → Option Bytes} {clock : D → ℕ} {image_at
       → ((device : Device) (n : ℕ) → refusal ≡ errors.Fault (recovers.Damaged device n) → (found : Images) → AreTold tells (parts_of was) found → IsDamagedIn found device n)
       → ((device : Device) → refusal ≡ errors.Fault (recovers.Device device) → RoseIn faults device was is)
       → ((device : Device) → refusal ≡ errors.Fault (recovers.Device device) → (found : Images) → AreTold tells (parts_of was) found → IsReadBefore found device)
+      → (((device : Device) → refusal ≡ errors.Fault (recovers.Device device) → ⊥) → AreQuiet faults was is)
       → EndsBefore tells clock image_at faults snap script was is (ending_of_refusal refusal)
-  recovery_refused reads_told (errors.Fault (recovers.Device device)) whole reads damaged rose before =
+  recovery_refused reads_told (errors.Fault (recovers.Device device)) whole reads damaged rose before spared =
       read_only reads_told nowhere (NoDevice device) whole reads (
         rose device refl,
         inr (refl, inl ((λ found told. told_read reads whole told), before device refl)),
       )
-  recovery_refused reads_told (errors.Fault (recovers.Damaged device n)) whole reads damaged rose before =
-      read_only reads_told nowhere (Damaged device n) whole reads (inl (refl, (λ found told. told_read reads whole told), damaged device n refl))
-  recovery_refused reads_told errors.Memory whole reads damaged rose before = read_only reads_told nowhere NoMemory whole reads (inl (tt, inl refl))
+  recovery_refused reads_told (errors.Fault (recovers.Damaged device n)) whole reads damaged rose before spared =
+      read_only reads_told nowhere (Damaged device n) whole reads (inl (
+        refl,
+        (λ found told. told_read reads whole told),
+        damaged device n refl,
+        spared (λ other is. let no = is in cc),
+      ))
+  recovery_refused reads_told errors.Memory whole reads damaged rose before spared =
+      read_only reads_told nowhere NoMemory whole reads (inl (tt, inl refl, spared (λ other is. let no = is in cc)))
 
   -- other storages were declared
   pub shape_refused : (reads_told : (disk : D) (file : Bytes) → tells disk ≡ Some file → image_at disk (clock disk) file)
       {snap : ℕ} {script : Script} {was is : Vault D} (r : Recovered) (ending : Ending) → IsWhole was → VaultOnlyReads tells clock image_at faults was is
+      → AreQuiet faults was is
       → ((found : Images) → AreTold tells (parts_of was) found → Recovers found r) → IsUp r → IsOtherShape script.decls r ending
       → EndsBefore tells clock image_at faults snap script was is ending
-  shape_refused reads_told {snap = snap} {script = script} {was = was} {is = is} r ending whole reads recovered up shape = by_ending ending shape.other
+  shape_refused reads_told {snap = snap} {script = script} {was = was} {is = is} r ending whole reads quiet recovered up shape = by_ending ending shape.other
     where
       by_ending : (e : Ending) → AreOther script.decls r.decls e → EndsBefore tells clock image_at faults snap script was is e
       by_ending (Shape declared kept) other =
@@ -226,8 +234,9 @@ module _ {D : Type 0} {tells : D → Option Bytes} {clock : D → ℕ} {image_at
                   let it = recovered found told in
                   record { reading = it.reading; is = it.is; saved = some_point found r it up.saved shape.saved; kept_are = other.3 ∙ it.decls };
             },
+            quiet,
           )
-      by_ending NoMemory other = read_only reads_told nowhere NoMemory whole reads (inl (tt, inl refl))
+      by_ending NoMemory other = read_only reads_told nowhere NoMemory whole reads (inl (tt, inl refl, quiet))
       by_ending Finished other = absurd other
       by_ending (NoScript fault) other = absurd other
       by_ending Usage other = absurd other
@@ -313,6 +322,13 @@ stops_so : {D : Type 0} {tells : D → Option Bytes} {clock : D → ℕ} {image_
 stops_so {between = between} {r = r} decls read is opening leaves rests =
     stops_settled between r decls opening read.recovers (settling_left read is leaves) rests
 
+-- the counts of devices that are as they were since stand still
+still_quiet : {D : Type 0} {tells : D → Option Bytes} {clock : D → ℕ} {image_at : D → ℕ → Bytes → Type 0}
+    {faults : D → ℕ} {decls : List Decl} {was between : Vault D} {r : Recovered}
+    → IsRead tells clock image_at faults decls was between r → (is : Vault D) → AreSame between is → AreQuiet faults was is
+still_quiet {faults = faults} {was = was} {between = between} read is same =
+    quiet_two was between is read.whole_was read.whole read.quiet (quiet_same same faults)
+
 module _ {D : Type 0} {tells : D → Option Bytes} {clock : D → ℕ} {image_at : D → ℕ → Bytes → Type 0} {faults : D → ℕ} {snap : ℕ} {script : Script} {was between : Vault D} {r : Recovered}
     (read : IsRead tells clock image_at faults script.decls was between r) where
   -- the devices are as they were
@@ -340,10 +356,11 @@ module _ {D : Type 0} {tells : D → Option Bytes} {clock : D → ℕ} {image_at
   pub settle_at_limit : (is : Vault D) (name : LimitName) → SettlingLeaves tells clock image_at between r is → IsBefore name → AreSame between is
       → ((found : Images) → AreTold tells (parts_of was) found → StandsAtLimit snap script.decls name found)
       → EndsBefore tells clock image_at faults snap script was is (AtLimit name)
-  settle_at_limit is name leaves before same at = untouched_before is nowhere (AtLimit name) leaves same (not_alone 7 (omega arith) (λ six. omega arith)) (inr (refl, before, (λ found told. told_same same tells found (read.told found told)), at))
+  settle_at_limit is name leaves before same at = untouched_before is nowhere (AtLimit name) leaves same (not_alone 7 (omega arith) (λ six. omega arith)) (inr (refl, before, (λ found told. told_same same tells found (read.told found told)), at, still_quiet read is same))
 
   pub settle_memory : (is : Vault D) → SettlingLeaves tells clock image_at between r is → AreSame between is → EndsBefore tells clock image_at faults snap script was is NoMemory
-  settle_memory is leaves same = untouched_before is nowhere NoMemory leaves same (not_alone 8 (omega arith) (λ six. omega arith)) (inl (tt, inl refl))
+  settle_memory is leaves same = untouched_before is nowhere NoMemory leaves same (not_alone 8 (omega arith) (λ six. omega arith))
+      (inl (tt, inl refl, still_quiet read is same))
 
   pub settle_device : (is : Vault D) (device : Device) → SettlingLeaves tells clock image_at between r is → RoseIn faults device between is
       → IfSome r.saved (IsWithin r snap) → (IsStoreDue r → sequence_of r.save.newest ≡ last_sequence → ⊥)
@@ -387,10 +404,11 @@ module _ {D : Type 0} {tells : D → Option Bytes} {clock : D → ℕ} {image_at
 
   -- settling was done, and then memory was wanted
   pub settled_memory : (is : Vault D) (settled : Settled) → SettlingLeaves tells clock image_at between r is → SettlesInto tells clock image_at r script.decls between is settled
-      → KeptSnapshots r settled → EndsBefore tells clock image_at faults snap script was is NoMemory
-  settled_memory is settled leaves settles keeps = record {
+      → KeptSnapshots r settled → AreQuiet faults between is
+      → EndsBefore tells clock image_at faults snap script was is NoMemory
+  settled_memory is settled leaves settles keeps quiet = record {
     opening = nowhere;
-    comes = inl (tt, inl refl);
+    comes = inl (tt, inl refl, quiet_two was between is read.whole_was read.whole read.quiet quiet);
     kept = record {
       stands = λ sound found now epoch state told told_now that.
           let recovered = read.recovers found told in

@@ -29,7 +29,7 @@ use Rattle.round_engine.specs.Saves.{newest_after}
 use Rattle.round_engine.specs.Standing.{RuntimeState}
 use Rattle.round_engine.specs.declared.report.Report.{Report}
 use Rattle.program_calls.specs.Ending.{RunGoesOn}
-use Rattle.program_calls.specs.RoundCauses.{AllMet, AreFull, AreMarked, FilesFound, IsMarked, SequencesFrom, saved_in}
+use Rattle.program_calls.specs.RoundCauses.{AllMet, AreFull, AreMarked, IsMarked, IsUndamaged, SequencesFrom, saved_in}
 use Rattle.program_calls.specs.EndLaws.{cause_cases, goes_on_room, goes_on_undamaged}
 use Rattle.program_calls.proofs.KeptFiles.{item_at}
 use Rattle.program_calls.proofs.KeptRounds.{unfailed}
@@ -107,14 +107,18 @@ marked round old new report one begins eight joined = record {
 pub saved_many : (ran : Ran) (stored : List Saved) → map (λ (s : Saved). s.epoch) stored ≡ saved_in ran → length stored ≡ length (saved_in ran)
 saved_many ran stored epochs = sym (length-map stored (λ (s : Saved). s.epoch)) ∙ ap length epochs
 
--- a round that goes on had no full log, and found none damaged
+-- a round that goes on had no full log
 none_full : (decls : List Decl) (s : State) (ordered : List Entry) (ran : Ran) → RunGoesOn ran → AreFull decls s ordered ran
 none_full decls s ordered ran on worker size below at = absurd (goes_on_room ran worker size on at)
 
 pub all_none_full : (decls : List Decl) (s : State) (ordered : List Entry) (rans : List Ran) → AllByRecursion RunGoesOn rans
-    → AllByRecursion (FilesFound decls s ordered) rans
-all_none_full decls s ordered rans on = all_weaker RunGoesOn (FilesFound decls s ordered)
-    (λ ran goes. record { full = none_full decls s ordered ran goes; undamaged = goes_on_undamaged ran goes }) rans on
+    → AllByRecursion (AreFull decls s ordered) rans
+all_none_full decls s ordered rans on = all_weaker RunGoesOn (AreFull decls s ordered)
+    (λ ran goes. none_full decls s ordered ran goes) rans on
+
+-- and found none damaged
+pub all_undamaged : (rans : List Ran) → AllByRecursion RunGoesOn rans → AllByRecursion IsUndamaged rans
+all_undamaged rans on = all_weaker RunGoesOn IsUndamaged (λ ran goes. goes_on_undamaged ran goes) rans on
 
 -- what is no damage is none
 pub none_damaged : {X : Type 0} (found : Option X) → ((x : X) → found ≡ Some x → ⊥) → found ≡ None

@@ -29,8 +29,8 @@ use Rattle.round_engine.specs.declared.report.Report.{Report}
 use Rattle.program_calls.specs.Beginning.{Opening, SameDecls}
 use Rattle.program_calls.specs.declared.ending.Ending.{Ending}
 use Rattle.program_calls.specs.declared.ending.Ending.TheVariants.{Finished, NoMemory}
-use Rattle.program_calls.specs.Ending.{RunGoesOn, RanOn, RunComes, status_of}
-use Rattle.program_calls.specs.RoundCauses.{FilesFound, IsDurable}
+use Rattle.program_calls.specs.Ending.{RunGoesOn, RanOn, RunComes, devices_in, status_of}
+use Rattle.program_calls.specs.RoundCauses.{AreFull, IsDurable, IsUndamaged}
 use Rattle.program_calls.specs.RunKept.{HasDeclared, HasEachSnapshot, IsSound, StandsThrough, last_saved}
 use Rattle.program_calls.specs.RunKept.{StandsThroughReads, StandsWhenStopped}
 use Rattle.program_calls.specs.Snapshots.{EachSnapshot, HasContent}
@@ -44,12 +44,12 @@ use Rattle.program_calls.proofs.CrashesKept.{CrashesKept, crash_covered, crash_l
 use Rattle.program_calls.proofs.CrashesRead.{crashes_read}
 use Rattle.program_calls.proofs.KeptAll.{IsLasting, kept_all}
 use Rattle.program_calls.proofs.KeptEnd.{StandsBehind, kept_at_end}
-use Rattle.program_calls.proofs.SameVault.{crashes_room, parts_room, whole_room}
+use Rattle.program_calls.proofs.SameVault.{crashes_room, parts_room, quiet_room, whole_room}
 use Rattle.program_calls.proofs.SnapshotsKept.{each_told}
 use Rattle.program_calls.proofs.KeptThrough.{one_kept, storages_kept}
 use Rattle.program_calls.proofs.SameRun.{as_of_same}
-use Rattle.program_calls.proofs.VaultsLater.{devices_in-push, failed_none, none_failed_in}
-use Rattle.program_calls.proofs.OneRound.{all_none_full, none_damaged}
+use Rattle.program_calls.proofs.VaultsLater.{devices_in-push, failed_none, none_failed_in, quiet_failed, quiet_two}
+use Rattle.program_calls.proofs.OneRound.{all_none_full, all_undamaged, none_damaged}
 use Rattle.program_calls.proofs.SoFar.{BeginsAt, CrashesBehind, at_now, RanSoFar, RanOneMore, one_more, no_run}
 use Rattle.std.proofs.lemmas.List.{length-take, length-map}
 use Rattle.std.proofs.Math.Seq.{take-length}
@@ -287,12 +287,12 @@ module _ {D : Type 0} (tells : D → Option Bytes) (clock : D → ℕ) (image_at
         run = m.run;
         comes = comes;
         caused = m.caused;
-        full = λ found told.
-            all_push (FilesFound script.decls so.opening.state m.run.ordered) so.rans ran
-            (all_none_full script.decls so.opening.state m.run.ordered so.rans so.went_on) (record {
-              full = m.full found told;
-              undamaged = none_damaged ran.beside.damaged (λ damage is. m.untold damage is found told);
-            });
+        full = (
+          all_push (AreFull script.decls so.opening.state m.run.ordered) so.rans ran
+              (all_none_full script.decls so.opening.state m.run.ordered so.rans so.went_on) m.full,
+          λ found told. all_push IsUndamaged so.rans ran (all_undamaged so.rans so.went_on)
+              (none_damaged ran.beside.damaged (λ damage is. m.untold damage is found told)),
+        );
         history = m.history;
         files = m.files (λ quiet some.
             let up = unbroken_up quiet in
@@ -376,7 +376,14 @@ module _ {D : Type 0} (tells : D → Option Bytes) (clock : D → ℕ) (image_at
       (so : RanSoFar tells clock image_at faults snap slots tries script was r count before) (ran : Ran)
       → (m : RanOneMore tells clock image_at faults snap slots tries script was s now so.opening so.rans ran) → (end : Option End) → end_of ran ≡ end
       → RunComes (at_now tells clock image_at faults snap slots tries script was now) snap script so.opening (so.rans ++ ran ∷ []) (ending_after end)
-  comes_after r s count before now so ran m None is = inl (all_push RunGoesOn so.rans ran so.went_on is, inr so.begins)
+  comes_after r s count before now so ran m None is =
+      let on = all_push RunGoesOn so.rans ran so.went_on is in
+      inl (
+        on,
+        inr so.begins,
+        quiet_failed (devices_in (so.rans ++ ran ∷ [])) (none_failed_in (so.rans ++ ran ∷ []) on)
+            (ran_on r s count before now so ran m).failed,
+      )
   comes_after r s count before now so ran m (Some e) is = comes_at r s count before now so ran m e is (end_tells ran e m.own m.most is)
 
   after_not_finished : (end : Option End) → ending_after end ≡ Finished → ⊥
@@ -427,7 +434,10 @@ module _ {D : Type 0} (tells : D → Option Bytes) (clock : D → ℕ) (image_at
           record { whole = so.counted ∙ all; went_on = so.went_on },
         );
         caused = so.caused;
-        full = λ found told. all_none_full script.decls so.opening.state so.run.ordered so.rans so.went_on;
+        full = (
+          all_none_full script.decls so.opening.state so.run.ordered so.rans so.went_on,
+          λ found told. all_undamaged so.rans so.went_on,
+        );
         history = (r.stands.decls, so.same, (r.stands.mine, so.history));
         files = runs_over r count now now so (pages_behind so.opening so.rans so.run.ordered r.stands.decls now
             (words_of r.store.pages) (count_of r.save.newest) keeps (λ durable found told.
@@ -471,9 +481,17 @@ module _ {D : Type 0} (tells : D → Option Bytes) (clock : D → ℕ) (image_at
         opening = so.opening;
         state = r.stands.state;
         run = so.run;
-        comes = inl (so.went_on, inr so.begins);
+        comes = inl (
+          so.went_on,
+          inr so.begins,
+          quiet_two was before now so.whole so.stands.whole so.quiet
+              (quiet_room room faults),
+        );
         caused = so.caused;
-        full = λ found told. all_none_full script.decls so.opening.state so.run.ordered so.rans so.went_on;
+        full = (
+          all_none_full script.decls so.opening.state so.run.ordered so.rans so.went_on,
+          λ found told. all_undamaged so.rans so.went_on,
+        );
         history = (r.stands.decls, so.same, (r.stands.mine, so.history));
         files = runs_over r count before now so (pages_behind so.opening so.rans so.run.ordered r.stands.decls now
             (words_of r.store.pages) (count_of r.save.newest) keeps (λ durable found told.
@@ -523,7 +541,7 @@ module _ {D : Type 0} (tells : D → Option Bytes) (clock : D → ℕ) (image_at
     run = no_run tells clock image_at faults snap slots tries script was before.opening;
     comes = before.comes;
     caused = record { caused = tt; beside = tt; durable = tt; sequences = tt; marks = tt; tried = tt; counted = tt; met = tt; slotted = tt };
-    full = λ found told. tt;
+    full = (tt, λ found told. tt);
     history = nothing_come script.decls;
     files = none_over;
     kept = before.kept;

@@ -1,12 +1,15 @@
 -- A vault with more room for records is the same vault.
-use Rattle.std.proofs.Common.{◌≡◌, ◌∙◌, ap, sym, subst, ℕ, List, length}
+use Rattle.std.proofs.Common.{◌≡◌, ◌∙◌, Some, ap, sym, subst, ℕ, List, length}
 use Rattle.std.specs.Prelude.{◌/◌, ◌%◌, ◌==◌, if◌then◌else◌, slice_get}
 use mathlib.Core.Path.{fun_ext}
+use Rattle.std.proofs.lemmas.Option.{same_Some}
 use Rattle.log_writer.specs.Vault.{IsWhole, disk_in}
-use Rattle.outside.specs.declared.device.Device.TheVariants.{Bank}
+use Rattle.outside.specs.declared.device.Device.{Device}
+use Rattle.outside.specs.declared.device.Device.TheVariants.{Save, Snaps, Bank}
 use Rattle.log_writer.specs.declared.records.Tie.{Tie}
 use Rattle.log_writer.specs.declared.vault.Vault.{Vault}
 use Rattle.joint_crashes.specs.JointCrash.{Moments, Parts, parts_of}
+use Rattle.joint_crashes.specs.VaultReads.{AreQuiet}
 use Rattle.recovery_core.specs.Recoverable.{Reading}
 use Rattle.serial_model.specs.History.{Entry}
 use Rattle.serial_model.specs.State.{State}
@@ -25,6 +28,17 @@ module _ {D : Type 0} {before now : Vault D} (room : RoomAlone before now) where
   same_bank n =
       ap (λ v. slice_get (if n % 2 == 0 then v.items else now.odd.items) (n / 2)) room.even
       ∙ ap (λ v. slice_get (if n % 2 == 0 then before.even.items else v.items) (n / 2)) room.odd
+
+  -- so is each device
+  same_disk : (device : Device) → disk_in now device ≡ disk_in before device
+  same_disk Save = ap Some room.save
+  same_disk Snaps = ap Some room.snaps
+  same_disk (Bank n) = same_bank n
+
+  -- and its count of faults stands still
+  pub quiet_room : (faults : D → ℕ) → AreQuiet faults before now
+  quiet_room faults device was is at here =
+      ap faults (same_Some is was (sym here ∙ same_disk device ∙ at))
 
   -- the vault is whole as before
   pub whole_room : IsWhole before → IsWhole now

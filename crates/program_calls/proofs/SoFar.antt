@@ -65,7 +65,7 @@ use Rattle.program_calls.proofs.KeptOver.{made_pages, never_damaged, over_push, 
 use Rattle.program_calls.proofs.KeptOver.{tells_round}
 use Rattle.program_calls.proofs.KeptRounds.{KeptSoFar, advances_later, kept_begins, kept_more, save_up}
 use Rattle.program_calls.proofs.RoundCommits.{of_round}
-use Rattle.program_calls.proofs.SinceSwap.{full_in}
+use Rattle.program_calls.proofs.LongLogs.{LongSoFar, fresh_end, long_begins, long_full, long_more}
 use Rattle.program_calls.proofs.CrashesBegun.{crashes_begin}
 use Rattle.program_calls.proofs.CrashesKept.{CrashesKept, KeptBefore}
 use Rattle.program_calls.proofs.CrashesMore.{crashes_more, ready_more}
@@ -178,6 +178,7 @@ module _ {D : Type 0} (tells : D → Option Bytes) (clock : D → ℕ) (image_at
     pub kept : KeepsAt opening rans run.ordered r now
     pub crashes : CrashesAt r.stands.decls opening rans run.ordered r now kept
     pub over : OverSoFar r.stands.decls opening rans run.ordered r now kept
+    pub long : LongSoFar r.stands.decls opening.state run.ordered r
     pub paged : (found : Images) → AreTold tells (parts_of was) found → count_of r.save.newest ≡ length r.store.pages
     pub history : ComeFrom r.stands.decls (printed_commits 0 rans script.rounds) r.stands.mine
     pub slotted : IsSlotted r rans
@@ -212,7 +213,8 @@ module _ {D : Type 0} (tells : D → Option Bytes) (clock : D → ℕ) (image_at
     pub least : (found : Images) → AreTold tells (parts_of was) found
         → (ran.beside.pages ≤ count_of r.save.newest) × (ran.beside.pages ≤ length r.store.pages)
     pub untold : (damage : Device × ℕ) → ran.beside.damaged ≡ Some damage → (found : Images) → AreTold tells (parts_of was) found → ⊥
-    pub full : (found : Images) → AreTold tells (parts_of was) found → AreFull script.decls opening.state run.ordered ran
+    pub full : AreFull script.decls opening.state run.ordered ran
+    pub long : ran.printed.end.epoch ≤ r.stands.clock.epoch → LongSoFar r.stands.decls opening.state run.ordered r
     pub history : ComeFromWords script.decls (printed_commits 0 (before ++ ran ∷ []) script.rounds)
     pub on_words : ComeFrom r.stands.decls (printed_commits 0 (before ++ ran ∷ []) script.rounds) r.stands.mine
     pub slotted : IsSlotted r (before ++ ran ∷ [])
@@ -441,8 +443,11 @@ module _ {D : Type 0} (tells : D → Option Bytes) (clock : D → ℕ) (image_at
             let more = ap length leaves.grows.1 ∙ length-append r.store.pages leaves.grows.0 in
             (omega (arith, one.begins.pages, counted), omega (arith, one.begins.pages, more));
         untold = λ damage is found told. never_damaged (so.kept found told) so.stands refl state_is so.unended one leaves (length so.rans) rises falls damage is;
-        full = λ found told. subst (λ l. AreFull script.decls so.opening.state l one.ran) (sym all)
-            (full_in script.decls so.same (so.kept found told) so.stands refl state_is so.unended one leaves (length so.rans));
+        full = subst (λ l. AreFull script.decls so.opening.state l one.ran) (sym all)
+            (long_full so.long so.stands refl state_is one leaves (length so.rans) script.decls so.same);
+        long = λ later. subst (λ l. LongSoFar s.stands.decls so.opening.state l s) (sym all)
+            (subst (λ ds. LongSoFar ds so.opening.state (so.run.ordered ++ own.ordered) s) (sym one.lines.decls)
+            (long_more so.long so.stands refl state_is one leaves (length so.rans) later));
         history = (s.stands.decls, same, (s.stands.mine, on_words));
         on_words = on_words;
         slotted = slotted;
@@ -504,6 +509,8 @@ module _ {D : Type 0} (tells : D → Option Bytes) (clock : D → ℕ) (image_at
           whole = b.whole;
           quiet = b.quiet;
           kept = λ found told. (kept found told).0;
+          long = long_begins settled.decls settled.state start
+              (λ w log below at. fresh_end 8 w (start.closed_at) log at);
           paged = λ found told. settled_pages b.settles;
           history = none_come settled.decls;
           slotted = (subst (λ (x : RuntimeState). x.stands.slots ≡ slots) b.begins b.slots_are, tt);
@@ -594,6 +601,7 @@ module _ {D : Type 0} (tells : D → Option Bytes) (clock : D → ℕ) (image_at
           kept = next.0;
           crashes = next.2;
           over = next.1;
+          long = m.long (omega (arith, joined_to));
           paged = m.paged (ap is_some (one.lasts none)) (m.up_quiet (goes_on_quiet one.ran goes)) sound;
           history = m.on_words;
           slotted = m.slotted;

@@ -30,7 +30,7 @@ use Rattle.joint_crashes.specs.VaultReads.{RoseIn}
 use Rattle.program_calls.specs.Beginning.{HasOtherShape, IsBefore, MayBegin, Opening, StandsAtLimit}
 use Rattle.database_files.specs.Names.{device_name}
 use Rattle.program_calls.specs.Devices.{device_text}
-use Rattle.program_calls.specs.Vaults.{HoldsOf, IsUntouched, TellsTheSame, Vaults}
+use Rattle.program_calls.specs.Vaults.{CountsStandStill, HoldsOf, IsUntouched, TellsTheSame, Vaults}
 use Rattle.program_calls.specs.declared.ending.Ending.{Ending}
 use Rattle.program_calls.specs.declared.ending.Ending.TheVariants.{Finished, NoScript, Shape, Usage, ReadFault}
 use Rattle.program_calls.specs.declared.ending.Ending.TheVariants.{NoDevice}
@@ -203,7 +203,9 @@ pub record RunsToMemory {D : Type 0} (v : Vaults D) (snap : ℕ) (script : Scrip
 
 -- When a run may end so, by its script and what was run of it. What is told before the first round comes in this order:
 -- a device that failed, damage, other storages, limits; so each of these, and each round, has what was told before it
--- out of its way. Memory may be wanted at any time.
+-- out of its way. Memory may be wanted at any time. Where no round ended the run, the count of faults of each device
+-- stands still, unless the ending tells a device: so no fault passes for want of memory, for damage, for other storages
+-- or for a limit.
 abbrev pub RunComes : {D : Type 0} → Vaults D → ℕ → Script → Opening → List Ran → Ending → Type 0
 RunComes v snap script opening rans Finished = RanOn v snap script opening rans × RanAll script rans
 RunComes v snap script opening rans (NoDevice device) = RoseIn v.faults device v.was v.is
@@ -211,14 +213,15 @@ RunComes v snap script opening rans (NoDevice device) = RoseIn v.faults device v
     ⊎ ((rans ≡ []) × ((TellsTheSame v × HoldsOf v (λ found. IsReadBefore found device))
     ⊎ BeginsOn v snap script opening)))
 RunComes v snap script opening rans (Damaged device at) =
-    ((rans ≡ []) × TellsTheSame v × HoldsOf v (λ found. IsDamagedIn found device at))
+    ((rans ≡ []) × TellsTheSame v × HoldsOf v (λ found. IsDamagedIn found device at) × CountsStandStill v)
     ⊎ RunsToDamage v snap script opening rans device at
 RunComes v snap script opening rans (Shape declared kept) =
-    (rans ≡ []) × TellsTheSame v × HasOtherShape v script.decls declared kept
+    (rans ≡ []) × TellsTheSame v × HasOtherShape v script.decls declared kept × CountsStandStill v
 RunComes v snap script opening rans (AtLimit name) = RunsToLimit v snap script opening rans name
-    ⊎ ((rans ≡ []) × IsBefore name × TellsTheSame v × HoldsOf v (StandsAtLimit snap script.decls name))
+    ⊎ ((rans ≡ []) × IsBefore name × TellsTheSame v × HoldsOf v (StandsAtLimit snap script.decls name)
+    × CountsStandStill v)
 RunComes v snap script opening rans NoMemory =
-    (AllByRecursion RunGoesOn rans × ((rans ≡ []) ⊎ BeginsOn v snap script opening))
+    (AllByRecursion RunGoesOn rans × ((rans ≡ []) ⊎ BeginsOn v snap script opening) × CountsStandStill v)
     ⊎ RunsToMemory v snap script opening rans
 RunComes v snap script opening rans _ = ⊥
 

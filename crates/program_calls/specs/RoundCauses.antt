@@ -101,26 +101,27 @@ abbrev pub is_since : ℕ → Commit → Bool
 is_since epoch c = nat_lt epoch c.number.epoch
 
 -- A log file that was told full in a round: the lines that its worker logged in the run, since the closed log files
--- were closed, are so many bytes.
+-- were closed, are so many bytes. No device has to tell its own for that.
 abbrev pub AreFull : List Decl → State → List Entry → Ran → Type 0
 AreFull decls s commits ran = (worker size : ℕ) → worker < 8
     → slice_get ran.beside.logs worker ≡ Some (Some (LogFull size)) → (storages : List Decl) × SameDecls decls storages
     × (logged : List Commit) × AreLogged storages worker s commits logged
     × (size ≡ length (lines_bytes (filter (is_since ran.beside.files.closed_at) logged)))
 
--- What a round tells of its log files: one that it told full is, and none was found damaged.
-pub record FilesFound (decls : List Decl) (s : State) (commits : List Entry) (ran : Ran) : Type 0 where
-  pub full : AreFull decls s commits ran
-  pub undamaged : ran.beside.damaged ≡ None
+-- no closed log file was found damaged
+abbrev pub IsUndamaged : Ran → Type 0
+IsUndamaged ran = ran.beside.damaged ≡ None
 
--- So it is in the rounds of a course, where the devices told what they had.
+-- Each log file that the rounds of a course told full is so long, also where the devices tell nothing. Where they told
+-- what they had, no log file was found damaged.
 abbrev pub FilesAreFull : {D : Type 0} (v : Vaults D) (decls : List Decl) (commits : List Entry) (opening : Opening)
     (rans : List Ran) → Type 0
-FilesAreFull v decls commits opening rans =
-    HoldsOf v (λ found. AllByRecursion (FilesFound decls opening.state commits) rans)
+FilesAreFull v decls commits opening rans = AllByRecursion (AreFull decls opening.state commits) rans
+    × HoldsOf v (λ found. AllByRecursion IsUndamaged rans)
 
--- What came of the rounds has its cause, a log file that was told full is so long and none was found damaged, and the
--- log files and pages that the rounds were over are those that their swaps and gleans left.
+-- What came of the rounds has its cause, a log file that was told full is so long, none was found damaged where the
+-- devices told what they had, and the log files and pages that the rounds were over are those that their swaps and
+-- gleans left.
 pub record AreCaused {D : Type 0} (v : Vaults D) (room slots tries : ℕ) (decls : List Decl) (rounds : List Round)
     (commits : List Entry) (opening : Opening) (rans : List Ran) : Type 0 where
   pub in_rounds : AreRoundsCaused slots tries decls rounds opening rans

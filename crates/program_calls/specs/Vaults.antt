@@ -5,7 +5,7 @@ use Rattle.log_writer.specs.declared.vault.Vault.{Vault}
 use Rattle.joint_crashes.specs.Images.{Images}
 use Rattle.joint_crashes.specs.JointCrash.{parts_of}
 use Rattle.joint_crashes.specs.Resting.{AreTold}
-use Rattle.joint_crashes.specs.VaultReads.{RoseIn}
+use Rattle.joint_crashes.specs.VaultReads.{AreQuiet, RoseIn}
 use Rattle.script_grammar.specs.Script.{Bytes}
 
 -- What a device tells of its bytes, of its clock and its crash images at each moment, and its count of faults; the
@@ -35,6 +35,10 @@ HoldsOf v P = (found : Images) → AreTold v.tells (parts_of v.was) found → P 
 -- the devices tell what they told as the call began
 abbrev pub TellsTheSame : {D : Type 0} → Vaults D → Type 0
 TellsTheSame v = HoldsOf v (AreTold v.tells (parts_of v.is))
+
+-- the count of faults of each device stands still
+abbrev pub CountsStandStill : {D : Type 0} → Vaults D → Type 0
+CountsStandStill v = AreQuiet v.faults v.was v.is
 
 -- no device failed: no count rose, or stands at its last value
 abbrev pub NoneFailed : {D : Type 0} → Vaults D → Type 0

@@ -332,6 +332,7 @@ module _ {D : Type 0} {tells : D → Option (List ℕ)} {clock : D → ℕ} {ima
         let marked = all_at (λ (l : LogState). IsMarkBefore old.stands.clock.epoch l.mark.epoch) old.logs w was stands.marked at_was in
         record {
           leaves = λ commits durable is. join_leaves marked made.goes commits durable is;
+          longer = omega (arith, made.end);
           first = tt;
           blames = made.blames;
           reaches = made.reaches;

@@ -119,6 +119,7 @@ module _ {D : Type 0} {tells : D → Option (List ℕ)} {clock : D → ℕ} {ima
       → JoinsLog tells clock image_at faults e was log bank_was bank
   moves_join {e = e} {was = was} {log = log} {bank_was = bank_was} {bank = bank} fault up moves = record {
     goes = subst (λ n. LogGoesOn tells clock image_at n was log bank_was bank) (back e) moves.runs;
+    end = moves.end;
     mark = moves.mark;
     blames = blames_move fault (blames_none bank_was was.journal up.up) moves;
     reaches = moves.reaches;
@@ -132,6 +133,7 @@ module _ {D : Type 0} {tells : D → Option (List ℕ)} {clock : D → ℕ} {ima
       subst (λ l. JoinsLog tells clock image_at faults e was l bank_was bank) (sym same)
       (subst (λ b. JoinsLog tells clock image_at faults e was was bank_was b) (sym bank_same) (record {
         goes = goes_none e was bank_was;
+        end = refl;
         mark = inl refl;
         blames = blames_none bank_was was.journal up.up;
         reaches = up.reaches;

@@ -8,13 +8,15 @@ use Rattle.lists.specs.Each.{all_at}
 use Rattle.lists.specs.Fronts.{IsFront}
 use Rattle.log_writer.specs.declared.vault.Vault.{Vault}
 use Rattle.serial_model.specs.declared.number.Commit.{Commit}
+use Rattle.serial_model.specs.declared.op.Op.{Op}
+use Rattle.wire_form.specs.LogFile.{lines_bytes}
 use Rattle.script_grammar.specs.Script.{Round, lines_of_worker}
-use Rattle.log_writer.specs.Journal.{Reaches}
+use Rattle.log_writer.specs.Journal.{Reaches, end_of}
 use Rattle.worker_logs.specs.Logs.{IsJoined, LogGoesOn, LogState, log_limit}
 use Rattle.worker_logs.specs.Rows.{AreLogsUp, Blames, KeepsMarkIn}
 use Rattle.worker_logs.specs.Shown.{LogShows, Stood}
 use Rattle.shared_rounds.specs.Shares.{shown_epochs}
-use Rattle.round_engine.specs.Logs.{IsFirstAt}
+use Rattle.round_engine.specs.Logs.{IsFirstAt, IsLongerBy}
 use Rattle.round_engine.specs.Shares.{Share, logged_in}
 use Rattle.round_engine.specs.Sides.{growing_in}
 use Rattle.round_engine.specs.Standing.{AreUp, RuntimeState, Standing, StandsOn}
@@ -74,6 +76,7 @@ module _ {D : Type 0} (tells : D → Option (List ℕ)) (clock : D → ℕ) (ima
   pub record LinesAt (low high : ℕ) (logged : List Commit) (shown : List Stood) (old new : LogState) (before now : D)
       : Type 0 where
     pub shows : LogShows tells clock image_at low high logged shown old new before now
+    pub longer : IsLongerBy logged old new
     pub first : IsFirstAt (clock before) shown
     pub mark : KeepsMarkIn low high old new
     pub blames : Blames faults before now new.journal
@@ -87,8 +90,14 @@ module _ {D : Type 0} (tells : D → Option (List ℕ)) (clock : D → ℕ) (ima
     pub later : begin ≤ epoch + 1
     pub most : end ≤ epoch + 1
     pub goes : LogGoesOn tells clock image_at epoch lines log between now
+    pub stays : end_of log.journal ≡ end_of lines.journal
     pub blames : (first : D) → Blames faults first between lines.journal → Blames faults first now log.journal
     pub reaches : Reaches tells between lines.journal → Reaches tells now log.journal
+
+-- a worker without a line has the log file that it had
+idled_end : (lines : List (List Op)) (log : LogState) → end_of (idled lines log).journal ≡ end_of log.journal
+idled_end [] log = refl
+idled_end (ops ∷ lines) log = refl
 
 module _ {D : Type 0} {tells : D → Option (List ℕ)} {clock : D → ℕ} {image_at : D → ℕ → List ℕ → Type 0}
     {faults : D → ℕ} where
@@ -113,6 +122,7 @@ module _ {D : Type 0} {tells : D → Option (List ℕ)} {clock : D → ℕ} {ima
       (sym (shown_some shares w p.0 p.1))
       (record {
         shows = left.shows;
+        longer = left.longer;
         first = left.first;
         mark = left.mark;
         blames = left.blames;
@@ -127,6 +137,7 @@ module _ {D : Type 0} {tells : D → Option (List ℕ)} {clock : D → ℕ} {ima
     later = omega (arith, rises);
     most = omega arith;
     goes = goes_none end log bank;
+    stays = refl;
     blames = λ first blames. blames;
     reaches = λ reaches. reaches;
   }
@@ -169,6 +180,9 @@ module _ {D : Type 0} {tells : D → Option (List ℕ)} {clock : D → ℕ} {ima
                   (subst (λ x. LogShows tells clock image_at s.clock.epoch t.clock.epoch (logged_in shares w)
                   (shown_in shares w) x lines.0 bank_was mid_bank.0) (sym begins_is) one.shows)
                   step.goes commits durable is;
+              longer = step.stays ∙ subst (λ n. end_of lines.0.journal ≡ n + length (lines_bytes (logged_in shares w)))
+                  (ap (λ (l : LogState). end_of l.journal) (sym begins_is) ∙ idled_end (lines_of_worker round w) was)
+                  one.longer;
               first = one.first;
               blames = step.blames bank_was one.blames;
               reaches = step.reaches one.reaches;

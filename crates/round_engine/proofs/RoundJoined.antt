@@ -529,6 +529,7 @@ module _ {D : Type 0} {tells : D → Option (List ℕ)} {clock : D → ℕ} {ima
         later = omega (arith, kept_first stands ready some start_many idle all);
         most = omega (arith, all.later);
         goes = made.goes;
+        stays = made.end;
         blames = λ first blames. record {
           later = omega (arith, blames.later, made.blames.later);
           quiet = λ up. made.blames.quiet up ∙ blames.quiet (mid_up w lines at);

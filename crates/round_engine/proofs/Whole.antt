@@ -33,7 +33,8 @@ use Rattle.shared_rounds.specs.Shares.{shown_epochs}
 use Rattle.round_engine.specs.Ends.{comes_to_advance, comes_to_save, comes_to_swap, epoch_joined, swaps}
 use Rattle.round_engine.specs.Gleans.{RoundGleans}
 use Rattle.round_engine.specs.Keeping.{IsSavedBySeen, KeepsSaves}
-use Rattle.round_engine.specs.Logs.{AreClosedFiles, AreLogs, IsClosedFile, IsFirstAt, IsRefusedBy, LeavesLog}
+use Rattle.round_engine.specs.Logs.{AreClosedFiles, AreLogs, IsClosedFile, IsFirstAt, IsLongerBy, IsRefusedBy}
+use Rattle.round_engine.specs.Logs.{LeavesLog}
 use Rattle.round_engine.specs.RanRound.{AreFailed, LeavesVault, LogsRan, SwapsFiles}
 use Rattle.round_engine.specs.Saves.{AreSaved, AreSeen, AreShownAt, beside_at_end, beside_at_save, GoesBy, IsSavedBy}
 use Rattle.round_engine.specs.Saves.{newest_after}
@@ -68,6 +69,7 @@ module _ {D : Type 0} (tells : D → Option (List ℕ)) (clock : D → ℕ) (ima
   pub record Total (logged : List Commit) (shown : List Stood) (old new : LogState) (before now : D) : Type 0 where
     pub leaves : (commits : List Commit) (was : List ℕ) → IsLog tells clock image_at commits was old before
         → Leaves tells clock image_at commits logged was shown new before now
+    pub longer : IsLongerBy logged old new
     pub first : IsFirstAt (clock before) shown
     pub blames : Blames faults before now new.journal
     pub reaches : Reaches tells now new.journal
@@ -470,6 +472,14 @@ module _ {D : Type 0} {tells : D → Option (List ℕ)} {clock : D → ℕ} {ima
         needed = needed;
         sound = sound;
         room = room;
+        longer = λ w was log at_was at_log.
+            let below = below_8 old.logs w was at_was total.old_many in
+            let bank_was = item_at (growing_in old.side before) w (omega (arith, below, total.before_many)) in
+            let bank = item_at (growing_in old.side now) w (omega (arith, below, total.now_many)) in
+            (total.each w was log bank_was.0 bank.0 at_was at_log bank_was.1 bank.1).longer;
+        marked = λ done w log at.
+            let it = rests done w log at in
+            omega (arith, it.marked, ap length it.flushed);
         refused = refused;
         log_failed = log_failed;
         stored = stored;

@@ -16,7 +16,7 @@ use Rattle.script_grammar.specs.declared.lines.KeeperLine.TheVariants as asks
 use Rattle.wire_form.specs.declared.clock.Mark.{Mark}
 use Rattle.wire_form.specs.declared.page.Page.{Page}
 use Rattle.log_writer.specs.Counted.{AlwaysTells}
-use Rattle.log_writer.specs.Journal.{Reaches}
+use Rattle.log_writer.specs.Journal.{Reaches, end_of}
 use Rattle.log_writer.specs.Points.{sequence_of}
 use Rattle.log_writer.specs.Save.{IsStored}
 use Rattle.log_writer.specs.declared.save.SaveFault.{SaveFault}
@@ -372,6 +372,7 @@ module _ {D : Type 0} (tells : D → Option (List ℕ)) (clock : D → ℕ) (ima
 pub record JoinsLog {D : Type 0} (tells : D → Option (List ℕ)) (clock : D → ℕ) (image_at : D → ℕ → List ℕ → Type 0)
     (faults : D → ℕ) (epoch : ℕ) (old new : LogState) (before now : D) : Type 0 where
   pub goes : LogGoesOn tells clock image_at epoch old new before now
+  pub end : end_of new.journal ≡ end_of old.journal
   pub mark : KeepsMark (epoch + 1) old new
   pub blames : Blames faults before now new.journal
   pub reaches : Reaches tells now new.journal

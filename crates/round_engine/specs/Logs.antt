@@ -16,7 +16,7 @@ use Rattle.worker_logs.specs.Rows.{NeverFall}
 use Rattle.worker_logs.specs.Shown.{IsShownSince, Stood}
 use Rattle.shared_rounds.specs.Shares.{shown_epochs}
 use Rattle.round_engine.specs.Standing.{RuntimeState}
-pub use Rattle.shared_rounds.specs.Workers.{IsFirstAt, IsRefusedBy}
+pub use Rattle.shared_rounds.specs.Workers.{IsFirstAt, IsLongerBy, IsRefusedBy}
 
 module _ {D : Type 0} (tells : D → Option (List ℕ)) (clock : D → ℕ) (image_at : D → ℕ → List ℕ → Type 0) where
   -- A worker's part of a round: it logged so many commits more, its log file grew, and the marks that it had say what

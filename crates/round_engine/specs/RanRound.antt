@@ -7,6 +7,7 @@ use Rattle.lists.specs.Fronts.{IsFront}
 use Rattle.lists.specs.declared.memory.Memory.{Memory}
 use Rattle.outside.specs.Fronts.{AllBegin}
 use Rattle.outside.specs.Reads.{OnlyReads}
+use Rattle.log_writer.specs.Journal.{end_of as file_end}
 use Rattle.log_writer.specs.Vault.{disk_in}
 use Rattle.outside.specs.declared.device.Device.{Device}
 use Rattle.outside.specs.declared.device.Device.TheVariants.{Bank, Save, Snaps}
@@ -46,7 +47,7 @@ use Rattle.round_engine.specs.Ends.{comes_to_advance, comes_to_save, comes_to_sw
 use Rattle.round_engine.specs.Ends.{swaps}
 use Rattle.round_engine.specs.Gleans.{RoundGleans}
 use Rattle.round_engine.specs.Histories.{KeepsHistory}
-use Rattle.round_engine.specs.Logs.{AreClosedFiles, AreLogs, IsRefusedBy, LeavesLog}
+use Rattle.round_engine.specs.Logs.{AreClosedFiles, AreLogs, IsLongerBy, IsRefusedBy, LeavesLog}
 use Rattle.round_engine.specs.Saves.{ArePages, AreSaved, beside_at_end, GoesOnWith, IsSavedBy, newest_after}
 use Rattle.round_engine.specs.Saves.{AreShownAt, AreTied, beside_at_save, GoesBy, HaveEnded, saves_told}
 use Rattle.round_engine.specs.SavesMet.{MetBySaves}
@@ -208,7 +209,9 @@ module _ {D : Type 0} (tells : D → Option (List ℕ)) (clock : D → ℕ) (ima
     pub logs_are : new.logs ≡ (if swaps ran then map reset_log logs else logs)
 
   -- What a round left of the vault: the growing log files by their workers' parts, the save and the snapshots by the
-  -- keeper's, and the closed ones by its gleans and the swap. What was logged is above the savepoint at the begin.
+  -- keeper's, and the closed ones by its gleans and the swap. What was logged is above the savepoint at the begin. Each
+  -- growing log file with what waits is longer by what its worker logged, up to the swap, and where it is closed then,
+  -- all of it counts. Both hold also where no device tells its bytes (`longer`, `marked`).
   -- Nothing is said of the order in which the workers ran.
   pub record LeavesVault (faults : D → ℕ) (ran : Ran) (logged : ℕ → List Commit)
       (old new : RuntimeState) (before now : Vault D) : Type 0 where
@@ -220,6 +223,10 @@ module _ {D : Type 0} (tells : D → Option (List ℕ)) (clock : D → ℕ) (ima
     pub needed : (what : Option ℕ) → Contains ran.beside.gleans what → some_counted old.counted ≡ true
     pub sound : (Contains ran.beside.devices Snaps → ⊥) → new.store.sound ≡ true
     pub room : new.room ≡ old.room
+    pub longer : (worker : ℕ) (was log : LogState) → slice_get old.logs worker ≡ Some was
+        → slice_get logs worker ≡ Some log → IsLongerBy (logged worker) was log
+    pub marked : swaps ran ≡ true → (worker : ℕ) (log : LogState) → slice_get logs worker ≡ Some log
+        → log.mark.length ≡ file_end log.journal
     pub refused : (worker : ℕ) (log : LogState) (refusal : Option LogRefusal) → slice_get logs worker ≡ Some log
         → slice_get ran.beside.logs worker ≡ Some refusal → IsRefusedBy refusal log.journal
     pub log_failed : (worker : ℕ) → worker < 8 → Contains ran.beside.devices (log_of ran.beside.files worker)

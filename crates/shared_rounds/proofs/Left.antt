@@ -118,6 +118,7 @@ module _ {D : Type 0} (tells : D → Option (List ℕ)) (clock : D → ℕ) (ima
         first = refl;
         below = below;
         takes = shows_takes shows;
+        longer = did.longer;
         mark = subst (λ l. KeepsMarkIn l ended.epoch old new) epoch
             (keeps_later v.epoch high ended.epoch old new low did.mark);
         blames = did.blames;

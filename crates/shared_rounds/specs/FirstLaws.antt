@@ -94,6 +94,7 @@ module _ {D : Type 0} {tells : D → Option (List ℕ)} {clock : D → ℕ} {ima
     first = by.first;
     below = by.below;
     takes = takes_behind some up is.moves.runs by.takes;
+    longer = (let more = by.longer in let stays = is.moves.end in omega (arith, more, stays));
     mark = by_mark by.mark;
     blames = by.blames;
     reaches = by.reaches;
@@ -121,6 +122,7 @@ module _ {D : Type 0} {tells : D → Option (List ℕ)} {clock : D → ℕ} {ima
       found = r.found;
       at = r.at;
       takes = takes_behind some r.later is.moves.runs r.takes;
+      longer = (let more = r.longer in let stays = is.moves.end in omega (arith, more, stays));
       limit = r.limit ∙ ap (λ (j : JournalState). j.limit) is.journal;
       up = r.up;
       fault = r.fault;

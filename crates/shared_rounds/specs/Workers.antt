@@ -15,6 +15,7 @@ use Rattle.worker_logs.specs.Logs.{LogState, idle_log}
 use Rattle.worker_logs.specs.Rows.{Blames, KeepsMarkIn, LogTakes}
 use Rattle.worker_logs.specs.Shown.{LogShows, Stood}
 use Rattle.tx_script.specs.Readied.{Readied}
+pub use Rattle.worker_cells.specs.Cells.{IsLongerBy}
 use Rattle.worker_cells.specs.Cells.{RefusesLine}
 use Rattle.worker_cells.specs.declared.cell.LogEnd.{LogEnd}
 use Rattle.shared_rounds.specs.Shares.{BeginsAt, RunsShares, Share}
@@ -75,6 +76,7 @@ module _ {D : Type 0} (tells : D → Option (List ℕ)) (clock : D → ℕ) (ima
     pub first : IsFirstAt (clock before) marks
     pub below : AllByRecursion (λ (m : Stood). IsEpochBefore high m.mark.epoch) marks
     pub takes : LogTakes tells clock image_at low high logged old new before now
+    pub longer : IsLongerBy logged old new
     pub mark : KeepsMarkIn low high old new
     pub blames : Blames faults before now new.journal
     pub reaches : Reaches tells now new.journal

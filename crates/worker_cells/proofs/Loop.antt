@@ -190,6 +190,7 @@ module _ {D : Type 0} {tells : D → Option (List ℕ)} {clock : D → ℕ} {ima
             found = mid;
             at = between;
             takes = shows_takes so.did.shows;
+            longer = so.did.longer;
             limit = so.did.limit;
             up = up;
             fault = fault;

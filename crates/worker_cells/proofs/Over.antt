@@ -3,18 +3,21 @@ use Rattle.std.proofs.Common.{◌≡◌, ◌∙◌, ◌≤◌, ◌<◌, ◌+◌,
 use Rattle.std.proofs.Common.{Option, Some, None, append_assoc, arith, false, length, length-append, map, suc}
 use Rattle.std.specs.Prelude.{◌≢◌, ◌⊎◌, Contains, fold, option_to_list, slice_get, unwrap_or}
 use Rattle.std.specs.List.{AllByRecursion}
+use Rattle.std.proofs.lemmas.Grind.{flat_map-append}
 use Rattle.std.proofs.lemmas.List.{append-nil}
 use Rattle.lists.specs.Each.{all_append, all_push, all_weaker}
 use Rattle.serial_model.specs.declared.number.Change.{Change}
 use Rattle.serial_model.specs.declared.number.Commit.{Commit}
 use Rattle.serial_model.specs.declared.number.Number.{Number}
 use Rattle.serial_model.specs.declared.op.Op.{Op}
-use Rattle.wire_form.specs.LogFile.{IsLineOf}
+use Rattle.wire_form.specs.LogFile.{IsLineOf, lines_bytes}
+use Rattle.wire_form.specs.LogLine.{line_bytes}
 use Rattle.wire_form.specs.Words.{IsMark}
 use Rattle.wire_form.specs.declared.clock.Mark.{Mark}
 use Rattle.commit_core.specs.CoreState.{last_marked, mark_of}
 use Rattle.commit_core.specs.declared.attempt.Attempt.{Attempt}
 use Rattle.commit_core.specs.declared.seat.Mark as core
+use Rattle.log_writer.specs.Journal.{end_of}
 use Rattle.log_writer.specs.declared.journal.LogFault.{LogFault}
 use Rattle.tx_runner.specs.Tries.{Lost}
 use Rattle.engine_pages.specs.declared.view.View.{View}
@@ -31,7 +34,7 @@ use Rattle.worker_logs.specs.ShownLaws.{shows_commit, shows_later, shows_move, s
 use Rattle.worker_logs.specs.RowLaws.{blames_move, blames_none, blames_took, keeps_commit, keeps_later, keeps_then}
 use Rattle.worker_logs.specs.RowLaws.{limit_took, reaches_took}
 use Rattle.worker_cells.specs.Cells.{AreLooked, HasLookedSince, HasMarks, IsCell, IsMarkedBelow, IsReached, IsTied}
-use Rattle.worker_cells.specs.Cells.{LogsLine}
+use Rattle.worker_cells.specs.Cells.{IsLongerBy, LogsLine}
 use Rattle.worker_cells.specs.Cells.{RanOver, RanShown, Readies, ShowsMark, core_mark, core_of, epochs_of, steps_behind}
 use Rattle.worker_cells.specs.Rows.{ComesOf, IsSince, LineRan, logged_by, logged_of, outcomes_of, readied_of}
 use Rattle.worker_cells.specs.InARow.{goes_none, line_keeps, logged_push, row_goes, row_layout, row_push}
@@ -356,6 +359,23 @@ shown_line high ran first more v line mid new seen marked began since stays same
           }))));
     }
 
+-- the lines of one commit more are its bytes more
+longer_lines : (commits : List Commit) (c : Commit)
+    → length (lines_bytes (commits ++ c ∷ [])) ≡ length (lines_bytes commits) + length (line_bytes c)
+longer_lines commits c =
+    ap length (flat_map-append line_bytes commits (c ∷ []) ∙ ap (λ l. lines_bytes commits ++ l) (append-nil (line_bytes c)))
+    ∙ length-append (lines_bytes commits) (line_bytes c)
+
+-- a log that took a commit, if there was one, is longer by it
+longer_took : (commits : List Commit) (logged : Option Commit) (old mid new : LogState) → IsLongerBy commits old mid
+    → TakesCommit logged mid new → IsLongerBy (commits ++ option_to_list logged) old new
+longer_took commits None old mid new so takes =
+    ap (λ (l : LogState). end_of l.journal) takes ∙ so
+    ∙ ap (λ l. end_of old.journal + length (lines_bytes l)) (sym (append-nil commits))
+longer_took commits (Some c) old mid new so takes =
+    let one = ap length takes.lines ∙ length-append mid.journal.lines (line_bytes c) in
+    omega (arith, takes.durable, one, so, longer_lines commits c)
+
 module _ {D : Type 0} {tells : D → Option (List ℕ)} {clock : D → ℕ} {image_at : D → ℕ → List ℕ → Type 0}
     {faults : D → ℕ} where
   -- no line
@@ -372,6 +392,7 @@ module _ {D : Type 0} {tells : D → Option (List ℕ)} {clock : D → ℕ} {ima
     looked = tt;
     marked = tt;
     shows = shows_one (λ late. absurd (omega (arith, late))) (shows_none v.epoch v.epoch log bank);
+    longer = omega arith;
     words = sym (append-nil v.seat.marks);
     shown = shown_begin v log (clock bank);
     mark = inl refl;
@@ -417,6 +438,7 @@ module _ {D : Type 0} {tells : D → Option (List ℕ)} {clock : D → ℕ} {ima
         looked = so.looked;
         marked = marked;
         shows = shows;
+        longer = ready.moves.end ∙ so.longer;
         words = words;
         shown = shown;
         mark = keeps_then v.epoch high x.epoch old mid new later reached so.mark ready.moves.mark;
@@ -510,6 +532,8 @@ module _ {D : Type 0} {tells : D → Option (List ℕ)} {clock : D → ℕ} {ima
             (record { shown = more; still = []; whole = sym (append-nil more); marks = so.words });
         shows = subst (λ l. LogShows tells clock image_at v.epoch behind l (first ∷ more) old new before now)
             (sym pushed) (shows_later up (shows_commit line.logged some so.later above so.shows line.takes));
+        longer = subst (λ l. IsLongerBy l old new) (sym pushed)
+            (longer_took (logged_of ran) line.logged old mid new so.longer line.takes);
         words = kept.marks ∙ so.words;
         shown = λ tied small. shown_line high ran first more v one mid new seen marked
             (began_line tries ops line.outcome line.refused line.logged w x line.comes) drew kept.marks

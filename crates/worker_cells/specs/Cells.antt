@@ -4,13 +4,13 @@ use Rattle.std.specs.Prelude.{Bool, Contains, false, is_some, length, map, optio
 use Rattle.std.specs.List.{AllByRecursion}
 use Rattle.serial_model.specs.declared.number.Commit.{Commit}
 use Rattle.serial_model.specs.declared.op.Op.{Op}
-use Rattle.wire_form.specs.LogFile.{IsLineOf}
+use Rattle.wire_form.specs.LogFile.{IsLineOf, lines_bytes}
 use Rattle.wire_form.specs.Words.{IsMark}
 use Rattle.wire_form.specs.declared.clock.Mark.{Mark}
 use Rattle.commit_core.specs.CoreState.{last_marked}
 use Rattle.commit_core.specs.declared.attempt.Attempt.{Attempt}
 use Rattle.commit_core.specs.declared.seat.Mark as core
-use Rattle.log_writer.specs.Journal.{Reaches}
+use Rattle.log_writer.specs.Journal.{Reaches, end_of}
 use Rattle.log_writer.specs.declared.journal.LogFault.{LogFault}
 use Rattle.log_writer.specs.declared.journal.LogFault.TheVariants.{Device, Down, Limit as AtLimit}
 use Rattle.engine_pages.specs.Layout.{clock_at}
@@ -119,6 +119,11 @@ pub record IsCell {D : Type 0} (tells : D → Option (List ℕ)) (v : View) (log
   pub up : IsLogUp tells log bank
   pub flushed : log.journal.lines ≡ []
 
+-- What is durable and what waits are as many bytes more as the lines of these commits have. It is so of each log file,
+-- also of one that tells nothing.
+abbrev pub IsLongerBy : List Commit → LogState → LogState → Type 0
+IsLongerBy logged old new = end_of new.journal ≡ end_of old.journal + length (lines_bytes logged)
+
 -- ---- one line
 
 -- what refused the log was its log file
@@ -197,6 +202,7 @@ module _ {D : Type 0} (tells : D → Option (List ℕ)) (clock : D → ℕ) (ima
     pub marked : AllByRecursion (HasMarks v more) ran
     pub shows : LogShows tells clock image_at v.epoch high (logged_of ran)
         (record { mark = old.mark; since = clock before } ∷ more) old new before now
+    pub longer : IsLongerBy (logged_of ran) old new
     pub words : w.seat.marks ≡ v.seat.marks ++ map core_of more
     pub shown : IsTied old.mark v.seat.marks
         → IsMark old.mark → RanShown high ran (record { mark = old.mark; since = clock before } ∷ more) v w new
@@ -215,6 +221,7 @@ module _ {D : Type 0} (tells : D → Option (List ℕ)) (clock : D → ℕ) (ima
     pub found : LogState
     pub at : D
     pub takes : LogTakes tells clock image_at low high logged old found before at
+    pub longer : IsLongerBy logged old found
     pub limit : found.journal.limit ≡ old.journal.limit
     pub up : found.journal.down ≡ None
     pub fault : LogFault

@@ -11,13 +11,15 @@ pub returns-in-Err-clause-ends : goal.returns-in-Err-clause-ends
 returns-in-Err-clause-ends g c = rw c.ending_of_refusal.ensures (recovery_refused g.met.D.Disk.reads c.in-Err.refusal c.requires.whole c.in-Err.ensures.devices.reads
     (λ device n is. c.in-Err.ensures.damaged device n (ap (λ (x : OrMemory RecoverFault). Err x) is))
     (λ device is. c.in-Err.ensures.devices.device device (ap (λ (x : OrMemory RecoverFault). Err x) is))
-    (λ device is. c.in-Err.ensures.before device (ap (λ (x : OrMemory RecoverFault). Err x) is)))
+    (λ device is. c.in-Err.ensures.before device (ap (λ (x : OrMemory RecoverFault). Err x) is))
+    (λ other. c.in-Err.ensures.devices.spared (λ device is. let same = is in other device cc)))
 
 -- the storages are others
 pub returns-in_err-check_shape-clause-ends : goal.returns-in_err-check_shape-clause-ends
 returns-in_err-check_shape-clause-ends g c =
     let p = err_from_is_err_and c.from_residual.result c.from_residual.ensures.1 in
-    rw p.1 (shape_refused g.met.D.Disk.reads c.in-Ok.recovered _ c.requires.whole c.in-Ok.ensures.devices.reads c.in-Ok.ensures.recovers c.in-Ok.ensures.up
+    rw p.1 (shape_refused g.met.D.Disk.reads c.in-Ok.recovered _ c.requires.whole c.in-Ok.ensures.devices.reads
+    (c.in-Ok.ensures.devices.spared (λ device is. let no = is in cc)) c.in-Ok.ensures.recovers c.in-Ok.ensures.up
     (rw (p.2) (rw c.decls.ensures at c.in_err-check_shape.ensures.other)))
 
 -- the save is as recovery left it
@@ -42,7 +44,8 @@ pub returns-in-Err-new-clause-ends : goal.returns-in-Err-new-clause-ends
 returns-in-Err-new-clause-ends g c = rw c.new.ensures.vault (settled_memory
     (is_read c.requires.whole c.in-Ok.ensures.devices.reads (c.in-Ok.ensures.devices.spared (λ device is. let no = is in cc)) c.forget_records.ensures c.in-Ok.ensures.recovers c.in-Ok.ensures.up
     (rw c.decls.ensures at c.in_ok-check_shape.ensures.same))
-    _ c.in-Ok-settle.settled c.in-Ok-settle.ensures.leaves.crashes (rw c.decls-2.ensures at c.in-Ok-settle.ensures.settles) c.in-Ok-settle.ensures.snapshots)
+    _ c.in-Ok-settle.settled c.in-Ok-settle.ensures.leaves.crashes (rw c.decls-2.ensures at c.in-Ok-settle.ensures.settles) c.in-Ok-settle.ensures.snapshots
+    c.in-Ok-settle.ensures.answers.0)
 
 -- the run begins
 pub returns-in-Ok-new-clause-begins : goal.returns-in-Ok-new-clause-begins

@@ -4,8 +4,8 @@ ghost use Rattle.outside.specs.Disk.{IfTold, Only};
 use crate::in_turn::InTurn;
 use crate::vaults::{anew, fresh_vault};
 use log_writer::Vault;
-use outside::{Disk, MemDisk, MemSink, MemSource, OpenGate, Sink, Source, SureSource};
-use program_entry::{Watcher, top};
+use outside::{Disk, Gate, MemDisk, MemSink, MemSource, OpenGate, Sink, Source, SureSource};
+use program_entry::top;
 use std::alloc::{AllocError, Global};
 use std::sync::Wait;
 use std::test::Fail;
@@ -38,7 +38,7 @@ pub fn words(alloc: Global, asked: &str) -> Result<Vec<&str>, AllocError> {
 }
 
 /// The status of a call over a vault that has all its log files.
-pub fn ended<R: Threads + Wait + Sync + AllocGlobal, D: Disk + Send + Drop, G: Watcher + Sync>(
+pub fn ended<R: Threads + Wait + Sync + AllocGlobal, D: Disk + Send + Drop, G: Gate + Sync>(
     rt: &R,
     words: &[&str],
     source: &mut impl Source,
@@ -55,7 +55,7 @@ pub fn ended<R: Threads + Wait + Sync + AllocGlobal, D: Disk + Send + Drop, G: W
 }
 
 /// The same, and the text on a sink of which the calls of these numbers fail.
-pub fn told<R: Threads + Wait + Sync + AllocGlobal, D: Disk + Send + Drop, G: Watcher + Sync>(
+pub fn told<R: Threads + Wait + Sync + AllocGlobal, D: Disk + Send + Drop, G: Gate + Sync>(
     rt: &R,
     words: &[&str],
     source: &mut impl Source,
@@ -78,7 +78,7 @@ pub fn source_of(alloc: Global, script: &[u8], failing: u64) -> Result<MemSource
 }
 
 // The status and the text of a call over a new vault.
-fn told_fresh<R: Threads + Wait + Sync + AllocGlobal, G: Watcher + Sync>(
+fn told_fresh<R: Threads + Wait + Sync + AllocGlobal, G: Gate + Sync>(
     rt: &R,
     words: &[&str],
     source: &mut MemSource,
@@ -91,7 +91,7 @@ fn told_fresh<R: Threads + Wait + Sync + AllocGlobal, G: Watcher + Sync>(
 
 /// The status of a call with these words after the program's name over a new vault, and over a source and a sink of
 /// which the calls of these numbers fail, and what the sink then holds.
-pub fn call<R: Threads + Wait + Sync + AllocGlobal, G: Watcher + Sync>(
+pub fn call<R: Threads + Wait + Sync + AllocGlobal, G: Gate + Sync>(
     rt: &R,
     asked: &str,
     script: &[u8],
@@ -117,7 +117,7 @@ pub fn check_call<R: Threads + Wait + Sync + AllocGlobal>(
 }
 
 /// The status and the text of a call with these words after the program's name over a vault.
-pub fn answer_by<R: Threads + Wait + Sync + AllocGlobal, D: Disk + Send + Drop, G: Watcher + Sync>(
+pub fn answer_by<R: Threads + Wait + Sync + AllocGlobal, D: Disk + Send + Drop, G: Gate + Sync>(
     rt: &R,
     vault: &mut Vault<D>,
     asked: &str,

@@ -1,6 +1,5 @@
 // A gate by which a script has one text.
 use outside::Gate;
-use program_entry::Watcher;
 use std::alloc::{AllocError, Global};
 use std::sync::atomic::{AtomicU64, Ordering};
 use std::test::Fail;
@@ -82,5 +81,3 @@ impl Gate for InTurn {
         self.over.store(place.wrapping_add(1), Ordering::SeqCst);
     }
 }
-
-impl Watcher for InTurn {}

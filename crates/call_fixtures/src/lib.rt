@@ -26,4 +26,4 @@ pub use vaults::{anew, disk_of, filled, fresh_vault, vault_of};
 pub use worked::{First, first_vault, kept_vault, saved_vault};
 
 // Names of the crate below that the crates of tests speak of.
-pub use program_entry::{Ending, Watcher, run_program};
+pub use program_entry::{Ending, run_program};

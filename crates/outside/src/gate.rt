@@ -1,4 +1,5 @@
-// What is called round each line that a script runs, so that a test can hold a worker there.
+// What is called as a round begins and round each line that a script runs: a test holds a worker there, and a program
+// tells how far it is.
 
 /// Called round each line that is run. Workers count from 0, and worker 255 is the maintenance
 /// thread; `line` counts the lines of that worker in its round, from 0.
@@ -6,6 +7,9 @@ pub trait Gate {
     fn before(&self, worker: u8, line: u32);
 
     fn after(&self, worker: u8, line: u32);
+
+    /// This round of so many begins; both count from 1.
+    fn begins(&self, _round: usize, _rounds: usize) {}
 }
 
 /// A gate that holds nobody.

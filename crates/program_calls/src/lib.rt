@@ -28,8 +28,6 @@ mod room;
 mod run;
 mod shape;
 mod teller;
-mod watcher;
 
 pub use ending::{Ending, finish, status_told};
 pub use program::top;
-pub use watcher::Watcher;

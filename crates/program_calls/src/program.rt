@@ -15,10 +15,9 @@ ghost use Rattle.program_calls.specs.Vaults.{vaults_of};
 
 use crate::ending::{Ending, finish, status_told};
 use crate::run::run;
-use crate::watcher::Watcher;
 use command_line::{Command, read_words};
 use log_writer::Vault;
-use outside::{Disk, Failed, Sink, Source};
+use outside::{Disk, Failed, Gate, Sink, Source};
 use serial_model::Memory;
 use std::alloc::Global;
 use std::sync::Wait;
@@ -31,7 +30,7 @@ use text_output::Printer;
 /// a limit was met, 8 for want of memory and 9 where the vault has no snapshot of the epoch that is asked for.
 ///
 /// As a run begins, the save device has to have one image: nothing is pending.
-pub fn top<R: Threads + Wait + Sync, S: Source, K: Sink, D: Disk + Send + Drop, G: Watcher + Sync>(
+pub fn top<R: Threads + Wait + Sync, S: Source, K: Sink, D: Disk + Send + Drop, G: Gate + Sync>(
     rt: &R,
     alloc: Global,
     words: &[&str],
@@ -62,7 +61,7 @@ pub fn top<R: Threads + Wait + Sync, S: Source, K: Sink, D: Disk + Send + Drop, 
 }
 
 // Does what the words ask for, and prints all of its text.
-fn call<R: Threads + Wait + Sync, S: Source, K: Sink, D: Disk + Send + Drop, G: Watcher + Sync>(
+fn call<R: Threads + Wait + Sync, S: Source, K: Sink, D: Disk + Send + Drop, G: Gate + Sync>(
     rt: &R,
     alloc: Global,
     words: &[&str],
@@ -87,13 +86,7 @@ fn call<R: Threads + Wait + Sync, S: Source, K: Sink, D: Disk + Send + Drop, G: 
 }
 
 // Does what the words ask for, and adds the text of what was run.
-fn run_words<
-    R: Threads + Wait + Sync,
-    S: Source,
-    K: Sink,
-    D: Disk + Send + Drop,
-    G: Watcher + Sync,
->(
+fn run_words<R: Threads + Wait + Sync, S: Source, K: Sink, D: Disk + Send + Drop, G: Gate + Sync>(
     rt: &R,
     alloc: Global,
     words: &[&str],

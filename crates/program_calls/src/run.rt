@@ -24,10 +24,9 @@ use crate::ending::{Ending, ending_of};
 use crate::input::read_text;
 use crate::kept::{dump, snap, snaps};
 use crate::teller::Teller;
-use crate::watcher::Watcher;
 use command_line::{Command, MakeArguments, RunOptions};
 use log_writer::Vault;
-use outside::{Disk, Failed, Sink, Source};
+use outside::{Disk, Failed, Gate, Sink, Source};
 use round_engine::{End, Runtime, round};
 use script_maker::put_script;
 use serial_model::Memory;
@@ -43,7 +42,7 @@ pub(crate) fn run<
     S: Source,
     K: Sink,
     D: Disk + Send + Drop,
-    G: Watcher + Sync,
+    G: Gate + Sync,
 >(
     rt: &R,
     alloc: Global,
@@ -90,7 +89,7 @@ fn make<K: Sink>(printer: &mut Printer<'_, K>, arguments: MakeArguments) -> Resu
 }
 
 /// Runs a script on what the vault keeps, and adds the text of what was run.
-fn run_script<R: Threads + Wait + Sync, K: Sink, D: Disk + Send + Drop, G: Watcher + Sync>(
+fn run_script<R: Threads + Wait + Sync, K: Sink, D: Disk + Send + Drop, G: Gate + Sync>(
     rt: &R,
     alloc: Global,
     options: RunOptions,
@@ -114,7 +113,7 @@ fn run_script<R: Threads + Wait + Sync, K: Sink, D: Disk + Send + Drop, G: Watch
 }
 
 /// Runs a script, and adds the lines of its rounds.
-fn run_in_full<R: Threads + Wait + Sync, K: Sink, D: Disk + Send + Drop, G: Watcher + Sync>(
+fn run_in_full<R: Threads + Wait + Sync, K: Sink, D: Disk + Send + Drop, G: Gate + Sync>(
     rt: &R,
     alloc: Global,
     options: RunOptions,
@@ -149,7 +148,7 @@ fn run_in_full<R: Threads + Wait + Sync, K: Sink, D: Disk + Send + Drop, G: Watc
 }
 
 /// Runs a script, and adds the counts and the sum of it.
-fn run_in_brief<R: Threads + Wait + Sync, K: Sink, D: Disk + Send + Drop, G: Watcher + Sync>(
+fn run_in_brief<R: Threads + Wait + Sync, K: Sink, D: Disk + Send + Drop, G: Gate + Sync>(
     rt: &R,
     alloc: Global,
     options: RunOptions,
@@ -187,7 +186,7 @@ fn run_in_brief<R: Threads + Wait + Sync, K: Sink, D: Disk + Send + Drop, G: Wat
 
 /// Runs the rounds of a script on what the vault keeps, up to one that ends the run, and has each of them told. The
 /// runtime is its own, and it lends it: each exit of a function drops what it owns, which is proved at each exit.
-fn run_rounds<R: Threads + Wait + Sync, K: Sink, D: Disk + Send + Drop, G: Watcher + Sync>(
+fn run_rounds<R: Threads + Wait + Sync, K: Sink, D: Disk + Send + Drop, G: Gate + Sync>(
     rt: &R,
     alloc: Global,
     options: RunOptions,
@@ -229,7 +228,7 @@ fn run_rounds<R: Threads + Wait + Sync, K: Sink, D: Disk + Send + Drop, G: Watch
 }
 
 /// The same on a runtime that stands before the first round, over the vault where it began. It owns nothing.
-fn run_from<R: Threads + Wait + Sync, K: Sink, D: Disk + Send + Drop, G: Watcher + Sync>(
+fn run_from<R: Threads + Wait + Sync, K: Sink, D: Disk + Send + Drop, G: Gate + Sync>(
     rt: &R,
     alloc: Global,
     options: RunOptions,
@@ -275,7 +274,7 @@ fn run_from<R: Threads + Wait + Sync, K: Sink, D: Disk + Send + Drop, G: Watcher
 }
 
 /// Runs a round, and has it told. Answers why the run ends with it, if it does.
-fn run_round<R: Threads + Wait + Sync, K: Sink, D: Disk + Send + Drop, G: Watcher + Sync>(
+fn run_round<R: Threads + Wait + Sync, K: Sink, D: Disk + Send + Drop, G: Gate + Sync>(
     rt: &R,
     alloc: Global,
     lines: &Round<'_>,

@@ -21,8 +21,8 @@ use command_line::{Command, read_words};
 use database_files::{Access, NotOpened, fill_places, no_vault, open_vault};
 use lists::Memory;
 use log_writer::Vault;
-use outside::{Disk, FileDisk, MemDisk, Sink, Source};
-use program_calls::{Ending, Watcher, top};
+use outside::{Disk, FileDisk, Gate, MemDisk, Sink, Source};
+use program_calls::{Ending, top};
 use std::alloc::{AllocError, Global};
 use std::env::{self, Env};
 use std::fs::{File, Files};
@@ -52,7 +52,7 @@ pub fn read_args(rt: &(impl Env + AllocGlobal)) -> Result<Vec<String>, Ending>
 /// full or wide.
 ///
 /// While it runs, a standard stream that is closed fails, and no file of the database has its place.
-pub fn run_program<R, S: Source + Remembers, K: Sink + Counts, E: Sink, N: Sink, G: Watcher + Sync>(
+pub fn run_program<R, S: Source + Remembers, K: Sink + Counts, E: Sink, N: Sink, G: Gate + Sync>(
     rt: &R,
     words: Result<Vec<String>, Ending>,
     folder: &str,
@@ -97,7 +97,7 @@ where
 }
 
 /// Answers the words, or tells why they can't be had.
-fn answer<R, S: Source + Remembers, K: Sink + Counts, N: Sink, G: Watcher + Sync>(
+fn answer<R, S: Source + Remembers, K: Sink + Counts, N: Sink, G: Gate + Sync>(
     rt: &R,
     words: Result<Vec<String>, Ending>,
     folder: &str,
@@ -145,7 +145,7 @@ fn answer_none<K: Sink, N: Sink>(sink: &mut K, notes: &mut N, ending: Ending) ->
 }
 
 /// Answers the words over the database in a folder, or over none, where they leave the database alone.
-fn answer_words<R, S: Source + Remembers, K: Sink + Counts, N: Sink, G: Watcher + Sync>(
+fn answer_words<R, S: Source + Remembers, K: Sink + Counts, N: Sink, G: Gate + Sync>(
     rt: &R,
     words: &[String],
     folder: &str,
@@ -177,7 +177,7 @@ where
 }
 
 /// The same of texts.
-fn answer_texts<R, S: Source + Remembers, K: Sink + Counts, N: Sink, G: Watcher + Sync>(
+fn answer_texts<R, S: Source + Remembers, K: Sink + Counts, N: Sink, G: Gate + Sync>(
     rt: &R,
     words: &[&str],
     folder: &str,
@@ -215,7 +215,7 @@ where
 }
 
 /// Runs a script on the database in a folder.
-fn answer_run<R, S: Source + Remembers, K: Sink + Counts, N: Sink, G: Watcher + Sync>(
+fn answer_run<R, S: Source + Remembers, K: Sink + Counts, N: Sink, G: Gate + Sync>(
     rt: &R,
     words: &[&str],
     folder: &str,
@@ -257,7 +257,7 @@ where
 }
 
 /// Tells what the database in a folder keeps.
-fn answer_listing<R, S: Source, K: Sink, N: Sink, G: Watcher + Sync>(
+fn answer_listing<R, S: Source, K: Sink, N: Sink, G: Gate + Sync>(
     rt: &R,
     words: &[&str],
     folder: &str,
@@ -288,7 +288,7 @@ where
 }
 
 /// Opens the database in a folder as it is asked for, and calls `top` over it.
-fn answer_over<R, S: Source, K: Sink, N: Sink, G: Watcher + Sync>(
+fn answer_over<R, S: Source, K: Sink, N: Sink, G: Gate + Sync>(
     rt: &R,
     words: &[&str],
     asked: Asked<'_>,
@@ -344,7 +344,7 @@ fn ending_of(error: &NotOpened) -> Ending
 }
 
 /// Calls `top` over a database that was opened for it.
-fn call_over<R, S: Source, K: Sink, G: Watcher + Sync>(
+fn call_over<R, S: Source, K: Sink, G: Gate + Sync>(
     rt: &R,
     words: &[&str],
     access: Access,
@@ -374,7 +374,7 @@ where
 
 /// Calls `top` with words that leave the database alone, over none. No file is opened or made: a script is often made
 /// for a run beside it, which makes the files of the same folder, and would be in the way of another that does.
-fn answer_alone<R, S: Source, K: Sink, G: Watcher + Sync>(
+fn answer_alone<R, S: Source, K: Sink, G: Gate + Sync>(
     rt: &R,
     words: &[&str],
     source: &mut S,

@@ -19,4 +19,4 @@ pub use over::{list_over, run_over};
 pub use progress::{Cleared, Progress};
 
 // Names of the crate below that those above speak of.
-pub use program_calls::{Ending, Watcher, top};
+pub use program_calls::{Ending, top};

@@ -12,15 +12,15 @@ ghost use Rattle.program_entry.specs.Entry.{AnsweredBy, MayChange};
 use crate::told::tell;
 use joint_crashes::{sync_all, take_over};
 use log_writer::Vault;
-use outside::{Disk, Sink, Source};
-use program_calls::{Ending, Watcher, top};
+use outside::{Disk, Gate, Sink, Source};
+use program_calls::{Ending, top};
 use std::sync::Wait;
 use std::thread::Threads;
 
 /// Calls `top` with words that may change the database. Before that it is taken over from whoever used it last, however
 /// that ended: as `top` begins nothing of it is pending, so that what `top` promises of stops holds (`answered`, by
 /// `CallsTop`). Where a device can't be synced or written that is told, and `top` isn't called.
-pub fn run_over<R, S: Source, K: Sink, D: Disk + Send + Drop, G: Watcher + Sync>(
+pub fn run_over<R, S: Source, K: Sink, D: Disk + Send + Drop, G: Gate + Sync>(
     rt: &R,
     words: &[&str],
     source: &mut S,
@@ -50,7 +50,7 @@ where
 /// Calls `top` with words that don't change the database. Each device is synced before that, so that what they tell of it
 /// is there behind a stop (`synced` of `CallsTop`). One that can't be is read all the same, since a failing device has to be
 /// readable.
-pub fn list_over<R, S: Source, K: Sink, D: Disk + Send + Drop, G: Watcher + Sync>(
+pub fn list_over<R, S: Source, K: Sink, D: Disk + Send + Drop, G: Gate + Sync>(
     rt: &R,
     words: &[&str],
     source: &mut S,

@@ -1,7 +1,6 @@
 // How far a run is, shown where errors are told.
 
 use outside::{Failed, Gate, Sink};
-use program_calls::Watcher;
 use std::io::{IsTerminal, Stderr, Write};
 use std::sync::atomic::{AtomicU64, Ordering};
 use std::time::{Clock, Instant};
@@ -91,9 +90,7 @@ impl<'a, R: Clock> Gate for Progress<'a, R> {
             self.show(begin);
         }
     }
-}
 
-impl<'a, R: Clock> Watcher for Progress<'a, R> {
     fn begins(&self, round: usize, rounds: usize) {
         self.round.store(round as u64, Ordering::SeqCst);
         self.rounds.store(rounds as u64, Ordering::SeqCst);

@@ -25,8 +25,6 @@ impl Gate for Meeting {
     fn after(&self, _worker: u8, _line: u32) {}
 }
 
-impl Watcher for Meeting {}
-
 #[test]
 fn workers_overlap(rt: HostRuntime) -> Result<(), Fail> {
     let gate = Meeting {
@@ -105,8 +103,6 @@ impl Gate for Held {
         self.note((ENDS, worker, line));
     }
 }
-
-impl Watcher for Held {}
 
 // Runs a script whose lines are held so, and compares its text; none is held in vain.
 fn check_held<R: Threads + Wait + Sync + AllocGlobal>(

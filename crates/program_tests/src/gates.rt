@@ -34,8 +34,6 @@ impl Gate for Recording {
     }
 }
 
-impl Watcher for Recording {}
-
 fn with_call(calls: u64, moment: u64, worker: u8, line: u32) -> u64 {
     calls
         .wrapping_mul(31)

@@ -37,9 +37,7 @@ impl Gate for Onlooker<'_> {
     fn before(&self, _worker: u8, _line: u32) {}
 
     fn after(&self, _worker: u8, _line: u32) {}
-}
 
-impl Watcher for Onlooker<'_> {
     fn begins(&self, _round: usize, _rounds: usize) {
         let before = self.seen.load(Ordering::SeqCst);
         let written = self.written.load(Ordering::SeqCst);

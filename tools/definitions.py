@@ -12,7 +12,8 @@ import re
 import sys
 
 TOP = os.path.dirname(os.path.dirname(os.path.abspath(__file__)))
-DEFINED = re.compile(r"(?:pub )?(?:abbrev|record|data|unfoldable|law) (?:pub )?([^\s:({]+)")
+DEFINED = re.compile(r"(?:\s*pub |\s+(?=(?:abbrev|unfoldable) pub )|)(?:abbrev|record|data|unfoldable|law) (?:pub )?"
+                     r"([^\s:({]+)")
 IN_CODE = re.compile(r"\s*pub (?:const |unsafe )*(?:fn|struct|enum|trait|type|const) (\w+)")
 FIELD = re.compile(r"\s+pub ([\w-]+) :")
 CLAUSE = re.compile(r"\s*(?:ensures|requires)?\s*(\w+) \{")

@@ -126,4 +126,7 @@ def main():
 
 
 if __name__ == "__main__":
+    if len(sys.argv) < 2 or {"-h", "--help"} & set(sys.argv):
+        print(__doc__)
+        sys.exit(len(sys.argv) < 2)
     main()

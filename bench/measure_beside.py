@@ -83,4 +83,7 @@ def main(program, folder=None):
 
 
 if __name__ == "__main__":
+    if len(sys.argv) < 2 or {"-h", "--help"} & set(sys.argv):
+        print(__doc__)
+        sys.exit(len(sys.argv) < 2)
     main(*sys.argv[1:])

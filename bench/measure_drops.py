@@ -208,4 +208,7 @@ def main(program, folder="/dev/shm", workers="4"):
 
 
 if __name__ == "__main__":
+    if len(sys.argv) < 2 or {"-h", "--help"} & set(sys.argv):
+        print(__doc__)
+        sys.exit(len(sys.argv) < 2)
     main(*sys.argv[1:])

@@ -4,7 +4,7 @@
 Each run has 65,536 lines over a fresh database in memory, with the tries that a run has of itself. Of each run the
 seconds and the lines that were lost are told, and at the end how many were lost in all. The key's last value is that of
 the lines that committed; else the script ends with 1, as it does where a line was lost.
-Usage: bench/hot_key.py PROGRAM [RUNS [BUSY]], where PROGRAM is the built program; RUNS runs (100) are made beside BUSY
+Usage: tests/hot_key.py PROGRAM [RUNS [BUSY]], where PROGRAM is the built program; RUNS runs (100) are made beside BUSY
 processes (8), which count without an end.
 """
 import os
@@ -52,4 +52,7 @@ def main():
 
 
 if __name__ == "__main__":
+    if len(sys.argv) < 2 or {"-h", "--help"} & set(sys.argv):
+        print(__doc__)
+        sys.exit(len(sys.argv) < 2)
     main()

@@ -3,7 +3,7 @@
 moment, or stopped and let go on; whoever reads what it prints goes away; files may not grow beyond a size, for sizes
 from nothing on; a thread can't be made; and eight processes at once run scripts over one database.
 
-Usage: bench/rough_use.py PROGRAM [TIMES [SEED]], where PROGRAM is the built program, crates/foedus/out/foedus. TIMES is
+Usage: tests/rough_use.py PROGRAM [TIMES [SEED]], where PROGRAM is the built program, crates/foedus/out/foedus. TIMES is
 40 if it is left out. Databases are made in TMPDIR. Status: 0 where all is right, else 1.
 """
 import os
@@ -171,4 +171,7 @@ def main():
 
 
 if __name__ == "__main__":
+    if len(sys.argv) < 2 or {"-h", "--help"} & set(sys.argv):
+        print(__doc__)
+        sys.exit(len(sys.argv) < 2)
     main()

@@ -5,7 +5,7 @@ place; or each of these, drawn for one call after another. Over each such image 
 the last that was told durable by then, with exactly the run through it; each snapshot must have the run through its
 epoch; and one run in some goes on from there.
 
-Usage: bench/stop_images.py PROGRAM [DRAWS [SEED]]. It wants strace. Of each stop so many images are drawn beside the
+Usage: tests/stop_images.py PROGRAM [DRAWS [SEED]]. It wants strace. Of each stop so many images are drawn beside the
 four kinds, 2 if it is left out. Status: 0 where all are right, else 1.
 """
 import os
@@ -217,4 +217,7 @@ def main():
 
 
 if __name__ == "__main__":
+    if len(sys.argv) < 2 or {"-h", "--help"} & set(sys.argv):
+        print(__doc__)
+        sys.exit(len(sys.argv) < 2)
     main()

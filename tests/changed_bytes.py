@@ -2,7 +2,7 @@
 """Changes each byte of a small database, and compares what the program tells with a reading by the documented format
 (tools/vault_format.py, which knows nothing of the program): the rows, or `damaged NAME AT` at the same byte.
 
-Usage: bench/changed_bytes.py PROGRAM [VALUES [FIRST [LAST]]]. Each byte gets so many other values, 3 if it is left out
+Usage: tests/changed_bytes.py PROGRAM [VALUES [FIRST [LAST]]]. Each byte gets so many other values, 3 if it is left out
 and 255 at most: the one with its lowest bit changed, 0, the valid byte 0xA5, and others. FIRST and LAST are the
 databases to take, of three, by their numbers from 0. Each file is also cut by a byte, to half and to nothing, and gets
 a byte more. Status: 0 where all agree, else 1.
@@ -103,4 +103,7 @@ def main():
 
 
 if __name__ == "__main__":
+    if len(sys.argv) < 2 or {"-h", "--help"} & set(sys.argv):
+        print(__doc__)
+        sys.exit(len(sys.argv) < 2)
     main()

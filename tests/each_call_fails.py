@@ -1,7 +1,7 @@
 #!/usr/bin/env python3
 """Makes each call of the system fail once that a run makes on the files of its database, and looks what is told.
 
-    bench/each_call_fails.py PROGRAM
+    tests/each_call_fails.py PROGRAM
 
 It wants strace. Each call of a first run, which makes the database, of a second one over it, of one in brief, of a dump
 and of what tells of snapshots is made to fail with EIO: then the status is 5, the last line is `device NAME` for the
@@ -175,4 +175,7 @@ def main():
 
 
 if __name__ == "__main__":
+    if len(sys.argv) < 2 or {"-h", "--help"} & set(sys.argv):
+        print(__doc__)
+        sys.exit(len(sys.argv) < 2)
     main()

@@ -3,7 +3,7 @@
 answer is checked: status 8 with all that was told by then and `memory`, or the answer of a call to which none was
 refused. After each a dump has what was told durable, and the call is made again.
 
-Usage: bench/refused_memory.py PROGRAM [STEP], where only each STEP-th allocation is refused (1 if it is left out). It
+Usage: tests/refused_memory.py PROGRAM [STEP], where only each STEP-th allocation is refused (1 if it is left out). It
 wants a C compiler, cc, and a system that loads a library by LD_PRELOAD: what the program takes from malloc and realloc
 is counted. Status: 0 where all answers are right, else 1.
 """
@@ -124,4 +124,7 @@ def main():
 
 
 if __name__ == "__main__":
+    if len(sys.argv) < 2 or {"-h", "--help"} & set(sys.argv):
+        print(__doc__)
+        sys.exit(len(sys.argv) < 2)
     main()

@@ -5,7 +5,7 @@ then has a saved epoch that covers each one that was told durable, with exactly 
 snapshot has exactly those of its epoch. The same of runs of several workers and of runs over a tree; and of one
 database whose runs are killed one after another, each as it settles what the one before it left, or in its rounds.
 
-Usage: bench/kill.py PROGRAM [TIMES], where PROGRAM is the built program, crates/foedus/out/foedus. TIMES is 400 if it is
+Usage: tests/kill.py PROGRAM [TIMES], where PROGRAM is the built program, crates/foedus/out/foedus. TIMES is 400 if it is
 left out; the further kinds of runs are killed a quarter as often each.
 """
 import os
@@ -127,4 +127,7 @@ def main():
 
 
 if __name__ == "__main__":
+    if len(sys.argv) < 2 or {"-h", "--help"} & set(sys.argv):
+        print(__doc__)
+        sys.exit(len(sys.argv) < 2)
     main()

@@ -5,7 +5,7 @@ there are gleans and drops. All that is told is replayed by a serial model in or
 scan with a phantom is found; and dumps tell what the model has. Then it prints how long the runs took, how many
 transactions committed, and how many lines were refused, and why.
 
-Usage: bench/large_tree.py PROGRAM [KEYS [LINES [SEED]]], where PROGRAM is the built program, crates/foedus/out/foedus.
+Usage: tests/large_tree.py PROGRAM [KEYS [LINES [SEED]]], where PROGRAM is the built program, crates/foedus/out/foedus.
 KEYS and LINES are 100,000 each if they are left out. The database is made in TMPDIR. Status: 0 where all is right, else
 1, and the folder of the database stays.
 """
@@ -174,4 +174,7 @@ def main():
 
 
 if __name__ == "__main__":
+    if len(sys.argv) < 2 or {"-h", "--help"} & set(sys.argv):
+        print(__doc__)
+        sys.exit(len(sys.argv) < 2)
     main()

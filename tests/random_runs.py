@@ -10,7 +10,7 @@ one, and of trees those that the same model keeps.
 Some runs are killed at a random moment: what is kept then is the state through an epoch that covers what was told
 durable. Three to six runs in a row use one database.
 
-Usage: bench/random_runs.py PROGRAM [CHAINS [SEED [LINES]]], where PROGRAM is the built program,
+Usage: tests/random_runs.py PROGRAM [CHAINS [SEED [LINES]]], where PROGRAM is the built program,
 crates/foedus/out/foedus. CHAINS, 20 if it is left out, is how many databases are made; LINES, 150 if it is left out,
 the most lines of a worker in a round. Databases are made in TMPDIR. Status: 0 where all is right, else 1, and the
 folder of the run that isn't stays.
@@ -676,4 +676,7 @@ def main():
 
 
 if __name__ == "__main__":
+    if len(sys.argv) < 2 or {"-h", "--help"} & set(sys.argv):
+        print(__doc__)
+        sys.exit(len(sys.argv) < 2)
     main()

@@ -1,5 +1,5 @@
 // Refuses the allocation of the number that REFUSE_NTH gives, from 1 on, and makes the file of REFUSE_MARK as it does.
-// Loaded by LD_PRELOAD; bench/refused_memory.py builds it.
+// Loaded by LD_PRELOAD; tests/refused_memory.py builds it.
 #define _GNU_SOURCE
 #include <dlfcn.h>
 #include <errno.h>

@@ -2,10 +2,10 @@
 """Changes each byte of a small database, and compares what the program tells with a reading by the documented format
 (tools/vault_format.py, which knows nothing of the program): the rows, or `damaged NAME AT` at the same byte.
 
-Usage: tests/changed_bytes.py PROGRAM [VALUES [FIRST [LAST]]]. Each byte gets so many other values, 3 if it is left out
-and 255 at most: the one with its lowest bit changed, 0, the valid byte 0xA5, and others. FIRST and LAST are the
-databases to take, of three, by their numbers from 0. Each file is also cut by a byte, to half and to nothing, and gets
-a byte more. Status: 0 where all agree, else 1.
+Usage: tests/changed_bytes.py PROGRAM [VALUES [FIRST [LAST [STEP]]]]. Each byte gets so many other values, 3 if it is
+left out and 255 at most: the one with its lowest bit changed, 0, the valid byte 0xA5, and others. FIRST and LAST are
+the databases to take, of three, by their numbers from 0. With STEP only each STEP-th byte is changed. Each file is also
+cut by a byte, to half and to nothing, and gets a byte more. Status: 0 where all agree, else 1.
 """
 import os
 import subprocess
@@ -51,9 +51,9 @@ def values_of(byte, count):
     return [value for place, value in enumerate(every) if value != byte and value not in every[:place]][:count]
 
 
-def contents_of(content, count):
+def contents_of(content, count, every):
     """The file with each byte changed, and with other lengths, each with what was done."""
-    for at, byte in enumerate(content):
+    for at, byte in list(enumerate(content))[::every]:
         for value in values_of(byte, count):
             yield f"byte {at} is {value}", content[:at] + bytes([value]) + content[at + 1:]
     for length in sorted({0, len(content) // 2, max(len(content) - 1, 0)} - {len(content)}):
@@ -61,13 +61,13 @@ def contents_of(content, count):
     yield "a byte more", content + b"\0"
 
 
-def try_file(folder, name, count):
+def try_file(folder, name, count, every):
     """How many changes there were, and of how many damage was told."""
     path = f"{folder}/vault/{name}"
     with open(path, "rb") as file:
         content = file.read()
     tried = damaged = 0
-    for what, changed in contents_of(content, count):
+    for what, changed in contents_of(content, count, every):
         with open(path, "wb") as file:
             file.write(changed)
         wanted, got = reading(folder), call(folder, "dump")
@@ -80,14 +80,14 @@ def try_file(folder, name, count):
     return tried, damaged
 
 
-def try_database(number, count):
+def try_database(number, count, every):
     tried = damaged = 0
     with tempfile.TemporaryDirectory() as folder:
         for script in DATABASES[number]:
             status, text = call(folder, "run", script=script)
             assert status == 0, text
         for name in FILES:
-            more = try_file(folder, name, count)
+            more = try_file(folder, name, count, every)
             tried, damaged = tried + more[0], damaged + more[1]
     print(f"database {number}: {tried} changes, damage told of {damaged}, all as by the format", flush=True)
 
@@ -97,9 +97,10 @@ def main():
     if len(sys.argv) < 2:
         sys.exit(__doc__)
     PROGRAM = os.path.abspath(sys.argv[1])
-    count, first, last = [int(word) for word in sys.argv[2:]] + [3, 0, len(DATABASES) - 1][len(sys.argv) - 2:]
+    words = [int(word) for word in sys.argv[2:]]
+    count, first, last, every = words + [3, 0, len(DATABASES) - 1, 1][len(words):]
     for number in range(first, last + 1):
-        try_database(number, count)
+        try_database(number, count, every)
 
 
 if __name__ == "__main__":

@@ -17,6 +17,7 @@ import tempfile
 import time
 
 ROUNDS = 600
+EDGES = [0, 1, 511, 512, 513, 1023, 1024, 1025]  # sizes of files
 DECLARED = "array 1 200\n"
 KEPT = "k glean\nk drop\n"
 # Each round adds 1 to keys of their own leaves, by three workers; so each epoch has itself as these values.
@@ -158,16 +159,16 @@ def main():
         print(f"{times} runs got {number.name}, {ended} of them before their end: each next dump was right", flush=True)
     left = sum(in_folder(reader_leaves, draw) for _ in range(times))
     print(f"{times} runs lost their reader, {left} of them were told so: each next dump was right", flush=True)
-    sizes = sorted({0, 1, 511, 512, 513, 1023, 1024, 1025, *(draw.randrange(60000) for _ in range(times))})
+    sizes = sorted({*(EDGES if times > 1 else [512]), *(draw.randrange(60000) for _ in range(times))})
     met = sum(in_folder(small_files, size) for size in sizes)
     print(f"{len(sizes)} runs whose files may not grow beyond a size, {met} met it: each was told, and the next went "
           "on", flush=True)
     if shutil.which("strace"):
         refused = sum(in_folder(without_thread, when) for when in ("1", "2", "3", "5", "1+", "4+"))
         print(f"6 runs, of which {refused} were refused threads: all lines were run", flush=True)
-    refused = in_folder(at_once, 8, 10)
-    print(f"8 processes ran 10 scripts each over one database, and were refused {refused} times meanwhile: each run "
-          "counts once", flush=True)
+    refused = in_folder(at_once, 8, min(times, 10))
+    print(f"8 processes ran {min(times, 10)} scripts each over one database, and were refused {refused} times meanwhile: "
+          "each run counts once", flush=True)
 
 
 if __name__ == "__main__":

@@ -1,6 +1,7 @@
 #!/bin/sh
 # Tries what stands round the proved program: the launcher, the release, the tools, the program's edges as the system
-# shows them, stops of the machine behind a killed run, and the sessions of README and docs/SCRIPTS.md to the letter.
+# shows them, the ways of use on which a database comes to an end and the ways out, kills, stops of the machine, refused
+# calls and memory, changed bytes, in short, and the sessions of README and docs/SCRIPTS.md to the letter.
 # `rt ci` tries none of these. The program is the one that the launcher takes: where the shipped one is of the sources
 # that are here, no toolchain is needed. What wants the toolchain, Python 3 or strace is left out, with a word, where that
 # is missing.
@@ -31,6 +32,12 @@ try() {
 sessions() {
     if [ -n "$given" ]; then set -- --program "$given" "$@"; fi
     TMPDIR=$memory python3 "$top/tests/console.py" "$@"
+}
+
+# A short form of what tries the program by kills, stops, refusals and damage; with other words each tries much more.
+try_short() {
+    name=$1 && shift
+    try "$name, in short" env TMPDIR="$memory" python3 "$top/tests/$name.py" "$program" "$@"
 }
 
 # shellcheck disable=SC2317 # called by `try`
@@ -69,10 +76,23 @@ fi
 try paths python3 "$top/tests/paths.py"
 try tools env TMPDIR="$memory" python3 "$top/tests/tools.py" "$program"
 try edges python3 "$top/tests/edges.py" "$program"
+try "ways of use" env TMPDIR="$memory" python3 "$top/tests/ways.py" "$program"
+try_short kill 4
+try_short rough_use 1
+try_short random_runs 2 1 60
+try_short changed_bytes 1 0 2 100
+try_short hot_key 1 4 1000000
+if command -v cc >/dev/null; then
+    try_short refused_memory 100
+else
+    echo "tests: there is no C compiler, so tests/refused_memory.py isn't tried"
+fi
 if command -v strace >/dev/null; then
+    try_short stop_images 0 41 12
+    try_short each_call_fails 40
     try "stops behind a kill" python3 "$top/tests/after_a_kill.py" "$program"
 else
-    echo "tests: there is no strace, so tests/after_a_kill.py isn't tried"
+    echo "tests: there is no strace, so after_a_kill.py, stop_images.py and each_call_fails.py of tests/ aren't tried"
 fi
 try "README, three minutes" sessions "$top/README.md" "Three minutes"
 try docs/SCRIPTS.md sessions "$top/docs/SCRIPTS.md"

@@ -5,8 +5,8 @@ place; or each of these, drawn for one call after another. Over each such image 
 the last that was told durable by then, with exactly the run through it; each snapshot must have the run through its
 epoch; and one run in some goes on from there.
 
-Usage: tests/stop_images.py PROGRAM [DRAWS [SEED]]. It wants strace. Of each stop so many images are drawn beside the
-four kinds, 2 if it is left out. Status: 0 where all are right, else 1.
+Usage: tests/stop_images.py PROGRAM [DRAWS [SEED [STEP]]]. It wants strace. Of each stop so many images are drawn beside
+the four kinds, 2 if it is left out; with STEP only each STEP-th stop is tried. Status: 0 where all are right, else 1.
 """
 import os
 import random
@@ -181,7 +181,7 @@ def check_image(folder, left, states, told, runs_on, where):
             sys.exit(f"{where}, and then a run: {status}, {text!r}")
 
 
-def try_run(what, before, rounds, draws, draw):
+def try_run(what, before, rounds, draws, draw, step):
     states = states_of(before, rounds)
     with tempfile.TemporaryDirectory() as folder:
         assert call(folder, "dump")[0] == 0
@@ -193,6 +193,8 @@ def try_run(what, before, rounds, draws, draw):
         for number, event in enumerate([None, *calls]):
             if event:
                 stops.add(event)
+            if number % step:
+                continue
             for kind in [*KINDS, *[None] * draws]:
                 where = f"{what}: behind {number} calls, {kind or 'drawn'}"
                 check_image(folder, stops.image(kind, draw), states, stops.told(), count % EVERY == 0, where)
@@ -212,8 +214,9 @@ def main():
     if shutil.which("strace") is None:
         print("left out: there is no strace")
         return
+    step = int(sys.argv[4]) if len(sys.argv) > 4 else 1
     for what, before, rounds in RUNS:
-        try_run(what, before, rounds, draws, draw)
+        try_run(what, before, rounds, draws, draw, step)
 
 
 if __name__ == "__main__":

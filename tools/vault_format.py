@@ -93,15 +93,18 @@ def number_of(word):
 
 
 class Vault:
-    """A database directory. `savepoint` is None for a fresh one, of which nothing counts."""
+    """A database directory. `savepoint` is None for a fresh one, of which nothing counts. Where `is_locked`, the caller
+    keeps running programs away; else this object does as long as it lives."""
 
-    def __init__(self, folder):
+    def __init__(self, folder, is_locked=False):
         self.folder = folder
+        self.is_locked = is_locked
         self.lock = None
         save = self.content("save")
         self.savepoint = read_savepoint(os.path.join(folder, "save"), save)
         self.places = ["open" if save[place * PLACE] == VALID else "closed" for place in (0, 1)]
         self.pages, self.length, self.snapshots, self.log_files = [], 0, [], []
+        self.levels = {}  # of each tree of the newest snapshot
         if self.savepoint is not None:
             self.read_counted()
 
@@ -110,11 +113,11 @@ class Vault:
             os.close(self.lock)
 
     def content(self, name):
-        """All bytes of a file. The savepoint's is locked against a running program as long as this object lives."""
+        """All bytes of a file. The savepoint's is locked, as `is_locked` says."""
         path = os.path.join(self.folder, name)
         try:
             with open(path, "rb") as file:
-                if name == "save":
+                if name == "save" and not self.is_locked:
                     self.lock = os.dup(file.fileno())
                     fcntl.flock(self.lock, fcntl.LOCK_SH | fcntl.LOCK_NB)
                 return file.read()
@@ -131,7 +134,7 @@ class Vault:
             raise Unreadable(f"{self.folder}/snaps", f"{point.catalogue} pages count", len(snaps))
         self.pages = [words_of(snaps[PLACE * n : PLACE * (n + 1)]) for n in range(point.catalogue)]
         self.snapshots = list(reversed(list(self.catalogues())))
-        self.kept, self.kinds = self.content_of(self.snapshots[-1])
+        self.kept, self.kinds = self.content_of(self.snapshots[-1], self.levels)
         self.log_files = [self.log_file(number) for number in range(FILES)]
 
     def damaged(self, page, why):
@@ -152,12 +155,15 @@ class Vault:
             yield snapshot
             page, limit, declared = previous, snapshot.epoch, storages
 
-    def content_of(self, snapshot):
-        """The records of a snapshot, as a number and a value by storage and key, and its pages by kind."""
+    def content_of(self, snapshot, levels=None):
+        """The records of a snapshot, as a number and a value by storage and key, and its pages by kind. How many levels
+        of pages each tree has is put into `levels`."""
         records, kinds = {}, Pages()
         for storage in snapshot.storages:
             if storage.size is None:
-                self.read_tree(storage, snapshot.epoch, records, kinds)
+                deepest = self.read_tree(storage, snapshot.epoch, records, kinds)
+                if levels is not None:
+                    levels[storage.id] = deepest
             else:
                 self.read_array(storage, snapshot.epoch, records, kinds)
         return records, kinds
@@ -189,12 +195,13 @@ class Vault:
             below += reversed(children)
 
     def read_tree(self, storage, epoch, records, kinds):
-        """A page stands for a range of keys: the root for all of them."""
-        below = [(storage.root, 0, WHOLE - 1, 1)]
+        """A page stands for a range of keys: the root for all of them. Answers how deep the lowest page stands."""
+        below, deepest = [(storage.root, 0, WHOLE - 1, 1)], 0
         while below:
             page, low, high, depth = below.pop()
             if page == 0:
                 continue
+            deepest = max(deepest, depth)
             words = self.pages[page - 1]
             kind, count = words[0] >> 8, words[0] & 255
             if words[1:3] != (low, high) or depth > DEEPEST:
@@ -213,6 +220,7 @@ class Vault:
                 below += reversed([(words[4 + n], lows[n], highs[n], depth + 1) for n in range(count)])
             else:
                 raise self.damaged(page, "no leaf and no interior page of a tree")
+        return deepest
 
     def is_inner(self, page, words, count):
         cuts = [words[1], *words[34 : 33 + count]]

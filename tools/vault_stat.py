@@ -1,6 +1,7 @@
 #!/usr/bin/env python3
 """Tells what a database directory has in it, read from its files alone, as docs/FORMATS.md describes them: the saved
-epoch and the savepoint, the storages, the snapshots with their pages, and the log files with the commits that count.
+epoch and the savepoint, the storages, the snapshots with their pages, the log files with the commits that count, and
+how much is left of epochs, of pages, and of the levels of each tree (docs/TREES.md, "Limits, and what to do").
 
 Usage: tools/vault_stat.py [--rows] [FOLDER], where FOLDER is `vault` if it is left out. With --rows it prints what
 `foedus dump` does. Nothing is changed, and a database that a running program has is refused. Status: 0; 1 where a file
@@ -9,7 +10,9 @@ can't be had or isn't in its format, which standard error names; 2 for other wor
 import sys
 
 from rows import Refused, write_out
-from vault_format import Unreadable, Vault
+from vault_format import DEEPEST, LAST_SAVED, MOST_PAGES, Unreadable, Vault
+
+USUAL_PAGES = 4096  # that a run lets in where --snap is left out
 
 
 def rows_of(vault):
@@ -28,7 +31,7 @@ def lines_of(vault):
         what = "tree; keys:" if storage.size is None else f"array of {storage.size}; values that aren't 0:"
         told.append(f"storage {storage.id}: {what} {count}")
     told += snapshots_of(vault)
-    return told + [line_of(file) for file in vault.log_files]
+    return told + [line_of(file) for file in vault.log_files] + left_of(vault)
 
 
 def snapshots_of(vault):
@@ -44,6 +47,21 @@ def snapshots_of(vault):
         f"trees {kinds.tree_leaves} leaves and {kinds.tree_inner} interior"
     )
     return told + [f"pages: {len(vault.pages)} count, in {vault.length} bytes"]
+
+
+def left_of(vault):
+    """What is left until a run ends in `limit epoch`, `limit snap` or `limit height`, as of the newest snapshot: what
+    counts in the log files has no pages yet."""
+    epoch, pages = vault.savepoint.epoch, len(vault.pages)
+    usual = f"{USUAL_PAGES - pages} where --snap is left out" if pages <= USUAL_PAGES else "a run wants --snap already"
+    told = [
+        f"left: {LAST_SAVED - epoch} epochs of {LAST_SAVED + 1}",
+        f"left: {MOST_PAGES - pages} pages of {MOST_PAGES}; {usual}",
+    ]
+    told += [f"left: {DEEPEST - deep} levels of {DEEPEST}, of tree {id}" for id, deep in vault.levels.items()]
+    if any(commit[0][0] > vault.snapshots[-1].epoch for file in vault.log_files for commit in file.commits):
+        told.append("the next run takes pages for what counts in the log files")
+    return told
 
 
 def line_of(file):

@@ -1,7 +1,7 @@
 #!/usr/bin/env python3
 """Makes each call of the system fail once that a run makes on the files of its database, and looks what is told.
 
-Usage: tests/each_call_fails.py PROGRAM [EVERY], where only each EVERY-th call fails, all if it is left out.
+Usage: tests/each_call_fails.py PROGRAM [EVERY], where only each EVERY-th kind of calls on each file fails.
 
 It wants strace. Each call of a first run, which makes the database, of a second one over it, of one in brief, of a dump
 and of what tells of snapshots is made to fail with EIO: then the status is 5, the last line is `device NAME` for the
@@ -84,7 +84,7 @@ def try_call(name, call, start, words, script, kept):
     """Makes each such call on a file fail once, and answers how many there were."""
     path = os.path.join(os.getcwd(), "vault", name) if name else os.path.join(os.getcwd(), "vault")
     count = 0
-    for when in range(1, 1000 * EVERY, EVERY):
+    for when in range(1, 1000):
         fresh(start)
         came = run(words, script, (call, "EIO", when), path)
         if not came[3]:
@@ -118,14 +118,14 @@ def try_stream(call, name, start, words, script, kept):
     fresh(start)
     whole = run(words, script)[1]
     path = os.path.join(os.getcwd(), name)
-    for when in range(1, 1000 * EVERY, EVERY):
+    for when in range(1, 1000):
         for error in ("EIO", "EINTR"):
             fresh(start)
             status, text, failed = run_with_files(words, script, (call, error, when), path)
             where = f"{call} {name} {when}: {error}: status {status}, {text!r}"
             if not failed:
                 assert status == 0 and text == whole, where
-                return when // EVERY
+                return when - 1
             if error == "EINTR":
                 assert status == 0 and text == whole, where
             elif call == "read":
@@ -140,10 +140,8 @@ def try_stream(call, name, start, words, script, kept):
 def try_run(what, start, words, script, kept):
     """Makes each call of a run fail once."""
     total = 0
-    for name in FILES:
-        for call in CALLS:
-            count = try_call(name, call, start, words, script, kept)
-            total += count
+    for name, call in [(name, call) for name in FILES for call in CALLS][::EVERY]:
+        total += try_call(name, call, start, words, script, kept)
     print(f"{what}: {total} calls, each failed once and was told", flush=True)
 
 

@@ -89,7 +89,7 @@ else
 fi
 if command -v strace >/dev/null; then
     try_short stop_images 0 41 12
-    try_short each_call_fails 40
+    try_short each_call_fails 17
     try "stops behind a kill" python3 "$top/tests/after_a_kill.py" "$program"
 else
     echo "tests: there is no strace, so after_a_kill.py, stop_images.py and each_call_fails.py of tests/ aren't tried"

@@ -127,6 +127,10 @@ class Reading(Folder):
             "snapshot of epoch 1: catalogue at page 5, 4 added",
             "pages of the newest snapshot: arrays 1 leaves and 1 interior, trees 1 leaves and 0 interior",
             "pages: 5 count, in [0-9]+ bytes",
+            "left: 1048570 epochs of 1048574",
+            "left: 65531 pages of 65536; 4091 where --snap is left out",
+            "left: 31 levels of 32, of tree 2",
+            "the next run takes pages for what counts in the log files",
             "log file bank[67]: 40 of 40 bytes count, 1 lines, numbers 3:3 to 3:3",
         ):
             self.assertRegex(told, f"(?m)^{line}$")
@@ -320,11 +324,12 @@ class Commands(Folder):
 
 
 class Refusing(Folder):
-    """What can't be used is named with its line, and nothing is printed."""
+    """What can't be used is named with its line, and nothing is printed; but into a pipe by load.py what no run takes."""
 
     def refuses(self, words, text, *told):
         status, printed, errors = tool(self.folder, *words, text=text)
-        self.assertEqual((status, printed, "Traceback" in errors), (1, "", False), f"{words} {text!r}: {errors}")
+        shown = "load failed\n" if words[0] == "load.py" else ""
+        self.assertEqual((status, printed, "Traceback" in errors), (1, shown, False), f"{words} {text!r}: {errors}")
         for part in told:
             self.assertIn(part, errors)
 

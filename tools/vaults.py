@@ -1,4 +1,4 @@
-"""What the tools that copy or exchange a whole database have in common: its folder, its lock, and calls of the program."""
+"""What the tools that copy or exchange a whole database have in common: its folder, its lock, the program's calls."""
 from __future__ import annotations
 
 import fcntl

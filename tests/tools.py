@@ -324,7 +324,7 @@ class Commands(Folder):
 
 
 class Refusing(Folder):
-    """What can't be used is named with its line, and nothing is printed; but into a pipe by load.py what no run takes."""
+    """What can't be used is named with its line, and nothing is printed, but by load.py what no run takes."""
 
     def refuses(self, words, text, *told):
         status, printed, errors = tool(self.folder, *words, text=text)

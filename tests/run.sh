@@ -80,6 +80,7 @@ try "ways of use" env TMPDIR="$memory" python3 "$top/tests/ways.py" "$program"
 try_short kill 4
 try_short rough_use 1
 try_short random_runs 2 1 60
+try_short large_tree 2000 2000
 try_short changed_bytes 1 0 2 100
 try_short hot_key 1 4 1000000
 if command -v cc >/dev/null; then

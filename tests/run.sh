@@ -55,6 +55,12 @@ compare_release() {
     return "$status"
 }
 
+# shellcheck disable=SC2317 # called by `try`
+# Documents get read where they are short: README and all of docs/ have at most 200,000 bytes, pictures apart.
+documents_are_short() {
+    [ "$(cat "$top/README.md" "$top"/docs/*.md "$top/docs/foedus.1" | wc -c)" -le 200000 ]
+}
+
 # Databases for a while are made in memory, where there is a folder for that: a busy disk may take a second a sync.
 memory=${TMPDIR:-/tmp}
 if [ -d /dev/shm ] && [ -w /dev/shm ]; then memory=/dev/shm; fi
@@ -95,6 +101,8 @@ if command -v strace >/dev/null; then
 else
     echo "tests: there is no strace, so after_a_kill.py, stop_images.py and each_call_fails.py of tests/ aren't tried"
 fi
+try "sizes of the documents" documents_are_short
+try "pictures of the documents" python3 "$top/bench/draw.py" --check
 try "README, three minutes" sessions "$top/README.md" "Three minutes"
 try docs/SCRIPTS.md sessions "$top/docs/SCRIPTS.md"
 exit "$failed"

@@ -29,6 +29,8 @@ use Rattle.tx_sets.specs.Gathered.{AreEmpty}
 use Rattle.engine_pages.specs.declared.layout.Layout.{Layout}
 use Rattle.engine_pages.specs.declared.view.RefusalCause.{RefusalCause}
 use Rattle.engine_pages.specs.declared.view.RefusalCause.TheVariants as refusals
+use Rattle.engine_pages.specs.declared.view.SetName.{SetName}
+use Rattle.engine_pages.specs.declared.view.SetName.TheVariants as names
 use Rattle.engine_pages.specs.declared.view.View.{View}
 use Rattle.engine_pages.specs.Pages.{is_tree}
 use Rattle.engine_seats.specs.Cuts.{HasSeen}
@@ -42,11 +44,13 @@ use Rattle.page_commit.proofs.TurnLaws.{walks_then}
 use Rattle.page_commit.specs.Calls.{op_holds}
 use Rattle.page_commit.specs.Running.{HasRun, HasEnded}
 use Rattle.page_commit.specs.RunLaws.{goes_on_run, ends_run}
-use Rattle.tx_runner.specs.Lines.{keeps, op_steps, HasTreeOp, IsOfKey, IsOnTree}
-use Rattle.tx_runner.specs.Steps.{AreKeysOf, AreSized, AreWithin, HasAnswered, HasAnsweredAll, IsCauseAmong, IsOpCause}
-use Rattle.tx_runner.specs.Steps.{IsOpWhy, IsWhyAmong, OnlyLoaded, OpEndsIt, OpGoesOn}
-use Rattle.tx_runner.specs.Tries.{IsWayWord, TouchesOnly}
-use Rattle.tx_runner.proofs.Arrays.{on_either, op_meets, op_no_tree, read_at_key, written_at, IsOnArray}
+use Rattle.tx_runner.specs.Lines.{keeps, op_steps, HasTreeOp, HasTreeScan, IsOfKey, IsOnTree, IsTreeScan}
+use Rattle.tx_runner.specs.Steps.{AreCounted, AreFewMet, AreKeysOf, AreSized, AreWithin, HasAnswered, HasAnsweredAll}
+use Rattle.tx_runner.specs.Steps.{IsCauseAmong, IsOpCause, IsOpWhy, IsOpWide, IsWhyAmong, OnlyLoaded, OpEndsIt}
+use Rattle.tx_runner.specs.Steps.{OpGoesOn}
+use Rattle.tx_runner.specs.Tries.{FillsSet, IsWayWord, TouchesOnly}
+use Rattle.tx_runner.proofs.Arrays.{on_either, op_meets, op_no_tree, read_at_key, scans_or_meets, written_at}
+use Rattle.tx_runner.proofs.Arrays.{IsOnArray}
 use Rattle.tx_runner.proofs.Causes.{conflict_since, full_since, header_word, met_word}
 use Rattle.tx_runner.proofs.Sums.{sum_more, sum_within}
 use Rattle.tx_runner.proofs.Touched.{done_locked, only_one, touches_then, touches_wider, untouched}
@@ -150,6 +154,26 @@ within_more m n sets le few = record {
   headers = few.headers;
   holds = let old : length sets.holds ≤ 6 * m = few.holds in
       let now : length sets.holds ≤ 6 * n = omega (arith, le, old) in now;
+}
+
+-- ---- how many there are, on arrays and trees
+
+none_counted : (ops : List Op) (sets : Sets) (v : View) → AreEmpty sets → AreCounted ops 0 sets v
+none_counted ops sets v empty =
+    let none = none_within sets empty in
+    let headers = none.headers in record {
+      writes = none.writes;
+      met = inr (record { reads = none.reads; pointers = none.pointers; headers = omega (arith, headers) });
+    }
+
+-- one that is no scan meets one of each kind at most
+met_more : (op : Op) (sets new : Sets) (v w : View) (n : ℕ) → meets_most op ≡ 1
+    → ReadsOnly v.layout.decls op sets.reads new.reads → MeetsOnly w op sets.pointers new.pointers
+    → HeadsOnly w op sets.headers new.headers → AreFewMet n sets → AreFewMet (n + 1) new
+met_more op sets new v w n one reads pointers headers few = record {
+  reads = more_than (IsReadBy v.layout.decls op) (meets_most op) sets.reads new.reads n reads one few.reads;
+  pointers = more_than (IsPointerOf w op) (meets_most op) sets.pointers new.pointers n pointers one few.pointers;
+  headers = let most = headers.few in omega (arith, most, one, few.headers);
 }
 
 -- ---- which keys
@@ -326,6 +350,7 @@ pub record HasRunSome (ops : List Op) (done : ℕ) (replies : List Reply) (sets 
   pub live : IsLive sets w
   pub only : OnlyLoaded ops v w
   pub sized : AreSized ops done sets v
+  pub counted : AreCounted ops done sets v
   pub steps : w.steps ≤ v.steps + sum_by (op_steps v.layout.decls v.layout.slots) (take done ops)
   pub run : HasRun (take done ops) replies sets w
   pub keys : AreKeysOf w.layout (take done ops) sets
@@ -338,6 +363,7 @@ run_none ops replies sets v none live empty run = record {
   live = live;
   only = nothing_loaded ops v;
   sized = inr (none_within sets empty);
+  counted = none_counted ops sets v empty;
   steps = omega arith;
   run = subst (λ l. HasRun [] l sets v) (sym none) run;
   keys = no_keys v.layout (take 0 ops) sets empty;
@@ -379,6 +405,33 @@ tree_op ops d i u v less l on = (
   subst (λ (y : Layout). IsOnTree y.decls (get_or ops i d)) (loaded_layout ops u v l) on,
 )
 
+-- so it scans one
+tree_scan : (ops : List Op) (d : Op) (i : ℕ) (u v : View) → i < length ops → OnlyLoaded ops u v
+    → IsTreeScan v.layout.decls (get_or ops i d) → HasTreeScan u.layout.decls ops
+tree_scan ops d i u v less l scan = (
+  get_or ops i d,
+  in_taken ops (get_or ops i d) (i + 1) (among_take ops d i less),
+  subst (λ (y : Layout). IsTreeScan y.decls (get_or ops i d)) (loaded_layout ops u v l) scan,
+)
+
+-- how many there are behind one operation more
+counted_then : (ops : List Op) (d : Op) (done : ℕ) (sets new : Sets) (u v w : View) → done < length ops
+    → OnlyLoaded ops u v → IsTrue (fits v.layout.decls (get_or ops done d))
+    → ReadsOnly v.layout.decls (get_or ops done d) sets.reads new.reads
+    → length new.writes ≤ length sets.writes + 1 → MeetsOnly w (get_or ops done d) sets.pointers new.pointers
+    → HeadsOnly w (get_or ops done d) sets.headers new.headers → AreCounted ops done sets u
+    → AreCounted ops (done + 1) new u
+counted_then ops d done sets new u v w less l fit reads writes pointers headers few = record {
+  writes = omega (arith, writes, few.writes);
+  met = elim few.met [
+    | inl scan ↦ inl scan
+    | inr least ↦ elim (scans_or_meets v.layout.decls (get_or ops done d) fit) [
+      | inl scan ↦ inl (tree_scan ops d done u v less l scan)
+      | inr one ↦ inr (met_more (get_or ops done d) sets new v w done one reads pointers headers least)
+    ]
+  ];
+}
+
 -- the sizes of the sets behind one operation more
 sized_then : (ops : List Op) (d : Op) (done : ℕ) (sets new : Sets) (u v w : View) → done < length ops
     → OnlyLoaded ops u v → IsTrue (fits v.layout.decls (get_or ops done d))
@@ -411,6 +464,8 @@ run_more ops d done old now sets new u v w less fit h g most grows =
       sized = sized_then ops d done sets new u v w less h.only fit grows h.sized (λ on more few.
           sized_more op sets new v w done on g.done.only g.done.reads g.done.grows g.done.pointers g.done.headers more
           few);
+      counted = counted_then ops d done sets new u v w less h.only fit g.done.reads g.done.grows g.done.pointers
+          g.done.headers h.counted;
       steps = took_more ops d done u v w less h.only h.steps most;
       run = subst (λ l. HasRun l now new w) (sym (take_more ops done d less))
           (subst (λ l. HasRun (take done ops ++ op ∷ []) l new w) (sym g.replies)
@@ -543,9 +598,9 @@ run_all ops done replies sets v w all h = record {
 
 -- an operation was refused, behind others
 pub cause_among : (ops : List Op) (d : Op) (i : ℕ) (sets : Sets) (why : RefusalCause) (u v w : View) → i < length ops
-    → length ops ≤ 16 → OnlyLoaded ops u v → AreSized ops i sets u → IsOpCause (get_or ops i d) sets why v w
-    → IsCauseAmong ops why u w
-cause_among ops d i sets why u v w less most l sized c =
+    → length ops ≤ 16 → OnlyLoaded ops u v → AreSized ops i sets u → AreCounted ops i sets u
+    → IsOpCause (get_or ops i d) sets why v w → IsCauseAmong ops why u w
+cause_among ops d i sets why u v w less most l sized counted c =
     let here : Contains ops (get_or ops i d) = in_taken ops (get_or ops i d) (i + 1) (among_take ops d i less) in
     record {
       op = get_or ops i d;
@@ -556,16 +611,31 @@ cause_among ops d i sets why u v w less most l sized c =
       cause = by_why why c.cause;
     }
   where
-    no_wide : AreSized ops i sets u → (AreWithin 15 sets → ⊥) → HasTreeOp u.layout.decls ops
-    no_wide (inl tree) more = tree
-    no_wide (inr few) more = absurd (more (within_more i 15 sets (omega (arith, less, most)) few))
+    wide_among : (set : SetName) → IsOpWide v.layout.decls (get_or ops i d) sets set → FillsSet u.layout.decls ops set
+    wide_among names.Reads (inl scan) = tree_scan ops d i u v less l scan
+    wide_among names.Reads (inr full) = elim counted.met [
+      | inl scan ↦ scan
+      | inr few ↦ absurd (omega (arith, full, less, most, few.reads, few.headers))
+    ]
+    wide_among names.Writes full = absurd (omega (arith, full, less, most, counted.writes))
+    wide_among names.Pointers (inl scan) = tree_scan ops d i u v less l scan
+    wide_among names.Pointers (inr full) = elim counted.met [
+      | inl scan ↦ scan
+      | inr few ↦ absurd (omega (arith, full, less, most, few.pointers))
+    ]
+    wide_among names.Holds (inl tree) = tree_op ops d i u v less l tree
+    wide_among names.Holds (inr full) = elim sized [
+      | inl tree ↦ tree
+      | inr few ↦
+          let high : 128 ≤ length sets.holds + 6 = full in
+          let held : length sets.holds ≤ 6 * i = few.holds in absurd (omega (arith, high, held, less, most))
+    ]
 
     by_why : (y : RefusalCause) → IsOpWhy (get_or ops i d) sets y v w → IsWhyAmong ops (get_or ops i d) y u w
     by_why (refusals.Conflict at expected seen) c =
         conflict_since (get_or ops i d) at expected seen u v w l.walked c
     by_why (refusals.Full told) c = full_since (get_or ops i d) told u v w l.walked c
-    by_why (refusals.Wide set) (inl tree) = tree_op ops d i u v less l tree
-    by_why (refusals.Wide set) (inr more) = no_wide sized more
+    by_why (refusals.Wide set) c = wide_among set c
     by_why (refusals.NumberLimit clock) c = absurd c
 
 -- ---- by index

@@ -10,7 +10,7 @@ use Rattle.engine_pages.specs.Pages.{decl_of, is_array, is_tree}
 use Rattle.engine_pages.specs.Pointers.{one_kind}
 use Rattle.page_commit.specs.Below.{IsArrayKey}
 use Rattle.page_commit.specs.Turning.{meets_most, MayRead, MayWrite}
-use Rattle.tx_runner.specs.Lines.{IsOfKey, IsOnTree}
+use Rattle.tx_runner.specs.Lines.{IsOfKey, IsOnTree, IsTreeScan}
 use Rattle.tx_runner.proofs.StorageKinds.{kind_of_key}
 
 -- the operation is one at a key of a declared array
@@ -68,7 +68,16 @@ pub op_no_tree : (decls : List Decl) (op : Op) (k : Key) → IsOnArray decls op 
     → is_tree decls k.storage ≡ true → ⊥
 op_no_tree decls op k on may tree = one_kind (decl_of decls k.storage) (op_array decls op k on may) tree
 
--- it meets one record, one pointer at most
+-- an operation that fits scans a tree, or meets one record, one pointer and one header at most
+pub scans_or_meets : (decls : List Decl) (op : Op) → IsTrue (fits decls op) → IsTreeScan decls op ⊎ (meets_most op ≡ 1)
+scans_or_meets decls (Read q) fit = inr refl
+scans_or_meets decls (Write q value) fit = inr refl
+scans_or_meets decls (Remove q) fit = inr refl
+scans_or_meets decls (Add q amount) fit = inr refl
+scans_or_meets decls (Take q amount) fit = inr refl
+scans_or_meets decls (Scan storage low high) fit = inl fit
+
+-- on an array it meets one record, one pointer at most
 pub op_meets : (decls : List Decl) (op : Op) → IsOnArray decls op → meets_most op ≡ 1
 op_meets decls (Read q) on = refl
 op_meets decls (Write q value) on = refl

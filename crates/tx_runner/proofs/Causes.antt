@@ -1,9 +1,10 @@
 -- Why an operation is refused.
 use Rattle.std.proofs.Common.{◌≡◌, ◌≢◌, ◌⊎◌, inl, inr, ℕ, ◌+◌, ◌/◌, ◌%◌, ◌^◌, ◌≤◌, true, false, [], ◌∷◌}
-use Rattle.std.proofs.Common.{◌++◌, length, Option, Result, Ok, Err, sym, ap, ◌∙◌, subst, arith}
+use Rattle.std.proofs.Common.{◌++◌, length, List, Option, Result, Ok, Err, sym, ap, ◌∙◌, subst, arith, length-append}
 use Rattle.std.specs.Prelude.{IfErr, nat_lt, ⊤}
 use Rattle.std.proofs.lemmas.List.{append-nil}
 use Rattle.std.proofs.lemmas.Bool.Decides.{nat_tests}
+use Rattle.serial_model.specs.declared.decl.Decl.{Decl}
 use Rattle.serial_model.specs.declared.key.Key.{Key}
 use Rattle.serial_model.specs.declared.op.Op.{Op}
 use Rattle.serial_model.specs.declared.op.Op.TheVariants.{Scan}
@@ -14,11 +15,16 @@ use Rattle.homes.specs.declared.places.At.{At}
 use Rattle.homes.specs.declared.places.At.TheVariants.{Root, In}
 use Rattle.homes.specs.declared.places.Span.{Span}
 use Rattle.wire_form.specs.Leaves.{tree_leaf, word_in}
+use Rattle.tx_sets.specs.declared.reads.ReadEntry.{ReadEntry}
+use Rattle.tx_sets.specs.declared.seen.Seen.{Seen}
 use Rattle.tx_sets.specs.declared.sets.Sets.{Sets}
+use Rattle.tx_sets.specs.declared.writes.Write.{Write}
 use Rattle.tx_sets.specs.Gathered.{has_read_room}
 use Rattle.engine_pages.specs.declared.layout.Layout.{Layout}
 use Rattle.engine_pages.specs.declared.view.RefusalCause.{RefusalCause}
 use Rattle.engine_pages.specs.declared.view.RefusalCause.TheVariants as refusals
+use Rattle.engine_pages.specs.declared.view.SetName.{SetName}
+use Rattle.engine_pages.specs.declared.view.SetName.TheVariants as names
 use Rattle.engine_pages.specs.declared.view.View.{View}
 use Rattle.engine_pages.specs.Pages.{is_array, is_tree}
 use Rattle.engine_pages.specs.Pointers.{IsPointerAt}
@@ -28,19 +34,75 @@ use Rattle.page_commit.specs.Places.{ground, slot_of, tree_spot, IsTreeKeyIn}
 use Rattle.page_commit.specs.Turning.{IsHeaderOver, IsTreePointerOver, MayWrite, OnlyWalked}
 use Rattle.tree_calls.specs.Causes.{IsWordConflict, RefusesTreeRead}
 use Rattle.tree_ranges.specs.Causes.{RefusesScan}
-use Rattle.tree_writes.specs.Causes.{IsGrowConflict, RefusesTreeAlter, RefusesTreeWrite}
+use Rattle.tree_writes.specs.Causes.{IsGrowConflict, RefusesBehindRead, RefusesTreeAlter, RefusesTreeWrite}
 use Rattle.tx_runner.specs.Lines.{IsOfKey, IsOnTree}
-use Rattle.tx_runner.specs.Steps.{IsOpCause, IsOpConflict, IsOpFull, IsOpWhy}
+use Rattle.tx_runner.specs.Steps.{IsOpCause, IsOpConflict, IsOpFull, IsOpWhy, IsOpWide}
 use Rattle.tx_runner.specs.Tries.{IsAtSpot, IsChangedAt, IsPageWord, OfRecord, OfSlot, OfWay, TouchesOnly, blame_at}
 use Rattle.tx_runner.proofs.Arrays.{written_at}
 use Rattle.tx_runner.proofs.Touched.{touches_then, trees_locked, untouched}
 
--- ---- on arrays
+-- ---- full sets
+
+-- the set is the one of this name
+wide_as : (decls : List Decl) (op : Op) (sets : Sets) (name set : SetName) → set ≡ name → IsOpWide decls op sets name
+    → IsOpWide decls op sets set
+wide_as decls op sets name set is wide = subst (IsOpWide decls op sets) (sym is) wide
 
 -- records and headers fill their set
 no_room : (sets : Sets) → has_read_room sets ≡ false → 256 ≤ length sets.reads + length sets.headers
 no_room sets none =
     let is : nat_lt (length sets.reads + length sets.headers) 256 ≡ false = none in grind (arith, nat_tests)
+
+reads_wide : (decls : List Decl) (op : Op) (sets : Sets) → 254 ≤ length sets.reads + length sets.headers
+    → IsOpWide decls op sets names.Reads
+reads_wide decls op sets full = inr full
+
+pointers_wide : (decls : List Decl) (op : Op) (sets : Sets) → length sets.pointers ≡ 128
+    → IsOpWide decls op sets names.Pointers
+pointers_wide decls op sets full = inr (omega (arith, full))
+
+-- an operation on an array needed one slot more, and had held no more new ones than it may
+holds_wide : (decls : List Decl) (op : Op) (sets new : Sets) → length new.holds ≡ 128
+    → length new.holds ≤ length sets.holds + op_holds → IsOpWide decls op sets names.Holds
+holds_wide decls op sets new full grows =
+    let more : length new.holds ≤ length sets.holds + 6 = grows in
+    let most : 128 ≤ length sets.holds + 6 = omega (arith, full, more) in inr most
+
+-- these sets have two records and headers more than those at most, and no more writes
+record IsLittleMore (sets more : Sets) : Type 0 where
+  reads : length more.reads + length more.headers ≤ (length sets.reads + length sets.headers) + 2
+  writes : length more.writes ≤ length sets.writes
+
+no_more : (sets : Sets) → IsLittleMore sets sets
+no_more sets = record { reads = omega arith; writes = omega arith }
+
+-- one more, or none
+one_longer : {A : Type 0} (old new : List A) (x : A) → new ≡ old ++ x ∷ [] → length new ≤ length old + 1
+one_longer {A} old new x is =
+    let count : length new ≡ length (old ++ x ∷ []) = ap (λ (l : List A). length l) is in
+    let sum : length (old ++ x ∷ []) ≡ length old + 1 = length-append old (x ∷ []) in omega (arith, count, sum)
+
+no_longer : {A : Type 0} (old new : List A) → new ≡ old → length new ≤ length old
+no_longer {A} old new is = let count : length new ≡ length old = ap (λ (l : List A). length l) is in omega (arith, count)
+
+-- so it is behind the read of one key
+behind_read : (old new : Sets) (k : Key) (why : RefusalCause) (v w : View) → (b : RefusesBehindRead old new k why v w)
+    → IsLittleMore old b.sets
+behind_read old new k why v w b =
+    let reads : length (b.sets).reads ≤ length old.reads + 1 = elim b.reads [
+      | inl same ↦ let most = no_longer old.reads (b.sets).reads same in omega (arith, most)
+      | inr one ↦ one_longer old.reads (b.sets).reads one.0 one.2
+    ] in
+    let headers : length (b.sets).headers ≤ length old.headers + 1 = elim b.headers [
+      | inl same ↦ let most = no_longer old.headers (b.sets).headers same in omega (arith, most)
+      | inr one ↦ one_longer old.headers (b.sets).headers one.0 one.1
+    ] in
+    record {
+      reads = omega (arith, reads, headers);
+      writes = no_longer old.writes (b.sets).writes b.writes;
+    }
+
+-- ---- on arrays
 
 pub read_cause : (op : Op) (sets new : Sets) (k : Key) (why : RefusalCause) (v w : View) → IsOfKey op k
     → is_array v.layout.decls k.storage ≡ true → length new.holds ≤ length sets.holds + op_holds
@@ -69,16 +131,16 @@ read_cause op sets new k (refusals.Full told) v w of array grows r = absurd r
 read_cause op sets new k (refusals.Wide set) v w of array grows r = record {
   draws = r.2;
   touched = untouched (op ∷ []) v w r.4;
-  cause = inr (λ few. elim r.3 [
-    | inl reads ↦ let full = no_room sets reads.1 in absurd (omega (arith, full, few.reads, few.headers))
+  cause = elim r.3 [
+    | inl reads ↦ wide_as v.layout.decls op sets names.Reads set reads.0 (reads_wide v.layout.decls op sets
+        (let full = no_room sets reads.1 in omega (arith, full)))
     | inr other ↦ elim other [
-      | inl holds ↦
-          let most : length sets.holds ≤ 90 = few.holds in
-          let more : length new.holds ≤ length sets.holds + 6 = grows in
-          absurd (omega (arith, holds.1, most, more))
-      | inr pointers ↦ absurd (omega (arith, pointers.1, few.pointers))
+      | inl holds ↦ wide_as v.layout.decls op sets names.Holds set holds.0
+          (holds_wide v.layout.decls op sets new holds.1 grows)
+      | inr pointers ↦ wide_as v.layout.decls op sets names.Pointers set pointers.0
+          (pointers_wide v.layout.decls op sets pointers.1)
     ]
-  ]);
+  ];
 }
 read_cause op sets new k (refusals.NumberLimit clock) v w of array grows r = absurd r
 
@@ -134,13 +196,11 @@ write_cause op sets new k (refusals.Full told) v w may grows r = record {
 write_cause op sets new k (refusals.Wide set) v w may grows r = record {
   draws = r.1;
   touched = untouched (op ∷ []) v w r.3;
-  cause = inr (λ few. elim r.2 [
-    | inl writes ↦ absurd (omega (arith, writes.1, few.writes))
-    | inr holds ↦
-        let most : length sets.holds ≤ 90 = few.holds in
-        let more : length new.holds ≤ length sets.holds + 6 = grows in
-        absurd (omega (arith, holds.2, most, more))
-  ]);
+  cause = elim r.2 [
+    | inl writes ↦ wide_as v.layout.decls op sets names.Writes set writes.0 (let full = writes.1 in omega (arith, full))
+    | inr holds ↦ wide_as v.layout.decls op sets names.Holds set holds.1
+        (holds_wide v.layout.decls op sets new holds.2 grows)
+  ];
 }
 write_cause op sets new k (refusals.NumberLimit clock) v w may grows r = absurd r
 
@@ -248,14 +308,23 @@ tree_read_cause op sets new k (refusals.Full told) v w of are tree on r = absurd
 tree_read_cause op sets new k (refusals.Wide set) v w of are tree on r = record {
   draws = r.2;
   touched = untouched (op ∷ []) v w r.4;
-  cause = inl on;
+  cause = elim r.3 [
+    | inl reads ↦ wide_as v.layout.decls op sets names.Reads set reads.0 (reads_wide v.layout.decls op sets
+        (let full = reads.1 in omega (arith, full)))
+    | inr other ↦ elim other [
+      | inl holds ↦ wide_as v.layout.decls op sets names.Holds set holds.0 (inl on)
+      | inr pointers ↦ wide_as v.layout.decls op sets names.Pointers set pointers.0
+          (pointers_wide v.layout.decls op sets pointers.1)
+    ]
+  ];
 }
 tree_read_cause op sets new k (refusals.NumberLimit clock) v w of are tree on r = absurd r
 
-pub tree_write_cause : (op : Op) (first sets new : Sets) (k : Key) (why : RefusalCause) (v w : View) → MayWrite op k
+-- a write, behind a read of the key or not
+tree_write_since : (op : Op) (first sets new : Sets) (k : Key) (why : RefusalCause) (v w : View) → MayWrite op k
     → AreDecls v.layout.decls → is_tree v.layout.decls k.storage ≡ true → IsOnTree v.layout.decls op
-    → RefusesTreeWrite sets new k why v w → IsOpCause op first why v w
-tree_write_cause op first sets new k (refusals.Conflict at expected seen) v w may are tree on r = record {
+    → IsLittleMore first sets → RefusesTreeWrite sets new k why v w → IsOpCause op first why v w
+tree_write_since op first sets new k (refusals.Conflict at expected seen) v w may are tree on few r = record {
   draws = r.2;
   touched = trees_locked op k v w may tree r.5;
   cause = elim r.3 [
@@ -263,17 +332,31 @@ tree_write_cause op first sets new k (refusals.Conflict at expected seen) v w ma
     | inr slot ↦ slot_conflict op k may at expected seen v w slot r.4
   ];
 }
-tree_write_cause op first sets new k (refusals.Full told) v w may are tree on r = record {
+tree_write_since op first sets new k (refusals.Full told) v w may are tree on few r = record {
   draws = r.2;
   touched = trees_locked op k v w may tree r.5;
   cause = full_of op k told v w may r.3;
 }
-tree_write_cause op first sets new k (refusals.Wide set) v w may are tree on r = record {
+tree_write_since op first sets new k (refusals.Wide set) v w may are tree on few r = record {
   draws = r.1;
   touched = untouched (op ∷ []) v w r.4;
-  cause = inl on;
+  cause = elim r.2 [
+    | inl writes ↦ wide_as v.layout.decls op first names.Writes set writes.0
+        (let full = writes.1 in omega (arith, full, few.writes))
+    | inr other ↦ elim other.1 [
+      | inl holds ↦ wide_as v.layout.decls op first names.Holds set holds.0 (inl on)
+      | inr reads ↦ wide_as v.layout.decls op first names.Reads set reads.0 (reads_wide v.layout.decls op first
+          (let full = reads.1 in omega (arith, full, few.reads)))
+    ]
+  ];
 }
-tree_write_cause op first sets new k (refusals.NumberLimit clock) v w may are tree on r = absurd r
+tree_write_since op first sets new k (refusals.NumberLimit clock) v w may are tree on few r = absurd r
+
+pub tree_write_cause : (op : Op) (sets new : Sets) (k : Key) (why : RefusalCause) (v w : View) → MayWrite op k
+    → AreDecls v.layout.decls → is_tree v.layout.decls k.storage ≡ true → IsOnTree v.layout.decls op
+    → RefusesTreeWrite sets new k why v w → IsOpCause op sets why v w
+tree_write_cause op sets new k why v w may are tree on r =
+    tree_write_since op sets sets new k why v w may are tree on (no_more sets) r
 
 -- ---- behind walks
 
@@ -306,8 +389,8 @@ full_since op told v u w only c = record {
 
 -- an operation on a tree was refused behind walks of its own
 pub cause_since : (op : Op) (sets : Sets) (why : RefusalCause) (v u w : View) → OnlyWalked v u
-    → TouchesOnly (op ∷ []) v u → IsOnTree v.layout.decls op → IsOpCause op sets why u w → IsOpCause op sets why v w
-cause_since op sets why v u w only touches on c = record {
+    → TouchesOnly (op ∷ []) v u → IsOpCause op sets why u w → IsOpCause op sets why v w
+cause_since op sets why v u w only touches c = record {
   draws = c.draws ∙ ap (λ (x : View). x.draws) only.is;
   touched = touches_then (op ∷ []) v u w (walked_layout v u only) (ap (λ (x : View). x.role) only.is) touches c.touched;
   cause = by_why why c.cause;
@@ -316,7 +399,7 @@ cause_since op sets why v u w only touches on c = record {
     by_why : (y : RefusalCause) → IsOpWhy op sets y u w → IsOpWhy op sets y v w
     by_why (refusals.Conflict at expected seen) c = conflict_since op at expected seen v u w only c
     by_why (refusals.Full told) c = full_since op told v u w only c
-    by_why (refusals.Wide set) c = inl on
+    by_why (refusals.Wide set) c = subst (λ (l : Layout). IsOpWide l.decls op sets set) (walked_layout v u only) c
     by_why (refusals.NumberLimit clock) c = absurd c
 
 -- an addition, a subtraction or a removal in a tree
@@ -324,23 +407,23 @@ pub tree_alter_cause : (op : Op) (sets new : Sets) (k : Key) (why : RefusalCause
     → MayWrite op k → AreDecls v.layout.decls → is_tree v.layout.decls k.storage ≡ true → IsOnTree v.layout.decls op
     → RefusesTreeAlter sets new k why v w → IsOpCause op sets why v w
 tree_alter_cause op sets new k why v w of may are tree on (inl r) =
-    tree_write_cause op sets sets new k why v w may are tree on r
+    tree_write_cause op sets new k why v w may are tree on r
 tree_alter_cause op sets new k why v w of may are tree on (inr (inl r)) =
     tree_read_cause op sets new k why v w of are tree on r.1
 tree_alter_cause op sets new k why v w of may are tree on (inr (inr r)) =
     let b = r.1 in
     let same = walked_layout v b.then b.walked in
-    cause_since op sets why v b.then w b.walked (trees_locked op k v b.then may tree b.walked.touches) on
-    (tree_write_cause op sets b.sets new k why b.then w may (decls_then v b.then b.walked are)
+    cause_since op sets why v b.then w b.walked (trees_locked op k v b.then may tree b.walked.touches)
+    (tree_write_since op sets b.sets new k why b.then w may (decls_then v b.then b.walked are)
     (subst (λ (l : Layout). is_tree l.decls k.storage ≡ true) (sym same) tree)
-    (subst (λ (l : Layout). IsOnTree l.decls op) (sym same) on) b.cause)
+    (subst (λ (l : Layout). IsOnTree l.decls op) (sym same) on) (behind_read sets new k why v w b) b.cause)
 
 pub tree_writes_caused : (r : Result ⊤ RefusalCause) (op : Op) (sets new : Sets) (k : Key) (v w : View)
     → MayWrite op k → AreDecls v.layout.decls → is_tree v.layout.decls k.storage ≡ true → IsOnTree v.layout.decls op
     → IfErr r (λ why. RefusesTreeWrite sets new k why v w) → IfErr r (λ why. IsOpCause op sets why v w)
 tree_writes_caused (Ok x) op sets new k v w may are tree on a = tt
 tree_writes_caused (Err why) op sets new k v w may are tree on a =
-    tree_write_cause op sets sets new k why v w may are tree on a
+    tree_write_cause op sets new k why v w may are tree on a
 
 pub tree_alters_caused : (r : Result Verdict RefusalCause) (op : Op) (sets new : Sets) (k : Key) (v w : View)
     → IsOfKey op k → MayWrite op k → AreDecls v.layout.decls → is_tree v.layout.decls k.storage ≡ true
@@ -374,6 +457,12 @@ scan_cause storage low high sets new (refusals.Full told) v w are tree on r = ab
 scan_cause storage low high sets new (refusals.Wide set) v w are tree on r = record {
   draws = r.draws;
   touched = untouched (Scan storage low high ∷ []) v w r.touched;
-  cause = inl on;
+  cause = elim r.cause [
+    | inl reads ↦ wide_as v.layout.decls (Scan storage low high) sets names.Reads set reads.0 (inl on)
+    | inr other ↦ elim other [
+      | inl holds ↦ wide_as v.layout.decls (Scan storage low high) sets names.Holds set holds.0 (inl on)
+      | inr pointers ↦ wide_as v.layout.decls (Scan storage low high) sets names.Pointers set pointers.0 (inl on)
+    ]
+  ];
 }
 scan_cause storage low high sets new (refusals.NumberLimit clock) v w are tree on r = absurd r.cause

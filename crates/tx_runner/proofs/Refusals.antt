@@ -39,9 +39,10 @@ use Rattle.tx_runner.specs.declared.lines.LineEnd.{LineEnd}
 use Rattle.tx_runner.specs.declared.lines.LineEnd.TheVariants as answers
 use Rattle.tx_runner.specs.declared.room.LineRoom.{LineRoom}
 use Rattle.tx_runner.specs.LineEnds.{RunsLine}
-use Rattle.tx_runner.specs.Lines.{try_steps, HasTreeOp, IsOfKey}
+use Rattle.tx_runner.specs.Lines.{try_steps, IsOfKey}
 use Rattle.tx_runner.specs.Steps.{AreKeysOf, IsCauseAmong, IsMetBy, IsTryCause, IsWhyAmong, RefusesTry, end_of}
-use Rattle.tx_runner.specs.Tries.{AreAllTaken, HasConflicted, HasDrawsLeft, HasTriedFor, IsAtSpot, IsChangedAt}
+use Rattle.tx_runner.specs.Tries.{AreAllTaken, FillsSet, HasConflicted, HasDrawsLeft, HasTriedFor, IsAtSpot}
+use Rattle.tx_runner.specs.Tries.{IsChangedAt}
 use Rattle.tx_runner.specs.Tries.{IsClash, IsConflicting, IsKeyOf, IsLostAt, IsMetOf, IsPlaced, IsWayWord}
 use Rattle.tx_runner.specs.Tries.{IsWrittenBy, Lost, OfRecord, OfSlot, OfWay, Spot}
 use Rattle.tx_runner.specs.Tries.{ToClock, ToOther}
@@ -162,16 +163,16 @@ full_try ops told words u v w left s r is all writes draws touched =
 
 -- a set was full
 wide_try : (ops : List Op) (set : SetName) (u v w : View) → HasDrawsLeft u → StandsAs ops u v
-    → HasRefused (refusals.Wide set) v w → HasTreeOp v.layout.decls ops → w.draws ≡ v.draws → TouchesOnly ops u w
+    → HasRefused (refusals.Wide set) v w → FillsSet v.layout.decls ops set → w.draws ≡ v.draws → TouchesOnly ops u w
     → RefusesTry ops (refusals.Wide set) u w
-wide_try ops set u v w left s r tree draws touched =
+wide_try ops set u v w left s r fills draws touched =
     let why : RefusalCause = refusals.Wide set in
     let lost : Lost = ToSet set in record {
       lost = lost;
       is = refl;
       tried = tried_once ops why lost u v w s r refl (omega (arith, draws)) (r.blamed ∙ ap (λ l. v.blamed ++ l) r.told)
           touched;
-      cause = (subst (λ (l : Layout). HasTreeOp l.decls ops) s.layout tree, left);
+      cause = (subst (λ (l : Layout). FillsSet l.decls ops set) s.layout fills, left);
     }
 
 -- an operation was refused
@@ -384,8 +385,8 @@ line_ended ops done tries why end room u v w less h r ends = by_lost r.lost r.is
     }
     by_lost (ToSet set) is tried cause = as_end answers.Wide (ap end_of (sym is)) record {
       began = left_before u v h.tried.layout h.tried.seen cause.1;
-      tree = subst (λ (l : Layout). HasTreeOp l.decls ops) h.tried.layout cause.0;
       set = set;
+      fills = subst (λ (l : Layout). FillsSet l.decls ops set) h.tried.layout cause.0;
       refused = lost_behind ops done tries (ToSet set) u v w less h tried;
     }
     by_lost (ToClock clock) is tried cause = as_end answers.Limit (ap end_of (sym is)) record {

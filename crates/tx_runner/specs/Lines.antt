@@ -39,6 +39,19 @@ IsOnTree decls op = is_on_tree decls op ≡ true
 abbrev pub HasTreeOp : List Decl → List Op → Type 0
 HasTreeOp decls ops = (op : Op) × Contains ops op × IsOnTree decls op
 
+-- the operation scans a tree
+abbrev pub IsTreeScan : List Decl → Op → Type 0
+IsTreeScan decls (Read k) = ⊥
+IsTreeScan decls (Write k value) = ⊥
+IsTreeScan decls (Remove k) = ⊥
+IsTreeScan decls (Add k amount) = ⊥
+IsTreeScan decls (Take k amount) = ⊥
+IsTreeScan decls (Scan storage low high) = is_tree decls storage ≡ true
+
+-- an operation of the line scans a tree
+abbrev pub HasTreeScan : List Decl → List Op → Type 0
+HasTreeScan decls ops = (op : Op) × Contains ops op × IsTreeScan decls op
+
 -- the operation is of this key, or of a range with it
 abbrev pub IsOfKey : Op → Key → Type 0
 IsOfKey (Read k) q = k ≡ q

@@ -37,9 +37,12 @@ use Rattle.engine_pages.specs.Pointers.{WaysAgree}
 use Rattle.page_commit.specs.Below.{worker_of}
 use Rattle.engine_seats.specs.Cuts.{IsDone}
 use Rattle.serial_model.specs.declared.op.Op.{Op}
+use Rattle.serial_model.specs.declared.op.Op.TheVariants.{Read, Write, Remove, Add, Take, Scan}
+use Rattle.engine_pages.specs.declared.view.SetName.{SetName}
+use Rattle.engine_pages.specs.declared.view.SetName.TheVariants as names
 use Rattle.tx_runner.specs.Epochs.{HasSeenEpoch}
-use Rattle.tx_runner.specs.Lines.{is_on_tree}
-use Rattle.tx_runner.specs.Tries.{IsWideAt}
+use Rattle.tx_runner.specs.Lines.{is_on_tree, HasTreeOp, IsOnTree, IsTreeScan}
+use Rattle.tx_runner.specs.Tries.{FillsSet, IsWideAt}
 use Rattle.page_commit.specs.Live.{IsOver}
 
 -- ---- seats
@@ -133,10 +136,26 @@ over_done v over = record {
 
 -- ---- lines on arrays
 
+scan_on_tree : (decls : List Decl) (op : Op) → IsTreeScan decls op → IsOnTree decls op
+scan_on_tree decls (Read k) scan = absurd scan
+scan_on_tree decls (Write k value) scan = absurd scan
+scan_on_tree decls (Remove k) scan = absurd scan
+scan_on_tree decls (Add k amount) scan = absurd scan
+scan_on_tree decls (Take k amount) scan = absurd scan
+scan_on_tree decls (Scan storage low high) scan = scan
+
+-- A line that can fill a set has an operation on a tree.
+pub fills_tree : (decls : List Decl) (ops : List Op) (set : SetName) → FillsSet decls ops set → HasTreeOp decls ops
+fills_tree decls ops names.Reads fills = (fills.0, fills.1, scan_on_tree decls fills.0 fills.2)
+fills_tree decls ops names.Writes fills = absurd fills
+fills_tree decls ops names.Pointers fills = (fills.0, fills.1, scan_on_tree decls fills.0 fills.2)
+fills_tree decls ops names.Holds fills = fills
+
 -- No line whose operations are all on arrays is wide.
 pub never_wide : (ops : List Op) (tries : ℕ) (v w : View)
     → ((op : Op) → Contains ops op → is_on_tree v.layout.decls op ≡ false) → IsWideAt ops tries v w → ⊥
-never_wide ops tries v w none wide = true≢false (sym wide.tree.2 ∙ none wide.tree.0 wide.tree.1)
+never_wide ops tries v w none wide =
+    let tree = fills_tree v.layout.decls ops wide.set wide.fills in true≢false (sym tree.2 ∙ none tree.0 tree.1)
 
 -- ---- from two counts to a serial run
 

@@ -2,6 +2,7 @@
 use Rattle.std.specs.Prelude.{◌≡◌, ℕ, ◌+◌, ◌*◌, ◌%◌, ◌^◌, ◌≤◌, length, List, [], ◌∷◌, ◌++◌, Some, None, Option}
 use Rattle.std.specs.Prelude.{true, ◌⊎◌, IfErr, IfOk, Result}
 use Rattle.std.specs.Prelude.{Contains, option_to_list}
+use Rattle.serial_model.specs.declared.decl.Decl.{Decl}
 use Rattle.serial_model.specs.declared.key.Key.{Key}
 use Rattle.serial_model.specs.declared.op.Op.{Op}
 use Rattle.serial_model.specs.declared.reply.Reply.{Reply}
@@ -14,6 +15,8 @@ use Rattle.tx_sets.specs.Entries.{has_read, has_word, has_write}
 use Rattle.engine_pages.specs.declared.layout.Layout.{Layout}
 use Rattle.engine_pages.specs.declared.view.RefusalCause.{RefusalCause}
 use Rattle.engine_pages.specs.declared.view.RefusalCause.TheVariants as refusals
+use Rattle.engine_pages.specs.declared.view.SetName.{SetName}
+use Rattle.engine_pages.specs.declared.view.SetName.TheVariants as names
 use Rattle.engine_pages.specs.declared.view.View.{View}
 use Rattle.engine_pages.specs.Layout.{clock_at}
 use Rattle.engine_pages.specs.Slots.{first_retired}
@@ -26,9 +29,9 @@ use Rattle.page_commit.specs.Turning.{HasDone, HasStopped, MayWrite, OnlyWalked}
 use Rattle.page_commit.specs.Running.{HasRun, HasEnded}
 use Rattle.tx_runner.specs.declared.lines.LineEnd.{LineEnd}
 use Rattle.tx_runner.specs.declared.lines.LineEnd.TheVariants as ends
-use Rattle.tx_runner.specs.Lines.{HasTreeOp, IsOfKey, IsOnTree, op_steps}
-use Rattle.tx_runner.specs.Tries.{AreAllTaken, HasDrawsLeft, HasTriedFor, IsAtSpot, IsChangedAt, IsClash, IsKeyOf}
-use Rattle.tx_runner.specs.Tries.{IsPlaced, IsWayWord, IsWrittenBy, Lost, OfRecord, OfSlot, OfWay, Spot, ToClock}
+use Rattle.tx_runner.specs.Lines.{HasTreeOp, HasTreeScan, IsOfKey, IsOnTree, IsTreeScan, op_steps}
+use Rattle.tx_runner.specs.Tries.{AreAllTaken, FillsSet, HasDrawsLeft, HasTriedFor, IsAtSpot, IsChangedAt, IsClash}
+use Rattle.tx_runner.specs.Tries.{IsKeyOf, IsPlaced, IsWayWord, IsWrittenBy, Lost, OfRecord, OfSlot, OfWay, Spot, ToClock}
 use Rattle.tx_runner.specs.Tries.{ToOther, ToSet, ToSlots, TouchesOnly, Writes, blame_at, why_of}
 
 -- ---- operations
@@ -41,6 +44,12 @@ pub record AreWithin (count : ℕ) (sets : Sets) : Type 0 where
   pub pointers : length sets.pointers ≤ count
   pub headers : length sets.headers ≡ 0
   pub holds : length sets.holds ≤ op_holds * count
+
+-- the transaction has read, met pointers and keeps headers, at most so many of each
+pub record AreFewMet (count : ℕ) (sets : Sets) : Type 0 where
+  pub reads : length sets.reads ≤ count
+  pub pointers : length sets.pointers ≤ count
+  pub headers : length sets.headers ≤ count
 
 -- the transaction goes on, with this reply or none
 pub record OpGoesOn (op : Op) (old now : List Reply) (sets new : Sets) (v w : View) : Type 0 where
@@ -82,6 +91,12 @@ pub record OnlyLoaded (ops : List Op) (v w : View) : Type 0 where
 abbrev pub AreSized : List Op → ℕ → Sets → View → Type 0
 AreSized ops count sets v = HasTreeOp v.layout.decls ops ⊎ AreWithin count sets
 
+-- So many operations have written as many keys at most; and they have read, met and keep as many of each kind, or one of
+-- the operations scans a tree.
+pub record AreCounted (ops : List Op) (count : ℕ) (sets : Sets) (v : View) : Type 0 where
+  pub writes : length sets.writes ≤ count
+  pub met : HasTreeScan v.layout.decls ops ⊎ AreFewMet count sets
+
 -- the sets have no more than there is room for
 pub record HasRoom (sets : Sets) : Type 0 where
   pub reads : length sets.reads ≤ 256
@@ -122,12 +137,20 @@ pub record IsOpFull (op : Op) (told : Option (ℕ × ℕ)) (v w : View) : Type 0
   pub all : AreAllTaken words v w
   pub told_is : told ≡ first_retired 0 words
 
--- Why an operation is refused. A set is full only for one on a tree, or where more than 15 operations on arrays filled
--- it.
+-- What the sets had as an operation needed one entry more of this one: 16 writes; 254 records and headers, as it may
+-- have met one of each itself before it needed a third, or it scans a tree; 128 pointers, or it scans a tree; and all
+-- slots but those that one on an array may hold itself, or it is on a tree.
+abbrev pub IsOpWide : List Decl → Op → Sets → SetName → Type 0
+IsOpWide decls op sets names.Reads = IsTreeScan decls op ⊎ (254 ≤ length sets.reads + length sets.headers)
+IsOpWide decls op sets names.Writes = 16 ≤ length sets.writes
+IsOpWide decls op sets names.Pointers = IsTreeScan decls op ⊎ (128 ≤ length sets.pointers)
+IsOpWide decls op sets names.Holds = IsOnTree decls op ⊎ (128 ≤ length sets.holds + op_holds)
+
+-- why an operation is refused
 abbrev pub IsOpWhy : Op → Sets → RefusalCause → View → View → Type 0
 IsOpWhy op sets (refusals.Conflict at expected seen) v w = IsOpConflict op at expected seen v w
 IsOpWhy op sets (refusals.Full told) v w = IsOpFull op told v w
-IsOpWhy op sets (refusals.Wide set) v w = IsOnTree v.layout.decls op ⊎ (AreWithin 15 sets → ⊥)
+IsOpWhy op sets (refusals.Wide set) v w = IsOpWide v.layout.decls op sets set
 IsOpWhy op sets (refusals.NumberLimit clock) v w = ⊥
 
 -- the operation was refused for this, before any draw, and took locks at most that it may take
@@ -150,7 +173,7 @@ pub record RunsOp (op : Op) (r : Result Verdict RefusalCause) (old now : List Re
 abbrev pub IsWhyAmong : List Op → Op → RefusalCause → View → View → Type 0
 IsWhyAmong ops op (refusals.Conflict at expected seen) v w = IsOpConflict op at expected seen v w
 IsWhyAmong ops op (refusals.Full told) v w = IsOpFull op told v w
-IsWhyAmong ops op (refusals.Wide set) v w = HasTreeOp v.layout.decls ops
+IsWhyAmong ops op (refusals.Wide set) v w = FillsSet v.layout.decls ops set
 IsWhyAmong ops op (refusals.NumberLimit clock) v w = ⊥
 
 -- One of these operations was refused so, before any draw, and they took locks at most that they may take.
@@ -163,13 +186,13 @@ pub record IsCauseAmong (ops : List Op) (why : RefusalCause) (v w : View) : Type
 
 -- ---- tries
 
--- The cause of a refusal: of a try that began, a conflict, all slots that were taken, or a full set; or the clock,
--- which was loaded last.
+-- The cause of a refusal: of a try that began, a conflict, all slots that were taken, or a full set, which its
+-- operations can fill; or the clock, which was loaded last.
 abbrev pub IsTryCause : List Op → Lost → View → View → Type 0
 IsTryCause ops (ToOther clash) v w =
     IsClash ops (ToOther clash) × HasDrawsLeft v × IsPlaced v.layout (ToOther clash)
 IsTryCause ops (ToSlots words) v w = Writes ops × AreAllTaken words v w × HasDrawsLeft v
-IsTryCause ops (ToSet set) v w = HasTreeOp v.layout.decls ops × HasDrawsLeft v
+IsTryCause ops (ToSet set) v w = FillsSet v.layout.decls ops set × HasDrawsLeft v
 IsTryCause ops (ToClock clock) v w =
     (draw_limit ≤ clock % 2 ^ 40) × (clock % 2 ^ 40 ≡ v.layout.first.draw + length w.history)
     × (step : ℕ) × (w.last ≡ Some (glance step clock_at clock))

@@ -10,6 +10,7 @@ use Rattle.engine_pages.specs.declared.layout.Layout.{Layout}
 use Rattle.engine_pages.specs.declared.view.RefusalCause.{RefusalCause}
 use Rattle.engine_pages.specs.declared.view.RefusalCause.TheVariants as refusals
 use Rattle.engine_pages.specs.declared.view.SetName.{SetName}
+use Rattle.engine_pages.specs.declared.view.SetName.TheVariants as names
 use Rattle.engine_pages.specs.declared.view.Touch.{Touch}
 use Rattle.engine_pages.specs.declared.view.View.{View}
 use Rattle.engine_pages.specs.Layout.{clock_at, page_at, slot_at}
@@ -22,7 +23,7 @@ use Rattle.page_commit.specs.Below.{IsWayPlace}
 use Rattle.page_commit.specs.Between.{HasSeen}
 use Rattle.page_commit.specs.Live.{IsOver}
 use Rattle.page_commit.specs.Turning.{MayWrite}
-use Rattle.tx_runner.specs.Lines.{HasTreeOp, IsOfKey}
+use Rattle.tx_runner.specs.Lines.{HasTreeOp, HasTreeScan, IsOfKey}
 
 -- ---- the keys of a line
 
@@ -111,6 +112,17 @@ pub record AreAllTaken (words : List ℕ) (v w : View) : Type 0 where
   pub step : ℕ
   pub since : v.steps ≤ step
   pub looked : w.looked ≡ looks step 0 words
+
+-- ---- full sets
+
+-- Which lines may fill a set: of records and headers, and of pointers, those with a scan of a tree alone, as any other
+-- operation meets one of a kind at most; of slots that are held those on trees; of writes none, as a line has 16
+-- operations at most.
+abbrev pub FillsSet : List Decl → List Op → SetName → Type 0
+FillsSet decls ops names.Reads = HasTreeScan decls ops
+FillsSet decls ops names.Writes = ⊥
+FillsSet decls ops names.Pointers = HasTreeScan decls ops
+FillsSet decls ops names.Holds = HasTreeOp decls ops
 
 -- ---- tries
 
@@ -237,12 +249,12 @@ pub record IsFullAt (ops : List Op) (tries : ℕ) (v w : View) : Type 0 where
   pub before : HasTriedFor ops refused.losts v last
   pub all : AreAllTaken words last w
 
--- A set of the transaction was full, and the last try needed one entry more of it. On arrays alone 16 operations fill
--- none, so one of the line is on a tree.
+-- A set of the transaction was full, and the last try needed one entry more of it. The line's operations can fill that
+-- one: on arrays alone they fill none.
 pub record IsWideAt (ops : List Op) (tries : ℕ) (v w : View) : Type 0 where
   pub began : HasDrawsLeft v
-  pub tree : HasTreeOp v.layout.decls ops
   pub set : SetName
+  pub fills : FillsSet v.layout.decls ops set
   pub refused : IsLostAt ops (ToSet set) tries v w
 
 -- The last try wasn't begun, and drew no number: the clock, which it loaded and with which all draws are seen, is at

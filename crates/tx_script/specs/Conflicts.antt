@@ -1,7 +1,7 @@
 -- What lines have to do with the refusals of their tries: one in conflict at a record of an array touches a key there
 -- that another worker's line of the same round may change, or pages were dropped in the round; one in conflict on the
 -- way to a key touches that key; one in conflict at a slot, or that found none, may change some key; and one that
--- filled a set has an operation on a tree.
+-- filled a set has an operation that can fill it.
 use Rattle.std.specs.Prelude.{◌≡◌, ◌≢◌, ◌⊎◌, ◌+◌, ◌==◌, ◌&&◌, ℕ, Bool, true, false, List, [], ◌∷◌, nat_le, Contains}
 use Rattle.std.specs.Prelude.{slice_get, ◌++◌, ◌≤◌, Option, Some, ⊤}
 use Rattle.std.specs.List.{AllByRecursion, list_any}
@@ -13,8 +13,8 @@ use Rattle.serial_model.specs.declared.key.Key.{Key}
 use Rattle.serial_model.specs.declared.op.Op.{Op}
 use Rattle.serial_model.specs.declared.op.Op.TheVariants.{Read, Write, Remove, Add, Take, Scan}
 use Rattle.script_grammar.specs.Script.{Round, worker_lines}
-use Rattle.tx_script.specs.Run.{AtRecord, AtSlot, InConflict, LogRefusal, Met, NoNumber, NoRoom, NoSlot, OnWay, Ran}
-use Rattle.tx_script.specs.Run.{TryRefusal, Where}
+use Rattle.tx_script.specs.Run.{AtRecord, AtSlot, FullSet, InConflict, LogRefusal, Met, NoNumber, NoRoom, NoSlot}
+use Rattle.tx_script.specs.Run.{OfHolds, OfPointers, OfReads, OfWrites, OnWay, Ran, TryRefusal, Where}
 use Rattle.tx_script.specs.Tries.{ComesTo}
 use Rattle.tx_script.specs.declared.outcome.Outcome.TheVariants.{Conflict, Full, Wide}
 
@@ -63,6 +63,27 @@ IsOnTree decls (Scan storage low high) = is_tree decls storage ≡ true
 abbrev pub TouchesTree : List Decl → List Op → Type 0
 TouchesTree decls ops = (op : Op) × Contains ops op × IsOnTree decls op
 
+-- an operation of the line scans a tree
+abbrev pub ScansTree : List Decl → List Op → Type 0
+ScansTree decls ops = (storage : ℕ) × (low : ℕ) × (high : ℕ) × Contains ops (Scan storage low high)
+    × (is_tree decls storage ≡ true)
+
+-- Which lines may fill a set: of records and headers, and of pointers, those with a scan of a tree alone, as any other
+-- operation meets one of a kind at most; of slots that are held those on trees; of writes none, as a line has 16
+-- operations at most.
+abbrev pub FillsSet : List Decl → List Op → FullSet → Type 0
+FillsSet decls ops OfReads = ScansTree decls ops
+FillsSet decls ops OfWrites = ⊥
+FillsSet decls ops OfPointers = ScansTree decls ops
+FillsSet decls ops OfHolds = TouchesTree decls ops
+
+-- each such line has an operation on a tree
+pub fills_tree : (decls : List Decl) (ops : List Op) (set : FullSet) → FillsSet decls ops set → TouchesTree decls ops
+fills_tree decls ops OfReads fills = (Scan fills.0 fills.1 fills.2, fills.3, fills.4)
+fills_tree decls ops OfWrites fills = absurd fills
+fills_tree decls ops OfPointers fills = (Scan fills.0 fills.1 fills.2, fills.3, fills.4)
+fills_tree decls ops OfHolds fills = fills
+
 -- ---- the law of conflicts
 
 -- The worker has a line in the round that may change the key.
@@ -94,11 +115,11 @@ IsMetAt lines dropped worker ops (OnWay k) = touches ops k ≡ true
 IsMetAt lines dropped worker ops AtSlot = ChangesSome ops
 
 -- What a line has to do with the refusal of a try: with a conflict as is said above; it found no slot only if it may
--- change some key; and it filled a set only if an operation of it is on a tree.
+-- change some key; and it filled a set only if its operations can fill that one.
 abbrev pub IsMet : List Decl → List (List (List Op)) → Type 0 → ℕ → List Op → TryRefusal → Type 0
 IsMet decls lines dropped worker ops (InConflict met) = IsMetAt lines dropped worker ops met.at
 IsMet decls lines dropped worker ops (NoSlot words) = ChangesSome ops
-IsMet decls lines dropped worker ops (NoRoom set) = TouchesTree decls ops
+IsMet decls lines dropped worker ops (NoRoom set) = FillsSet decls ops set
 IsMet decls lines dropped worker ops (NoNumber clock) = ⊤
 
 -- so it is of the tries of each line of a worker
@@ -121,7 +142,7 @@ WorkersMet decls lines dropped worker (mine ∷ more) [] = ⊥
 
 -- Each conflict of the round at a record of an array is with a line of another worker in it, or pages were dropped in
 -- the round; each on the way to a key is of a line that touches it; each line that was to be given a slot may change
--- some key; and each that filled a set has an operation on a tree.
+-- some key; and each that filled a set has an operation that can fill it.
 pub record AreMet (decls : List Decl) (ran : Ran) (round : Round) : Type 0 where
   pub workers : WorkersMet decls (worker_lines round) (ran.beside.drops ≡ [] → ⊥) 0 (worker_lines round)
       ran.beside.refused
@@ -162,15 +183,24 @@ full_changes decls lines dropped worker first last tries log ops refusals come a
     last_of (IsMet decls lines dropped worker ops) ends.before (NoSlot come.1)
     (subst (AllByRecursion (IsMet decls lines dropped worker ops)) ends.all all)
 
--- A line that is told wide has an operation on a tree: on arrays alone no line is.
+-- A line that is told wide can fill the set that is told.
+pub wide_fills : (decls : List Decl) (lines : List (List (List Op))) (dropped : Type 0)
+    (worker first last tries : ℕ) (log : Option LogRefusal) (ops : List Op) (refusals : List TryRefusal)
+    → (come : ComesTo first last tries log Wide refusals)
+    → AllByRecursion (IsMet decls lines dropped worker ops) refusals → FillsSet decls ops come.1
+wide_fills decls lines dropped worker first last tries log ops refusals come all =
+    let ends = come.2 in
+    last_of (IsMet decls lines dropped worker ops) ends.before (NoRoom come.1)
+    (subst (AllByRecursion (IsMet decls lines dropped worker ops)) ends.all all)
+
+-- So it has an operation on a tree: on arrays alone no line is wide.
 pub wide_touches : (decls : List Decl) (lines : List (List (List Op))) (dropped : Type 0)
     (worker first last tries : ℕ) (log : Option LogRefusal) (ops : List Op) (refusals : List TryRefusal)
     → ComesTo first last tries log Wide refusals → AllByRecursion (IsMet decls lines dropped worker ops) refusals
     → TouchesTree decls ops
 wide_touches decls lines dropped worker first last tries log ops refusals come all =
-    let ends = come.2 in
-    last_of (IsMet decls lines dropped worker ops) ends.before (NoRoom come.1)
-    (subst (AllByRecursion (IsMet decls lines dropped worker ops)) ends.all all)
+    fills_tree decls ops come.1
+    (wide_fills decls lines dropped worker first last tries log ops refusals come all)
 
 -- ---- a worker by itself
 

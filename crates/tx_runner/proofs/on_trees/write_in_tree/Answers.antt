@@ -19,8 +19,8 @@ pub returns-in-Err-clause-runs : goal.returns-in-Err-clause-runs
 returns-in-Err-clause-runs c = λ replies.
     tree_ran (ops.Write c.args.key c.args.value) (Err c.in-Err.why) replies replies c.args.sets.now c.write.new.sets
     (view c.args.pass.now) (view c.write.new.pass) c.requires.tree tt c.in-Err.ensures.refused
-    (tree_write_cause (ops.Write c.args.key c.args.value) c.args.sets.now c.args.sets.now c.write.new.sets c.args.key
-    c.in-Err.why (view c.args.pass.now) (view c.write.new.pass) refl c.requires.live.decls c.requires.tree
+    (tree_write_cause (ops.Write c.args.key c.args.value) c.args.sets.now c.write.new.sets c.args.key c.in-Err.why
+    (view c.args.pass.now) (view c.write.new.pass) refl c.requires.live.decls c.requires.tree
     (on_tree (view c.args.pass.now).layout.decls (ops.Write c.args.key c.args.value) c.requires.tree)
     c.in-Err.ensures.cause)
     c.write.ensures.most

@@ -52,7 +52,8 @@ returns-in_err-verdict-clause-cause c =
     let told : c.from_residual.result ≡ Err c.in_err-verdict.field-0.0 = let a = p.1 in let b = p.2 in cc in
     rw told (cause_among c.args.ops.now _ c.loop-done.done c.loop-done.txn.sets c.in_err-verdict.field-0.0
     (view c.args.pass.now) (view c.loop-done.pass) (view c.run_op.new.pass) c.loop-done-test.true c.requires.few
-    c.loop-done.invariant.some.only c.loop-done.invariant.some.sized c.in_err-verdict.ensures.runs.cause)
+    c.loop-done.invariant.some.only c.loop-done.invariant.some.sized c.loop-done.invariant.some.counted
+    c.in_err-verdict.ensures.runs.cause)
 
 pub returns-then-not-keeps-clause-answers : goal.returns-then-not-keeps-clause-answers
 returns-then-not-keeps-clause-answers c =

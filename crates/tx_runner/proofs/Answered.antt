@@ -48,7 +48,7 @@ use Rattle.tx_runner.specs.Lines.{keeps, op_steps, HasTreeOp, HasTreeScan, IsOfK
 use Rattle.tx_runner.specs.Steps.{AreCounted, AreFewMet, AreKeysOf, AreSized, AreWithin, HasAnswered, HasAnsweredAll}
 use Rattle.tx_runner.specs.Steps.{IsCauseAmong, IsOpCause, IsOpWhy, IsOpWide, IsWhyAmong, OnlyLoaded, OpEndsIt}
 use Rattle.tx_runner.specs.Steps.{OpGoesOn}
-use Rattle.tx_runner.specs.Tries.{FillsSet, IsWayWord, TouchesOnly}
+use Rattle.tx_runner.specs.Tries.{FillsSet, IsLeafWord, IsWayWord, TouchesOnly}
 use Rattle.tx_runner.proofs.Arrays.{on_either, op_meets, op_no_tree, read_at_key, scans_or_meets, written_at}
 use Rattle.tx_runner.proofs.Arrays.{IsOnArray}
 use Rattle.tx_runner.proofs.Causes.{conflict_since, full_since, header_word, met_word}
@@ -219,6 +219,10 @@ read_among decls op old new k h has =
 way_word : (v w : View) (k : Key) (at : ℕ) → w.layout ≡ v.layout → IsWayWord w.layout k at → IsWayWord v.layout k at
 way_word v w k at same word = subst (λ (l : Layout). IsWayWord l k at) same word
 
+leaf_word : (v w : View) (k : Key) (at : ℕ) → w.layout ≡ v.layout → IsLeafWord w.layout k at
+    → IsLeafWord v.layout k at
+leaf_word v w k at same word = subst (λ (l : Layout). IsLeafWord l k at) same word
+
 -- a pointer that was met is one of before, or on the way to a key of the operation
 met_among : (v w : View) (op : Op) (old new : List Seen) (p : Seen) → w.layout ≡ v.layout → AreDecls w.layout.decls
     → MeetsOnly w op old new → Contains new p
@@ -241,7 +245,7 @@ met_among v w op old new p same are h has =
 
 -- a header that is kept was kept before, or is that of a leaf over a key of the operation
 head_among : (v w : View) (op : Op) (old new : List Seen) (at : ℕ) → w.layout ≡ v.layout → HeadsOnly w op old new
-    → has_word at new ≡ true → (has_word at old ≡ true) ⊎ ((k : Key) × IsOfKey op k × IsWayWord v.layout k at)
+    → has_word at new ≡ true → (has_word at old ≡ true) ⊎ ((k : Key) × IsOfKey op k × IsLeafWord v.layout k at)
 head_among v w op old new at same h has =
     let found = any_is (λ (s : Seen). s.at == at) new has in
     let here : found.0.at ≡ at = eqb-true found.0.at at found.2 in
@@ -250,8 +254,8 @@ head_among v w op old new at same h has =
       | inr over ↦ inr (
         over.0,
         read_at_key op over.0 over.1,
-        subst (λ (n : ℕ). IsWayWord v.layout over.0 n) here
-            (way_word v w over.0 found.0.at same (inr (over.2.tree, header_word w over.0 found.0.at over.2))),
+        subst (λ (n : ℕ). IsLeafWord v.layout over.0 n) here
+            (leaf_word v w over.0 found.0.at same (over.2.tree, header_word w over.0 found.0.at over.2)),
       )
     ]
 

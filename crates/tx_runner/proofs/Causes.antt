@@ -1,5 +1,5 @@
 -- Why an operation is refused.
-use Rattle.std.proofs.Common.{◌≡◌, ◌≢◌, ◌⊎◌, inl, inr, ℕ, ◌+◌, ◌/◌, ◌%◌, ◌^◌, ◌≤◌, true, false, [], ◌∷◌}
+use Rattle.std.proofs.Common.{◌≡◌, inl, inr, ℕ, ◌+◌, ◌-◌, ◌%◌, ◌≤◌, ◌<◌, true, false, [], ◌∷◌}
 use Rattle.std.proofs.Common.{◌++◌, length, List, Option, Result, Ok, Err, sym, ap, ◌∙◌, subst, arith, length-append}
 use Rattle.std.specs.Prelude.{IfErr, nat_lt, ⊤}
 use Rattle.std.proofs.lemmas.List.{append-nil}
@@ -15,10 +15,7 @@ use Rattle.homes.specs.declared.places.At.{At}
 use Rattle.homes.specs.declared.places.At.TheVariants.{Root, In}
 use Rattle.homes.specs.declared.places.Span.{Span}
 use Rattle.wire_form.specs.Leaves.{tree_leaf, word_in}
-use Rattle.tx_sets.specs.declared.reads.ReadEntry.{ReadEntry}
-use Rattle.tx_sets.specs.declared.seen.Seen.{Seen}
 use Rattle.tx_sets.specs.declared.sets.Sets.{Sets}
-use Rattle.tx_sets.specs.declared.writes.Write.{Write}
 use Rattle.tx_sets.specs.Gathered.{has_read_room}
 use Rattle.engine_pages.specs.declared.layout.Layout.{Layout}
 use Rattle.engine_pages.specs.declared.view.RefusalCause.{RefusalCause}
@@ -29,7 +26,8 @@ use Rattle.engine_pages.specs.declared.view.View.{View}
 use Rattle.engine_pages.specs.Pages.{is_array, is_tree}
 use Rattle.engine_pages.specs.Pointers.{IsPointerAt}
 use Rattle.engine_pages.specs.Views.{seat_number}
-use Rattle.page_commit.specs.Calls.{op_holds, IsFullOf, IsSlotConflict, RefusesAlter, RefusesRead, RefusesWrite}
+use Rattle.page_commit.specs.Calls.{op_holds, IsFullOf, IsSlotConflict, IsWordIn, RefusesAlter, RefusesRead}
+use Rattle.page_commit.specs.Calls.{RefusesWrite}
 use Rattle.page_commit.specs.Places.{ground, slot_of, tree_spot, IsTreeKeyIn}
 use Rattle.page_commit.specs.Turning.{IsHeaderOver, IsTreePointerOver, MayWrite, OnlyWalked}
 use Rattle.tree_calls.specs.Causes.{IsWordConflict, RefusesTreeRead}
@@ -37,7 +35,8 @@ use Rattle.tree_ranges.specs.Causes.{RefusesScan}
 use Rattle.tree_writes.specs.Causes.{IsGrowConflict, RefusesBehindRead, RefusesTreeAlter, RefusesTreeWrite}
 use Rattle.tx_runner.specs.Lines.{IsOfKey, IsOnTree}
 use Rattle.tx_runner.specs.Steps.{IsOpCause, IsOpConflict, IsOpFull, IsOpWhy, IsOpWide}
-use Rattle.tx_runner.specs.Tries.{IsAtSpot, IsChangedAt, IsPageWord, OfRecord, OfSlot, OfWay, TouchesOnly, blame_at}
+use Rattle.tx_runner.specs.Tries.{IsAtSpot, IsChangedAt, IsInPage, IsPageWord, IsRecordWord, OfLeaf, OfRecord, OfSlot}
+use Rattle.tx_runner.specs.Tries.{OfWay, TouchesOnly, blame_at}
 use Rattle.tx_runner.proofs.Arrays.{written_at}
 use Rattle.tx_runner.proofs.Touched.{touches_then, trees_locked, untouched}
 
@@ -56,6 +55,10 @@ no_room sets none =
 reads_wide : (decls : List Decl) (op : Op) (sets : Sets) → 254 ≤ length sets.reads + length sets.headers
     → IsOpWide decls op sets names.Reads
 reads_wide decls op sets full = inr full
+
+writes_wide : (decls : List Decl) (op : Op) (sets : Sets) → 16 ≤ length sets.writes
+    → IsOpWide decls op sets names.Writes
+writes_wide decls op sets full = full
 
 pointers_wide : (decls : List Decl) (op : Op) (sets : Sets) → length sets.pointers ≡ 128
     → IsOpWide decls op sets names.Pointers
@@ -83,7 +86,8 @@ one_longer {A} old new x is =
     let sum : length (old ++ x ∷ []) ≡ length old + 1 = length-append old (x ∷ []) in omega (arith, count, sum)
 
 no_longer : {A : Type 0} (old new : List A) → new ≡ old → length new ≤ length old
-no_longer {A} old new is = let count : length new ≡ length old = ap (λ (l : List A). length l) is in omega (arith, count)
+no_longer {A} old new is =
+    let count : length new ≡ length old = ap (λ (l : List A). length l) is in omega (arith, count)
 
 -- so it is behind the read of one key
 behind_read : (old new : Sets) (k : Key) (why : RefusalCause) (v w : View) → (b : RefusesBehindRead old new k why v w)
@@ -104,6 +108,19 @@ behind_read old new k why v w b =
 
 -- ---- on arrays
 
+-- the word of the key's record is that of a record
+word_of : (l : Layout) (k : Key) (at : ℕ) → IsWordIn l.slots k at → IsRecordWord l k at
+word_of l k at is =
+    let index : (is.spot).index ≡ k.key % 32 = is.index in record {
+      slot = (is.spot).slot;
+      within = is.within;
+      first = k.key - (is.spot).index;
+      index = (is.spot).index;
+      few = let few : (is.spot).index < 32 = omega (arith, index) in few;
+      key = omega (arith, index);
+      word = is.word;
+    }
+
 pub read_cause : (op : Op) (sets new : Sets) (k : Key) (why : RefusalCause) (v w : View) → IsOfKey op k
     → is_array v.layout.decls k.storage ≡ true → length new.holds ≤ length sets.holds + op_holds
     → RefusesRead sets new k why v w → IsOpCause op sets why v w
@@ -114,7 +131,7 @@ read_cause op sets new k (refusals.Conflict at expected seen) v w of array grows
     | inl here ↦ record {
       spot = OfRecord k;
       key = of;
-      place = array;
+      place = (array, word_of v.layout k at here.1);
       cause = here.0.conflict.cause;
       blamed = here.0.blamed;
     }
@@ -151,7 +168,7 @@ slot_conflict op k may at expected seen v w slot blamed = record {
   spot = OfSlot;
   key = (k, may);
   place = (slot.slot, slot.within, slot.place);
-  cause = inr slot.other;
+  cause = slot.other;
   blamed = blamed ∙ sym (append-nil v.blamed);
 }
 
@@ -197,7 +214,8 @@ write_cause op sets new k (refusals.Wide set) v w may grows r = record {
   draws = r.1;
   touched = untouched (op ∷ []) v w r.3;
   cause = elim r.2 [
-    | inl writes ↦ wide_as v.layout.decls op sets names.Writes set writes.0 (let full = writes.1 in omega (arith, full))
+    | inl writes ↦ wide_as v.layout.decls op sets names.Writes set writes.0 (writes_wide v.layout.decls op sets
+        (let full = writes.1 in omega (arith, full)))
     | inr holds ↦ wide_as v.layout.decls op sets names.Holds set holds.1
         (holds_wide v.layout.decls op sets new holds.2 grows)
   ];
@@ -231,27 +249,33 @@ pub met_word : (v : View) (k : Key) (at : ℕ) → AreDecls v.layout.decls → I
     → IsPageWord v.layout at
 met_word v k at are over = pointer_word v over.place over.span at are over.is
 
-pub header_word : (v : View) (k : Key) (at : ℕ) → IsHeaderOver v k at → IsPageWord v.layout at
-header_word v k at over = inr (over.way.slot, 0, over.word)
+pub header_word : (v : View) (k : Key) (at : ℕ) → IsHeaderOver v k at → IsInPage v.layout at
+header_word v k at over = (over.way.slot, 0, over.word)
 
-pub record_word : (v : View) (k : Key) (at : ℕ) → IsTreeKeyIn (ground v) k at → IsPageWord v.layout at
+pub record_word : (v : View) (k : Key) (at : ℕ) → IsTreeKeyIn (ground v) k at → IsInPage v.layout at
 record_word v k at here =
-    inr (slot_of v.layout.slots at, word_in tree_leaf (tree_spot v.layout.slots at).index, here.word)
+    (slot_of v.layout.slots at, word_in tree_leaf (tree_spot v.layout.slots at).index, here.word)
 
--- a record's word with the lock bit is a great number
-pub locked_high : (seen expected : ℕ) → ((seen / 2 ^ 60) % 2 ≡ 1) ⊎ (seen ≢ expected)
-    → (2 ^ 60 ≤ seen) ⊎ (seen ≢ expected)
-locked_high seen expected (inl locked) = inl (omega (arith, locked))
-locked_high seen expected (inr other) = inr other
-
--- a conflict at such a word, for a key of a tree
-page_conflict : (op : Op) (k : Key) (at expected seen : ℕ) (v w : View) → IsOfKey op k
+-- a conflict at a pointer, for a key of a tree
+pointer_conflict : (op : Op) (k : Key) (at expected seen : ℕ) (v w : View) → IsOfKey op k
     → is_tree v.layout.decls k.storage ≡ true → IsPageWord v.layout at → IsChangedAt (OfWay k) expected seen
     → w.blamed ≡ v.blamed → IsOpConflict op at expected seen v w
-page_conflict op k at expected seen v w of tree word changed blamed = record {
+pointer_conflict op k at expected seen v w of tree word changed blamed = record {
   spot = OfWay k;
   key = of;
   place = inr (tree, word);
+  cause = changed;
+  blamed = blamed ∙ sym (append-nil v.blamed);
+}
+
+-- and at a word of a leaf
+leaf_conflict : (op : Op) (k : Key) (at expected seen : ℕ) (v w : View) → IsOfKey op k
+    → is_tree v.layout.decls k.storage ≡ true → IsInPage v.layout at → IsChangedAt (OfLeaf k) expected seen
+    → w.blamed ≡ v.blamed → IsOpConflict op at expected seen v w
+leaf_conflict op k at expected seen v w of tree word changed blamed = record {
+  spot = OfLeaf k;
+  key = of;
+  place = (tree, word);
   cause = changed;
   blamed = blamed ∙ sym (append-nil v.blamed);
 }
@@ -263,6 +287,9 @@ walked_layout v u only = ap (λ (x : View). x.layout) only.is
 word_before : (v u : View) (at : ℕ) → OnlyWalked v u → IsPageWord u.layout at → IsPageWord v.layout at
 word_before v u at only word = subst (λ (l : Layout). IsPageWord l at) (walked_layout v u only) word
 
+page_before : (v u : View) (at : ℕ) → OnlyWalked v u → IsInPage u.layout at → IsInPage v.layout at
+page_before v u at only word = subst (λ (l : Layout). IsInPage l at) (walked_layout v u only) word
+
 decls_then : (v u : View) → OnlyWalked v u → AreDecls v.layout.decls → AreDecls u.layout.decls
 decls_then v u only are = subst (λ (l : Layout). AreDecls l.decls) (sym (walked_layout v u only)) are
 
@@ -270,13 +297,13 @@ word_conflict : (op : Op) (sets : Sets) (k : Key) (at expected seen : ℕ) (v w 
     → AreDecls v.layout.decls → is_tree v.layout.decls k.storage ≡ true → IsWordConflict sets k at expected seen v w
     → w.blamed ≡ v.blamed → IsOpConflict op at expected seen v w
 word_conflict op sets k at expected seen v w of are tree (u, only, met) blamed = elim met [
-  | inl pointer ↦ page_conflict op k at expected seen v w of tree
+  | inl pointer ↦ pointer_conflict op k at expected seen v w of tree
       (word_before v u at only (met_word u k at (decls_then v u only are) pointer.1)) pointer.0.cause blamed
   | inr other ↦ elim other [
-    | inl header ↦ page_conflict op k at expected seen v w of tree
-        (word_before v u at only (header_word u k at header.1)) (locked_high seen expected header.0.cause) blamed
-    | inr here ↦ page_conflict op k at expected seen v w of tree
-        (word_before v u at only (record_word u k at here.1)) (locked_high seen expected here.0.cause) blamed
+    | inl header ↦ leaf_conflict op k at expected seen v w of tree
+        (page_before v u at only (header_word u k at header.1)) header.0.cause blamed
+    | inr here ↦ leaf_conflict op k at expected seen v w of tree
+        (page_before v u at only (record_word u k at here.1)) here.0.cause blamed
   ]
 ]
 
@@ -284,13 +311,13 @@ grow_conflict : (op : Op) (sets : Sets) (k : Key) (at expected seen : ℕ) (v w 
     → AreDecls v.layout.decls → is_tree v.layout.decls k.storage ≡ true → IsGrowConflict sets k at expected seen v w
     → w.blamed ≡ v.blamed → IsOpConflict op at expected seen v w
 grow_conflict op sets k at expected seen v w of are tree (u, only, met) blamed = elim met [
-  | inl pointer ↦ page_conflict op k at expected seen v w of tree
+  | inl pointer ↦ pointer_conflict op k at expected seen v w of tree
       (word_before v u at only (met_word u k at (decls_then v u only are) pointer.1)) pointer.0.cause blamed
   | inr other ↦ elim other [
-    | inl header ↦ page_conflict op k at expected seen v w of tree
-        (word_before v u at only (header_word u k at header.1)) (locked_high seen expected header.0.cause) blamed
-    | inr here ↦ page_conflict op k at expected seen v w of tree
-        (word_before v u at only (record_word u here.key at here.place)) (locked_high seen expected here.cause) blamed
+    | inl header ↦ leaf_conflict op k at expected seen v w of tree
+        (page_before v u at only (header_word u k at header.1)) header.0.cause blamed
+    | inr here ↦ leaf_conflict op k at expected seen v w of tree
+        (page_before v u at only (record_word u here.key at here.place)) here.cause blamed
   ]
 ]
 
@@ -341,8 +368,8 @@ tree_write_since op first sets new k (refusals.Wide set) v w may are tree on few
   draws = r.1;
   touched = untouched (op ∷ []) v w r.4;
   cause = elim r.2 [
-    | inl writes ↦ wide_as v.layout.decls op first names.Writes set writes.0
-        (let full = writes.1 in omega (arith, full, few.writes))
+    | inl writes ↦ wide_as v.layout.decls op first names.Writes set writes.0 (writes_wide v.layout.decls op first
+        (let full = writes.1 in omega (arith, full, few.writes)))
     | inr other ↦ elim other.1 [
       | inl holds ↦ wide_as v.layout.decls op first names.Holds set holds.0 (inl on)
       | inr reads ↦ wide_as v.layout.decls op first names.Reads set reads.0 (reads_wide v.layout.decls op first

@@ -22,7 +22,8 @@ use Rattle.tx_sets.specs.declared.sets.Sets.{Sets}
 use Rattle.tx_sets.specs.declared.writes.Write.{Write}
 use Rattle.tx_sets.specs.Entries.{has_read, has_word, has_write}
 use Rattle.engine_pages.specs.declared.layout.Layout.{Layout}
-use Rattle.engine_pages.specs.Pages.{is_array}
+use Rattle.engine_pages.specs.Pages.{decl_of, is_array}
+use Rattle.engine_pages.specs.Pointers.{one_kind}
 use Rattle.engine_pages.specs.declared.view.RefusalCause.{RefusalCause}
 use Rattle.engine_pages.specs.declared.view.RefusalCause.TheVariants as refusals
 use Rattle.engine_pages.specs.declared.view.SetName.{SetName}
@@ -31,7 +32,7 @@ use Rattle.engine_pages.specs.declared.view.View.{View}
 use Rattle.engine_pages.specs.Slots.{first_retired}
 use Rattle.engine_pages.specs.Views.{seat_number}
 use Rattle.page_commit.specs.Live.{IsLive, IsOver, IsWriteOf}
-use Rattle.page_commit.specs.Places.{ground, IsAnyKeyIn}
+use Rattle.page_commit.specs.Places.{ground, spot_at, IsAnyKeyIn}
 use Rattle.page_commit.proofs.PlaceLaws.{key_array}
 use Rattle.page_commit.specs.Refusing.{HasRefused, RefusesBegin}
 use Rattle.page_commit.specs.Committing.{IsRecordOf, RefusesCommit, TookOnly, kept_writes}
@@ -39,17 +40,16 @@ use Rattle.tx_runner.specs.declared.lines.LineEnd.{LineEnd}
 use Rattle.tx_runner.specs.declared.lines.LineEnd.TheVariants as answers
 use Rattle.tx_runner.specs.declared.room.LineRoom.{LineRoom}
 use Rattle.tx_runner.specs.LineEnds.{RunsLine}
-use Rattle.tx_runner.specs.Lines.{try_steps, IsOfKey}
+use Rattle.tx_runner.specs.Lines.{try_steps}
 use Rattle.tx_runner.specs.Steps.{AreKeysOf, IsCauseAmong, IsMetBy, IsTryCause, IsWhyAmong, RefusesTry, end_of}
 use Rattle.tx_runner.specs.Tries.{AreAllTaken, FillsSet, HasConflicted, HasDrawsLeft, HasTriedFor, IsAtSpot}
-use Rattle.tx_runner.specs.Tries.{IsChangedAt}
-use Rattle.tx_runner.specs.Tries.{IsClash, IsConflicting, IsKeyOf, IsLostAt, IsMetOf, IsPlaced, IsWayWord}
-use Rattle.tx_runner.specs.Tries.{IsWrittenBy, Lost, OfRecord, OfSlot, OfWay, Spot}
+use Rattle.tx_runner.specs.Tries.{IsChangedAt, IsClash, IsConflicting, IsKeyOf, IsLeafWord, IsLostAt, IsMetOf, IsPlaced}
+use Rattle.tx_runner.specs.Tries.{IsRecordWord, IsWayWord, IsWrittenBy, Lost, OfLeaf, OfRecord, OfSlot, OfWay, Spot}
 use Rattle.tx_runner.specs.Tries.{ToClock, ToOther}
 use Rattle.tx_runner.specs.Tries.{ToSet, ToSlots, TouchesOnly, Writes, blame_at, blame_of, blames_of, drawn_for}
 use Rattle.tx_runner.specs.Tries.{why_of, whys_of}
 use Rattle.tx_runner.proofs.Arrays.{written_at}
-use Rattle.tx_runner.proofs.Causes.{locked_high, record_word}
+use Rattle.tx_runner.proofs.Causes.{record_word}
 use Rattle.tx_runner.proofs.Standing.{StandsAs, left_before, seen_then, still}
 use Rattle.tx_runner.proofs.Sums.{steps_more, steps_within}
 use Rattle.tx_runner.proofs.Touched.{touches_then, untouched}
@@ -184,6 +184,7 @@ op_refused ops why u v w left s r c =
     key_of : (op : Op) → Contains ops op → (spot : Spot) → IsMetBy op spot → IsMetOf ops spot
     key_of op among (OfRecord k) of = record { op = op; among = among; at = of }
     key_of op among (OfWay k) of = record { op = op; among = among; at = of }
+    key_of op among (OfLeaf k) of = record { op = op; among = among; at = of }
     key_of op among OfSlot may = (may.0, record { op = op; among = among; writes = may.1 })
 
     by_why : (y : RefusalCause) → HasRefused y v w → (op : Op) → Contains ops op → w.draws ≡ v.draws
@@ -223,9 +224,23 @@ commit_refused ops why sets keep u v w left s keys live r c = by_why why r c
 
     -- the record of a key that is no array's is one of a tree
     tree_word : (k : Key) (at : ℕ) → IsAnyKeyIn (ground v) k at → is_array v.layout.decls k.storage ≡ false
-        → IsWayWord v.layout k at
+        → IsLeafWord v.layout k at
     tree_word k at (inl here) other = absurd (true≢false (sym (key_array (ground v) k at here) ∙ other))
-    tree_word k at (inr here) other = inr (here.kind, record_word v k at here)
+    tree_word k at (inr here) other = (here.kind, record_word v k at here)
+
+    -- that of a key of an array stands in a leaf
+    array_word : (k : Key) (at : ℕ) → IsAnyKeyIn (ground v) k at → is_array v.layout.decls k.storage ≡ true
+        → IsRecordWord v.layout k at
+    array_word k at (inl here) array = record {
+      slot = (spot_at v.layout.slots at).slot;
+      within = here.there;
+      first = here.way.span.low;
+      index = (spot_at v.layout.slots at).index;
+      few = here.index;
+      key = ap (λ (q : Key). q.key) here.key;
+      word = here.word;
+    }
+    array_word k at (inr here) array = absurd (one_kind (decl_of v.layout.decls k.storage) array here.kind)
 
     -- and stands where the sets have it
     place_of : (k : Key) (at : ℕ) → IsRecordOf sets.reads (kept_writes keep sets.writes) k at
@@ -244,7 +259,8 @@ commit_refused ops why sets keep u v w left s keys live r c = by_why why r c
     by_why (refusals.Conflict at expected seen) r c = elim c.0 [
       | inl here ↦
           clash_try ops at expected seen (OfRecord here.0) u v w left s r here.2.conflict.cause
-          (read_or_written here.0 at here.1) here.3 here.2.blamed (touches c.1)
+          (read_or_written here.0 at here.1)
+          (here.3, array_word here.0 at (place_of here.0 at here.1) here.3) here.2.blamed (touches c.1)
       | inr other ↦ elim other [
         | inl pointer ↦
             let way = pointer_way at pointer.0 in
@@ -253,14 +269,12 @@ commit_refused ops why sets keep u v w left s keys live r c = by_why why r c
         | inr rest ↦ elim rest [
           | inl header ↦
               let way = keys.headers at header.0 in
-              clash_try ops at expected seen (OfWay way.0) u v w left s r
-              (locked_high seen expected header.1.cause) way.1 way.2 (header.2 ∙ sym (append-nil v.blamed))
-              (touches c.1)
+              clash_try ops at expected seen (OfLeaf way.0) u v w left s r header.1.cause way.1 way.2
+              (header.2 ∙ sym (append-nil v.blamed)) (touches c.1)
           | inr tree ↦
-              clash_try ops at expected seen (OfWay tree.0) u v w left s r
-              (locked_high seen expected tree.2.cause) (read_or_written tree.0 at tree.1)
-              (tree_word tree.0 at (place_of tree.0 at tree.1) tree.4) (tree.3 ∙ sym (append-nil v.blamed))
-              (touches c.1)
+              clash_try ops at expected seen (OfLeaf tree.0) u v w left s r tree.2.cause
+              (read_or_written tree.0 at tree.1) (tree_word tree.0 at (place_of tree.0 at tree.1) tree.4)
+              (tree.3 ∙ sym (append-nil v.blamed)) (touches c.1)
         ]
       ]
     ]

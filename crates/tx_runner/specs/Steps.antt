@@ -31,7 +31,8 @@ use Rattle.tx_runner.specs.declared.lines.LineEnd.{LineEnd}
 use Rattle.tx_runner.specs.declared.lines.LineEnd.TheVariants as ends
 use Rattle.tx_runner.specs.Lines.{HasTreeOp, HasTreeScan, IsOfKey, IsOnTree, IsTreeScan, op_steps}
 use Rattle.tx_runner.specs.Tries.{AreAllTaken, FillsSet, HasDrawsLeft, HasTriedFor, IsAtSpot, IsChangedAt, IsClash}
-use Rattle.tx_runner.specs.Tries.{IsKeyOf, IsPlaced, IsWayWord, IsWrittenBy, Lost, OfRecord, OfSlot, OfWay, Spot, ToClock}
+use Rattle.tx_runner.specs.Tries.{IsKeyOf, IsLeafWord, IsPlaced, IsWayWord, IsWrittenBy, Lost, OfLeaf, OfRecord}
+use Rattle.tx_runner.specs.Tries.{OfSlot, OfWay, Spot, ToClock}
 use Rattle.tx_runner.specs.Tries.{ToOther, ToSet, ToSlots, TouchesOnly, Writes, blame_at, why_of}
 
 -- ---- operations
@@ -75,12 +76,12 @@ HasRunTo ops Short replies sets w = HasEnded ops Short replies w
 HasRunTo ops Over replies sets w = HasEnded ops Over replies w
 
 -- What the transaction has read are keys of the operations, what it has written are keys that they may write, and each
--- pointer that it met and each header that it keeps is a word for a key of theirs.
+-- pointer that it met and each header that it keeps is a word for a key of theirs, a header's in a page.
 pub record AreKeysOf (l : Layout) (ops : List Op) (sets : Sets) : Type 0 where
   pub reads : (k : Key) → has_read k sets.reads ≡ true → IsKeyOf ops k
   pub writes : (k : Key) → has_write k sets.writes ≡ true → IsWrittenBy ops k
   pub pointers : (p : Seen) → Contains sets.pointers p → (k : Key) × IsKeyOf ops k × IsWayWord l k p.at
-  pub headers : (at : ℕ) → has_word at sets.headers ≡ true → (k : Key) × IsKeyOf ops k × IsWayWord l k at
+  pub headers : (at : ℕ) → has_word at sets.headers ≡ true → (k : Key) × IsKeyOf ops k × IsLeafWord l k at
 
 -- Only walks lie between, with parts, and pages in memory, and locks that the operations may take.
 pub record OnlyLoaded (ops : List Op) (v w : View) : Type 0 where
@@ -91,8 +92,8 @@ pub record OnlyLoaded (ops : List Op) (v w : View) : Type 0 where
 abbrev pub AreSized : List Op → ℕ → Sets → View → Type 0
 AreSized ops count sets v = HasTreeOp v.layout.decls ops ⊎ AreWithin count sets
 
--- So many operations have written as many keys at most; and they have read, met and keep as many of each kind, or one of
--- the operations scans a tree.
+-- So many operations have written as many keys at most; and they have read, met and keep as many of each kind, or one
+-- of the operations scans a tree.
 pub record AreCounted (ops : List Op) (count : ℕ) (sets : Sets) (v : View) : Type 0 where
   pub writes : length sets.writes ≤ count
   pub met : HasTreeScan v.layout.decls ops ⊎ AreFewMet count sets
@@ -118,10 +119,11 @@ pub record HasAnsweredAll (ops : List Op) (verdict : Verdict) (replies : List Re
 abbrev pub IsMetBy : Op → Spot → Type 0
 IsMetBy op (OfRecord k) = IsOfKey op k
 IsMetBy op (OfWay k) = IsOfKey op k
+IsMetBy op (OfLeaf k) = IsOfKey op k
 IsMetBy op OfSlot = (k : Key) × MayWrite op k
 
 -- An operation met a word that was changed, or is locked or shut: that of the record of its key in an array, or else a
--- slot's, that of a pointer on the way to its key, or one of a page of a tree.
+-- slot's, that of a pointer on the way to its key, or one of a leaf of a tree.
 pub record IsOpConflict (op : Op) (at expected seen : ℕ) (v w : View) : Type 0 where
   pub spot : Spot
   pub key : IsMetBy op spot

@@ -1,11 +1,12 @@
 -- Tries of a line that were refused.
-use Rattle.std.specs.Prelude.{◌≡◌, ◌≢◌, ◌⊎◌, ℕ, ◌+◌, ◌%◌, ◌^◌, ◌≤◌, ◌<◌, Bool, true, List, [], ◌∷◌, ◌++◌, length}
+use Rattle.std.specs.Prelude.{◌≡◌, ◌≢◌, ◌⊎◌, ℕ, ◌+◌, ◌/◌, ◌%◌, ◌^◌, ◌≤◌, ◌<◌, Bool, true, List, [], ◌∷◌, ◌++◌, length}
 use Rattle.std.specs.Prelude.{Some, Option, Contains, cond, flat_map, map, sum_by, ⊤}
 use Rattle.std.specs.List.{AllByRecursion, list_all}
 use Rattle.serial_model.specs.Numbers.{draw_limit}
 use Rattle.serial_model.specs.declared.decl.Decl.{Decl}
 use Rattle.serial_model.specs.declared.key.Key.{Key}
 use Rattle.serial_model.specs.declared.op.Op.{Op}
+use Rattle.wire_form.specs.Leaves.{array_leaf, word_in}
 use Rattle.engine_pages.specs.declared.layout.Layout.{Layout}
 use Rattle.engine_pages.specs.declared.view.RefusalCause.{RefusalCause}
 use Rattle.engine_pages.specs.declared.view.RefusalCause.TheVariants as refusals
@@ -54,19 +55,23 @@ IsLockedFor decls ops k = IsWrittenBy ops k ⊎ ((is_tree decls k.storage ≡ tr
 
 -- ---- conflicts
 
--- Where a try was in conflict: at the record of this key of an array; at a pointer, or at a word of a root or a page,
--- on the way to this key; or at the word of a slot that it was to be given.
+-- Where a try was in conflict: at the record of this key of an array; at a pointer on the way to this key; in a leaf of
+-- a tree on the way to this key, at its header or at the record of a key; or at the word of a slot that it was to be
+-- given.
 pub data Spot : Type 0 where
   OfRecord : Key → Spot
   OfWay : Key → Spot
+  OfLeaf : Key → Spot
   OfSlot : Spot
 
--- A word was in conflict: that of the record of an array's key, which was locked, or not the expected one; or else that
--- of a pointer, a slot or a page of a tree, which was locked or shut, or not the expected one.
+-- A word was in conflict: that of the record of an array's key, which was locked, or not the expected one; that of a
+-- pointer, which was shut, or not the expected one; that of a header or a record in a leaf of a tree, which has the bit
+-- of a lock, or isn't the expected one; or that of a slot, which isn't the expected one.
 abbrev pub IsChangedAt : Spot → ℕ → ℕ → Type 0
 IsChangedAt (OfRecord k) expected seen = (2 ^ 60 ≤ seen) ⊎ ((expected < 2 ^ 60) × (seen ≢ expected))
 IsChangedAt (OfWay k) expected seen = (2 ^ 60 ≤ seen) ⊎ (seen ≢ expected)
-IsChangedAt OfSlot expected seen = (2 ^ 60 ≤ seen) ⊎ (seen ≢ expected)
+IsChangedAt (OfLeaf k) expected seen = ((seen / 2 ^ 60) % 2 ≡ 1) ⊎ (seen ≢ expected)
+IsChangedAt OfSlot expected seen = seen ≢ expected
 
 -- the refusal is a conflict there
 abbrev pub IsConflicting : RefusalCause → Spot → Type 0
@@ -79,20 +84,42 @@ IsConflicting (refusals.NumberLimit clock) spot = ⊥
 abbrev pub IsMetOf : List Op → Spot → Type 0
 IsMetOf ops (OfRecord k) = IsKeyOf ops k
 IsMetOf ops (OfWay k) = IsKeyOf ops k
+IsMetOf ops (OfLeaf k) = IsKeyOf ops k
 IsMetOf ops OfSlot = Writes ops
+
+-- The word stands in a slot's page, where a leaf of an array that begins with this key has the record of that one: so
+-- many records behind its first one.
+pub record IsRecordWord (l : Layout) (k : Key) (at : ℕ) : Type 0 where
+  pub slot : ℕ
+  pub within : slot < l.slots
+  pub first : ℕ
+  pub index : ℕ
+  pub few : index < array_leaf.room
+  pub key : k.key ≡ first + index
+  pub word : at ≡ page_at l.slots slot (word_in array_leaf index)
+
+-- the word stands in a slot's page
+abbrev pub IsInPage : Layout → ℕ → Type 0
+IsInPage l at = (t : ℕ) × (i : ℕ) × (at ≡ page_at l.slots t i)
 
 -- the word is a root's, or stands in a slot's page
 abbrev pub IsPageWord : Layout → ℕ → Type 0
-IsPageWord l at = (at < 32) ⊎ ((t : ℕ) × (i : ℕ) × (at ≡ page_at l.slots t i))
+IsPageWord l at = (at < 32) ⊎ IsInPage l at
 
 -- the word is that of a pointer on the way to the key of an array, or one of a root or a page, for the key of a tree
 abbrev pub IsWayWord : Layout → Key → ℕ → Type 0
 IsWayWord l k at = IsWayPlace l k at ⊎ ((is_tree l.decls k.storage ≡ true) × IsPageWord l at)
 
--- the record is one of an array; the word is on the way to the key; or it is that of a slot
+-- the word is one of a page, for the key of a tree
+abbrev pub IsLeafWord : Layout → Key → ℕ → Type 0
+IsLeafWord l k at = (is_tree l.decls k.storage ≡ true) × IsInPage l at
+
+-- the record is one of an array, and the word that of a record; the word is on the way to the key, in a root or a page;
+-- it is one of a page; or it is that of a slot
 abbrev pub IsAtSpot : Layout → Spot → ℕ → Type 0
-IsAtSpot l (OfRecord k) at = is_array l.decls k.storage ≡ true
+IsAtSpot l (OfRecord k) at = (is_array l.decls k.storage ≡ true) × IsRecordWord l k at
 IsAtSpot l (OfWay k) at = IsWayWord l k at
+IsAtSpot l (OfLeaf k) at = IsLeafWord l k at
 IsAtSpot l OfSlot at = (t : ℕ) × (t < l.slots) × (at ≡ slot_at t)
 
 -- so it is with the word of a conflict
@@ -169,8 +196,8 @@ IsClash ops (ToSlots words) = ⊥
 IsClash ops (ToSet set) = ⊥
 IsClash ops (ToClock clock) = ⊥
 
--- A try that met a conflict at a record met an array's; else it met it at a slot's word, at a pointer on the way to the
--- key, or at a word of a root or of a page, if the key is one of a tree.
+-- A try that met a conflict at a record met that of an array's key; else it met it at a slot's word, at a pointer on
+-- the way to the key, or at a word of a page, if the key is one of a tree.
 abbrev pub IsPlaced : Layout → Lost → Type 0
 IsPlaced l (ToOther clash) = IsWordAt l clash.spot clash.why
 IsPlaced l (ToSlots words) = ⊤
@@ -181,6 +208,7 @@ IsPlaced l (ToClock clock) = ⊤
 abbrev pub blame_at : ℕ → Spot → List Touch
 blame_at q (OfRecord k) = touch q k ∷ []
 blame_at q (OfWay k) = []
+blame_at q (OfLeaf k) = []
 blame_at q OfSlot = []
 
 -- at which key the pass of this seat met another one's, where the try was refused for that

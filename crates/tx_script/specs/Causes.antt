@@ -13,8 +13,8 @@ use Rattle.tx_script.specs.declared.answer.Answer.{Answer}
 use Rattle.tx_script.specs.declared.answer.Answer.TheVariants as answers
 use Rattle.tx_script.specs.declared.outcome.Outcome.{Outcome}
 use Rattle.tx_script.specs.declared.outcome.Outcome.TheVariants.{Unrun}
-use Rattle.tx_script.specs.Run.{AtRecord, AtSlot, InConflict, LogFiles, LogRefusal, LogFailed, LogFull, NoNumber}
-use Rattle.tx_script.specs.Run.{NoRoom, NoSlot, OnWay, Ran, TryRefusal, Where}
+use Rattle.tx_script.specs.Run.{AtRecord, AtSlot, InConflict, InLeaf, LogFiles, LogRefusal, LogFailed, LogFull}
+use Rattle.tx_script.specs.Run.{NoNumber, NoRoom, NoSlot, OnWay, Ran, TryRefusal, Where}
 use Rattle.tx_script.specs.Tries.{AllCome}
 
 -- ---- logs
@@ -70,11 +70,14 @@ is_usable word =
     ((word % 2 ^ 18 == 0) || (word % 2 ^ 18 == 3 * 2 ^ 16)) && nat_lt (word / 2 ^ 18) (2 ^ 46 - 1)
 
 -- A word is one of a conflict: that of an array's record is locked, or is none that another lock hides and not the
--- expected one; one on the way to a key, or a slot's, is locked or shut, or isn't the expected one.
+-- expected one; that of a pointer is shut, or isn't the expected one; one in a leaf of a tree has the bit of a lock, or
+-- isn't the expected one: an absent record has a bit above it, and so has the header of a leaf that was split; and that
+-- of a slot isn't the expected one.
 abbrev pub IsOfConflict : Where → ℕ → ℕ → Type 0
 IsOfConflict (AtRecord k) expected seen = (2 ^ 60 ≤ seen) ⊎ ((expected < 2 ^ 60) × (seen ≢ expected))
 IsOfConflict (OnWay k) expected seen = (2 ^ 60 ≤ seen) ⊎ (seen ≢ expected)
-IsOfConflict AtSlot expected seen = (2 ^ 60 ≤ seen) ⊎ (seen ≢ expected)
+IsOfConflict (InLeaf k) expected seen = ((seen / 2 ^ 60) % 2 ≡ 1) ⊎ (seen ≢ expected)
+IsOfConflict AtSlot expected seen = seen ≢ expected
 
 -- The cause of a refusal, where there are so many slots: a word that was changed or is locked; or no slot is usable, by
 -- the words of all of them, as the try's steps saw them. Who may have changed a word, and which lines may fill a set,

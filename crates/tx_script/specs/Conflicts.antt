@@ -13,8 +13,8 @@ use Rattle.serial_model.specs.declared.key.Key.{Key}
 use Rattle.serial_model.specs.declared.op.Op.{Op}
 use Rattle.serial_model.specs.declared.op.Op.TheVariants.{Read, Write, Remove, Add, Take, Scan}
 use Rattle.script_grammar.specs.Script.{Round, worker_lines}
-use Rattle.tx_script.specs.Run.{AtRecord, AtSlot, FullSet, InConflict, LogRefusal, Met, NoNumber, NoRoom, NoSlot}
-use Rattle.tx_script.specs.Run.{OfHolds, OfPointers, OfReads, OfWrites, OnWay, Ran, TryRefusal, Where}
+use Rattle.tx_script.specs.Run.{AtRecord, AtSlot, FullSet, InConflict, InLeaf, LogRefusal, Met, NoNumber, NoRoom}
+use Rattle.tx_script.specs.Run.{NoSlot, OfHolds, OfPointers, OfReads, OfWrites, OnWay, Ran, TryRefusal, Where}
 use Rattle.tx_script.specs.Tries.{ComesTo}
 use Rattle.tx_script.specs.declared.outcome.Outcome.TheVariants.{Conflict, Full, Wide}
 
@@ -107,11 +107,13 @@ ChangesSome ops = (k : Key) × (changes ops k ≡ true)
 
 -- A try in conflict at a record of an array met another worker's line so; or it touches the key, in a round in which
 -- pages were dropped, as is said where this is asked: the maintenance thread locks records of pages that it may take
--- out of memory. On the way to a key it touches that key, and nobody is told who was there: that may have been for
--- another key, or the worker itself. It was to be given a slot only if it may change some key: what is read takes none.
+-- out of memory. On the way to a key, at a pointer or in a leaf, it touches that key, and nobody is told who was there:
+-- that may have been for another key, or the worker itself. It was to be given a slot only if it may change some key:
+-- what is read takes none.
 abbrev pub IsMetAt : List (List (List Op)) → Type 0 → ℕ → List Op → Where → Type 0
 IsMetAt lines dropped worker ops (AtRecord k) = IsMetBy lines worker ops k ⊎ ((touches ops k ≡ true) × dropped)
 IsMetAt lines dropped worker ops (OnWay k) = touches ops k ≡ true
+IsMetAt lines dropped worker ops (InLeaf k) = touches ops k ≡ true
 IsMetAt lines dropped worker ops AtSlot = ChangesSome ops
 
 -- What a line has to do with the refusal of a try: with a conflict as is said above; it found no slot only if it may
@@ -219,6 +221,7 @@ meets_nobody lines worker ops k alone m =
 abbrev pub IsBesideRecords : Where → Type 0
 IsBesideRecords (AtRecord k) = ⊥
 IsBesideRecords (OnWay k) = ⊤
+IsBesideRecords (InLeaf k) = ⊤
 IsBesideRecords AtSlot = ⊤
 
 -- the try was in conflict at no record of an array
@@ -237,6 +240,7 @@ one_alone decls lines dropped worker ops (InConflict met) none alone m = by_plac
     by_place (AtRecord k) (inl m) = absurd (meets_nobody lines worker ops k alone m)
     by_place (AtRecord k) (inr m) = absurd (none m.1)
     by_place (OnWay k) m = tt
+    by_place (InLeaf k) m = tt
     by_place AtSlot m = tt
 one_alone decls lines dropped worker ops (NoSlot words) none alone m = tt
 one_alone decls lines dropped worker ops (NoRoom set) none alone m = tt
@@ -277,6 +281,7 @@ try_for decls lines dropped other worker ops (InConflict met) says m = by_place 
     by_place (AtRecord k) (inl m) = inl m
     by_place (AtRecord k) (inr m) = inr (m.0, says m.1)
     by_place (OnWay k) m = m
+    by_place (InLeaf k) m = m
     by_place AtSlot m = m
 try_for decls lines dropped other worker ops (NoSlot words) says m = m
 try_for decls lines dropped other worker ops (NoRoom set) says m = m

@@ -34,11 +34,13 @@ pub data FullSet : Type 0 where
   OfPointers : FullSet
   OfHolds : FullSet
 
--- Where a try was in conflict: at the record of this key of an array; at a pointer, or at a word of a tree, on the way
--- to this key; or at the word of a slot that it was to be given.
+-- Where a try was in conflict: at the record of this key of an array; at a pointer on the way to this key; in a leaf of
+-- a tree on the way to this key, at its header or at the record of a key; or at the word of a slot that it was to be
+-- given.
 pub data Where : Type 0 where
   AtRecord : Key → Where
   OnWay : Key → Where
+  InLeaf : Key → Where
   AtSlot : Where
 
 -- A conflict: where it was, and the number of the word among all that threads share; what the word was expected to be

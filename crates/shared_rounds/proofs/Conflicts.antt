@@ -12,7 +12,7 @@ use Rattle.engine_pages.specs.declared.view.RefusalCause.TheVariants as refusals
 use Rattle.engine_pages.specs.declared.view.SetName.{SetName}
 use Rattle.engine_pages.specs.declared.view.SetName.TheVariants as names
 use Rattle.engine_pages.specs.declared.view.View.{View}
-use Rattle.worker_cells.specs.Below.{HasTreeOp, why_of, whys_of, IsClash, IsConflicting, IsLostAt, IsMetOf, IsPlaced}
+use Rattle.worker_cells.specs.Below.{FillsSet, why_of, whys_of, IsClash, IsConflicting, IsLostAt, IsMetOf, IsPlaced}
 use Rattle.worker_cells.specs.Below.{IsWordAt, Lost, Spot, ToClock, ToOther, ToSet, ToSlots, Writes}
 use Rattle.tx_script.specs.declared.outcome.Outcome.{Outcome}
 use Rattle.tx_script.specs.declared.outcome.Outcome.TheVariants.{Committed, Conflict, Full, Wide, Limit, Unrun}
@@ -25,12 +25,12 @@ use Rattle.shared_rounds.specs.Shares.{Share}
 
 -- Each try of a line that was lost in conflict was refused so, for a key of the line, or at a slot, where it may write,
 -- and at a word that stands there; one that found no slot is of a line that may write; and one that filled a set is of
--- a line with an operation on a tree.
+-- a line that can fill it.
 abbrev pub IsLostOf : Layout → List Op → Lost → Type 0
 IsLostOf l ops (ToOther clash) =
     IsConflicting clash.why clash.spot × IsMetOf ops clash.spot × IsWordAt l clash.spot clash.why
 IsLostOf l ops (ToSlots words) = Writes ops
-IsLostOf l ops (ToSet set) = HasTreeOp l.decls ops
+IsLostOf l ops (ToSet set) = FillsSet l.decls ops set
 IsLostOf l ops (ToClock clock) = ⊤
 
 clashes_lost : (l : Layout) (ops : List Op) (losts : List Lost) → AllByRecursion (IsClash ops) losts
@@ -62,7 +62,7 @@ line_lost tries ops Limit refused logged v w comes =
 line_lost tries ops Full refused logged v w comes =
     lost_at ops tries (ToSlots comes.1.words) refused v w comes.1.refused comes.2 comes.1.writes
 line_lost tries ops Wide refused logged v w comes =
-    lost_at ops tries (ToSet comes.1.set) refused v w comes.1.refused comes.2 comes.1.tree
+    lost_at ops tries (ToSet comes.1.set) refused v w comes.1.refused comes.2 comes.1.fills
 line_lost tries ops Unrun refused logged v w comes = absurd comes
 
 -- ---- the cause that is told is the one that the pass has

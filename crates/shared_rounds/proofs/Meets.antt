@@ -21,16 +21,18 @@ use Rattle.engine_pages.specs.declared.view.RefusalCause.{RefusalCause}
 use Rattle.engine_pages.specs.declared.view.RefusalCause.TheVariants as refusals
 use Rattle.engine_pages.specs.declared.view.Touch.{Touch}
 use Rattle.engine_pages.specs.declared.view.View.{View}
-use Rattle.worker_cells.specs.Below.{blame_at, blame_of, blames_of, IsKeyOf, IsMetOf, IsOfKey, IsOnTree, IsWordAt}
-use Rattle.worker_cells.specs.Below.{IsWrittenBy, Lost, MayWrite, OfRecord, OfSlot, OfWay, Spot, ToClock, ToOther}
-use Rattle.worker_cells.specs.Below.{ToSet, ToSlots}
+use Rattle.engine_pages.specs.declared.view.SetName.{SetName}
+use Rattle.engine_pages.specs.declared.view.SetName.TheVariants as names
+use Rattle.worker_cells.specs.Below.{blame_at, blame_of, blames_of, FillsSet, IsKeyOf, IsMetOf, IsOfKey, IsOnTree}
+use Rattle.worker_cells.specs.Below.{IsTreeScan, IsWordAt, IsWrittenBy, Lost, MayWrite, OfLeaf, OfRecord}
+use Rattle.worker_cells.specs.Below.{OfSlot, OfWay, Spot, ToClock, ToOther, ToSet, ToSlots}
 use Rattle.tx_script.specs.Run.{AtRecord}
-use Rattle.tx_script.specs.Conflicts.{IsMet, IsMetAt, IsMetBy, LinesMet, WorkersMet, changes, changes_key, same_key}
-use Rattle.tx_script.specs.Conflicts.{IsOnTree as IsOfTree, touches, touches_key}
+use Rattle.tx_script.specs.Conflicts.{FillsSet as CanFill, IsMet, IsMetAt, IsMetBy, LinesMet, ScansTree, WorkersMet}
+use Rattle.tx_script.specs.Conflicts.{changes, changes_key, same_key, IsOnTree as IsOfTree, touches, touches_key}
 use Rattle.worker_cells.specs.InARow.{IsTakenBy, line_keeps, row_before}
 use Rattle.worker_cells.specs.Rows.{AreInARow, LineRan, lines_of, refused_of}
 use Rattle.shared_rounds.specs.Parts.{AreParts, IsPart, IsRound, Part, no_tries, tries_of}
-use Rattle.shared_rounds.specs.Refusals.{try_refusal, where_of}
+use Rattle.shared_rounds.specs.Refusals.{set_of, try_refusal, where_of}
 use Rattle.shared_rounds.specs.Shares.{Share}
 use Rattle.shared_rounds.proofs.Claimed.{grown}
 use Rattle.shared_rounds.proofs.Conflicts.{IsLostOf, line_lost}
@@ -89,7 +91,7 @@ line_changes ops k key = any_in (changes_key k) ops key.op key.among (changed_by
 -- a conflict at a record is one at an array's
 array_of : (l : Layout) (k : Key) (why : RefusalCause) → IsWordAt l (OfRecord k) why
     → is_array l.decls k.storage ≡ true
-array_of l k (refusals.Conflict at expected seen) is = is
+array_of l k (refusals.Conflict at expected seen) is = is.0
 array_of l k (refusals.Full held) is = absurd is
 array_of l k (refusals.Wide set) is = absurd is
 array_of l k (refusals.NumberLimit clock) is = absurd is
@@ -102,6 +104,23 @@ on_tree decls (Remove k) on = on
 on_tree decls (Add k amount) on = on
 on_tree decls (Take k amount) on = on
 on_tree decls (Scan storage low high) on = on
+
+-- an operation of these scans one
+scan_among : (decls : List Decl) (ops : List Op) (op : Op) → Contains ops op → IsTreeScan decls op → ScansTree decls ops
+scan_among decls ops (Read k) among scan = absurd scan
+scan_among decls ops (Write k value) among scan = absurd scan
+scan_among decls ops (Remove k) among scan = absurd scan
+scan_among decls ops (Add k amount) among scan = absurd scan
+scan_among decls ops (Take k amount) among scan = absurd scan
+scan_among decls ops (Scan storage low high) among scan = (storage, low, high, among, scan)
+
+-- a set that the line can fill is told as one
+can_fill : (decls : List Decl) (ops : List Op) (set : SetName) → FillsSet decls ops set
+    → CanFill decls ops (set_of set)
+can_fill decls ops names.Reads fills = scan_among decls ops fills.0 fills.1 fills.2
+can_fill decls ops names.Writes fills = absurd fills
+can_fill decls ops names.Pointers fills = scan_among decls ops fills.0 fills.1 fills.2
+can_fill decls ops names.Holds fills = (fills.0, fills.1, on_tree decls fills.0 fills.2)
 
 -- ---- lines that were run
 
@@ -208,7 +227,7 @@ module _ (tries : ℕ) (was now : View) (parts : List Part) (r : IsRound tries w
       → IsMet was.layout.decls lines_all dropped worker line.ops (try_refusal lost)
   lost_met worker p at line among (ToClock clock) has of = tt
   lost_met worker p at line among (ToSlots words) has of = (of.0, line_changes line.ops of.0 of.1)
-  lost_met worker p at line among (ToSet set) has of = (of.0, of.1, on_tree was.layout.decls of.0 of.2)
+  lost_met worker p at line among (ToSet set) has of = can_fill was.layout.decls line.ops set of
   lost_met worker p at line among (ToOther clash) has of =
       by_spot clash.spot refl of.1
     where
@@ -253,6 +272,7 @@ module _ (tries : ℕ) (was now : View) (parts : List Part) (r : IsRound tries w
           → IsMetAt lines_all dropped worker line.ops (where_of spot)
       at_spot (OfRecord k) is key = at_key k is key
       at_spot (OfWay k) is key = line_touches line.ops k key
+      at_spot (OfLeaf k) is key = line_touches line.ops k key
       at_spot OfSlot is may = (may.0, line_changes line.ops may.0 may.1)
 
       by_spot : (spot : Spot) → clash.spot ≡ spot → IsMetOf line.ops clash.spot

@@ -8,8 +8,8 @@ use Rattle.engine_pages.specs.declared.layout.Layout.{Layout}
 use Rattle.engine_pages.specs.declared.view.View.{View}
 use Rattle.engine_pages.specs.declared.view.RefusalCause.{RefusalCause}
 use Rattle.engine_pages.specs.declared.view.RefusalCause.TheVariants as refusals
-use Rattle.worker_cells.specs.Below.{IsClash, IsConflicting, Lost, OfRecord, OfSlot, OfWay, Spot, ToClock, ToOther}
-use Rattle.worker_cells.specs.Below.{ToSet, ToSlots}
+use Rattle.worker_cells.specs.Below.{IsClash, IsConflicting, Lost, OfLeaf, OfRecord, OfSlot, OfWay, Spot, ToClock}
+use Rattle.worker_cells.specs.Below.{ToOther, ToSet, ToSlots}
 use Rattle.tx_script.specs.Causes.{IsOfConflict, IsTryCause}
 use Rattle.tx_script.specs.declared.outcome.Outcome.{Outcome}
 use Rattle.tx_script.specs.declared.outcome.Outcome.TheVariants.{Committed, Conflict, Full, Wide, Limit, Unrun}
@@ -23,6 +23,7 @@ clash_caused : (why : RefusalCause) (spot : Spot) → IsConflicting why spot
     → IsOfConflict (where_of spot) (expected_in why) (seen_in why)
 clash_caused (refusals.Conflict at expected seen) (OfRecord k) is = is
 clash_caused (refusals.Conflict at expected seen) (OfWay k) is = is
+clash_caused (refusals.Conflict at expected seen) (OfLeaf k) is = is
 clash_caused (refusals.Conflict at expected seen) OfSlot is = is
 clash_caused (refusals.Full held) spot is = absurd is
 clash_caused (refusals.Wide set) spot is = absurd is

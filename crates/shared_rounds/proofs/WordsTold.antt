@@ -7,7 +7,8 @@ use Rattle.engine_pages.specs.declared.layout.Layout.{Layout}
 use Rattle.engine_pages.specs.declared.view.RefusalCause.{RefusalCause}
 use Rattle.engine_pages.specs.declared.view.RefusalCause.TheVariants as refusals
 use Rattle.engine_pages.specs.declared.view.View.{View}
-use Rattle.worker_cells.specs.Below.{IsWordAt, Lost, OfRecord, OfSlot, OfWay, Spot, ToClock, ToOther, ToSet, ToSlots}
+use Rattle.worker_cells.specs.Below.{IsWordAt, Lost, OfLeaf, OfRecord, OfSlot, OfWay, Spot, ToClock, ToOther, ToSet}
+use Rattle.worker_cells.specs.Below.{ToSlots}
 use Rattle.worker_cells.specs.InARow.{line_keeps}
 use Rattle.worker_cells.specs.Rows.{AreInARow, LineRan}
 use Rattle.shared_rounds.specs.Parts.{AreParts, Part, no_tries, tries_of}
@@ -20,6 +21,7 @@ clash_told : (l : Layout) (why : RefusalCause) (spot : Spot) → IsWordAt l spot
     → IsToldAt l (where_of spot) (word_in why)
 clash_told l (refusals.Conflict at expected seen) (OfRecord k) is = is
 clash_told l (refusals.Conflict at expected seen) (OfWay k) is = is
+clash_told l (refusals.Conflict at expected seen) (OfLeaf k) is = is
 clash_told l (refusals.Conflict at expected seen) OfSlot is = is
 clash_told l (refusals.Full held) spot is = absurd is
 clash_told l (refusals.Wide set) spot is = absurd is

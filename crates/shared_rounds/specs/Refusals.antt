@@ -10,9 +10,10 @@ use Rattle.engine_pages.specs.declared.view.RefusalCause.TheVariants as refusals
 use Rattle.engine_pages.specs.declared.view.SetName.{SetName}
 use Rattle.engine_pages.specs.declared.view.SetName.TheVariants as names
 use Rattle.engine_pages.specs.Slots.{first_retired}
-use Rattle.tx_script.specs.Run.{AtRecord, AtSlot, FullSet, InConflict, NoNumber, NoRoom, NoSlot, OfHolds, OfPointers}
-use Rattle.tx_script.specs.Run.{OfReads, OfWrites, OnWay, TryRefusal, Where}
-use Rattle.worker_cells.specs.Below.{IsWayWord, Lost, OfRecord, OfSlot, OfWay, Spot, ToClock, ToOther, ToSet, ToSlots}
+use Rattle.tx_script.specs.Run.{AtRecord, AtSlot, FullSet, InConflict, InLeaf, NoNumber, NoRoom, NoSlot, OfHolds}
+use Rattle.tx_script.specs.Run.{OfPointers, OfReads, OfWrites, OnWay, TryRefusal, Where}
+use Rattle.worker_cells.specs.Below.{IsLeafWord, IsRecordWord, IsWayWord, Lost, OfLeaf, OfRecord, OfSlot, OfWay, Spot}
+use Rattle.worker_cells.specs.Below.{ToClock, ToOther, ToSet, ToSlots}
 
 -- ---- what is told
 
@@ -27,6 +28,7 @@ set_of names.Holds = OfHolds
 abbrev pub where_of : Spot → Where
 where_of (OfRecord k) = AtRecord k
 where_of (OfWay k) = OnWay k
+where_of (OfLeaf k) = InLeaf k
 where_of OfSlot = AtSlot
 
 -- the word of a conflict, by its number among all that threads share
@@ -89,10 +91,12 @@ causes_of refused = flat_map causes_of_lines refused
 
 -- ---- where the words stand
 
--- the record is one of an array; the word is on the way to the key; or it is that of a slot
+-- the record is one of an array, and the word that of a record; the word is on the way to the key, in a root or a page;
+-- it is one of a page, for the key of a tree; or it is that of a slot
 abbrev pub IsToldAt : Layout → Where → ℕ → Type 0
-IsToldAt l (AtRecord k) word = is_array l.decls k.storage ≡ true
+IsToldAt l (AtRecord k) word = (is_array l.decls k.storage ≡ true) × IsRecordWord l k word
 IsToldAt l (OnWay k) word = IsWayWord l k word
+IsToldAt l (InLeaf k) word = IsLeafWord l k word
 IsToldAt l AtSlot word = (t : ℕ) × (t < l.slots) × (word ≡ slot_at t)
 
 -- the word of a conflict stands where it is told

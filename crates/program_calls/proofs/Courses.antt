@@ -232,7 +232,7 @@ module _ {D : Type 0} (v : Vaults D) (whole : IsWhole v.was)
     behind = rests_behind v (nothing_of bytes ending) (nothing_kept ending same);
     history = nothing_come [];
     caused = record {
-      in_rounds = record { caused = tt; beside = tt; durable = tt; sequences = tt; marks = tt; tried = tt; counted = tt; met = tt; slotted = tt };
+      in_rounds = record { caused = tt; beside = tt; durable = tt; sequences = tt; marks = tt; tried = tt; counted = tt; met = tt; slotted = tt; filled = tt };
       full = (tt, λ found told. tt);
       files = none_over;
     };

@@ -20,7 +20,7 @@ use Rattle.joint_crashes.specs.VaultReads.{whole_read}
 use Rattle.tx_script.specs.Run.{Ran}
 use Rattle.round_engine.specs.Crashes.{CarriesCrashes}
 use Rattle.round_engine.specs.Ends.{end_of}
-use Rattle.round_engine.specs.RanRound.{AreFailed, LeavesVault, RanRound, Rounds}
+use Rattle.round_engine.specs.RanRound.{AreFailed, LeavesLinesOut, LeavesVault, RanRound, Rounds}
 use Rattle.round_engine.specs.Standing.{RuntimeState, StandsOn}
 use Rattle.round_engine.specs.Unbegun.{IsUnbegun}
 use Rattle.round_engine.specs.declared.report.End.{End}
@@ -361,11 +361,11 @@ module _ {D : Type 0} (tells : D → Option Bytes) (clock : D → ℕ) (image_at
       → (so : RanSoFar tells clock image_at faults snap slots tries script was r count before) → slice_get script.rounds count ≡ Some round
       → (one : RanRound tries round r s report) → (leaves : LeavesVault tells clock image_at faults one.ran one.logged r s before now)
       → CarriesCrashes tells clock image_at one.logged (leaves.stored ++ option_to_list leaves.failed) one.ran r s
-      before now
+      before now → LeavesLinesOut tells clock image_at faults one.ran one.logged r before
       → report.end ≡ Some e → Shows (so.rans ++ one.ran ∷ []) s.stands.state (ending_of e)
       → RunsRounds (at_now tells clock image_at faults snap slots tries script was now) snap slots tries script Shows
-  stopped r s count before now round report e so at one leaves carries is shown =
-      let m = one_more tells clock image_at faults snap slots tries script was r s count before now round report so at one leaves carries in
+  stopped r s count before now round report e so at one leaves carries out is shown =
+      let m = one_more tells clock image_at faults snap slots tries script was r s count before now round report so at one leaves carries out in
       let ends_is : end_of one.ran ≡ Some e = sym one.reports.end ∙ is in
       after_round r s count before now so one.ran m (ending_of e) (not_finished e)
       (comes_at r s count before now so one.ran m e ends_is (end_tells one.ran e m.own m.most ends_is))
@@ -395,11 +395,11 @@ module _ {D : Type 0} (tells : D → Option Bytes) (clock : D → ℕ) (image_at
       → (so : RanSoFar tells clock image_at faults snap slots tries script was r count before) → slice_get script.rounds count ≡ Some round
       → (one : RanRound tries round r s report) → (leaves : LeavesVault tells clock image_at faults one.ran one.logged r s before now)
       → CarriesCrashes tells clock image_at one.logged (leaves.stored ++ option_to_list leaves.failed) one.ran r s
-      before now
+      before now → LeavesLinesOut tells clock image_at faults one.ran one.logged r before
       → Shows (so.rans ++ one.ran ∷ []) s.stands.state (ending_after report.end)
       → RunsRounds (at_now tells clock image_at faults snap slots tries script was now) snap slots tries script Shows
-  broke r s count before now round report so at one leaves carries shown =
-      let m = one_more tells clock image_at faults snap slots tries script was r s count before now round report so at one leaves carries in
+  broke r s count before now round report so at one leaves carries out shown =
+      let m = one_more tells clock image_at faults snap slots tries script was r s count before now round report so at one leaves carries out in
       after_round r s count before now so one.ran m (ending_after report.end) (after_not_finished report.end)
       (comes_after r s count before now so one.ran m report.end (sym one.reports.end))
       shown
@@ -540,7 +540,7 @@ module _ {D : Type 0} (tells : D → Option Bytes) (clock : D → ℕ) (image_at
     state = before.opening.state;
     run = no_run tells clock image_at faults snap slots tries script was before.opening;
     comes = before.comes;
-    caused = record { caused = tt; beside = tt; durable = tt; sequences = tt; marks = tt; tried = tt; counted = tt; met = tt; slotted = tt };
+    caused = record { caused = tt; beside = tt; durable = tt; sequences = tt; marks = tt; tried = tt; counted = tt; met = tt; slotted = tt; filled = tt };
     full = (tt, λ found told. tt);
     history = nothing_come script.decls;
     files = none_over;
@@ -596,12 +596,12 @@ module _ {D : Type 0} (tells : D → Option Bytes) (clock : D → ℕ) (image_at
       → (so : RanSoFar tells clock image_at faults snap slots tries script was r count before) → slice_get script.rounds count ≡ Some round
       → (one : RanRound tries round r s report) → (leaves : LeavesVault tells clock image_at faults one.ran one.logged r s before now)
       → CarriesCrashes tells clock image_at one.logged (leaves.stored ++ option_to_list leaves.failed) one.ran r s
-      before now
+      before now → LeavesLinesOut tells clock image_at faults one.ran one.logged r before
       → report.end ≡ Some e
       → RestsAgain tells clock image_at (status_of (ending_of e)) was now × (IsReadStatus (status_of (ending_of e)) → ⊥)
       × ReadsDamage tells clock image_at faults (status_of (ending_of e)) was now
-  rests_after r s count before now round report e so at one leaves carries is =
-      let m = one_more tells clock image_at faults snap slots tries script was r s count before now round report so at one leaves carries in
+  rests_after r s count before now round report e so at one leaves carries out is =
+      let m = one_more tells clock image_at faults snap slots tries script was r s count before now round report so at one leaves carries out in
       let tells_end = end_tells one.ran e m.own m.most (sym one.reports.end ∙ is) in
       (rests_ended s now so.opening so.rans one.ran m e tells_end, reads_ended e, damage_ended s now so.opening so.rans one.ran m e tells_end)
 

@@ -1,6 +1,6 @@
--- A log file that was told full in a round: its worker's lines since the swap are so many bytes.
+-- A log file that was told full in a round: its worker's lines since the swap, and those that it left out.
 use Rattle.std.proofs.Common.{◌≡◌, ◌∙◌, ◌<◌, ◌≤◌, ◌+◌, sym, ap, subst, refl, ℕ, Bool, true, false, cond, arith, List}
-use Rattle.std.proofs.Common.{[], ◌∷◌, ◌++◌, length}
+use Rattle.std.proofs.Common.{[], ◌∷◌, ◌++◌, length, Option, Some}
 use Rattle.std.specs.Prelude.{filter, map, nat_lt}
 use Rattle.std.specs.List.{AllByRecursion}
 use Rattle.std.proofs.lemmas.Bool.Decides.{nat_tests}
@@ -11,8 +11,13 @@ use Rattle.serial_model.specs.History.{Entry}
 use Rattle.serial_model.specs.State.{State}
 use Rattle.serial_model.specs.declared.decl.Decl.{Decl}
 use Rattle.serial_model.specs.declared.number.Commit.{Commit}
+use Rattle.log_writer.specs.declared.vault.Vault.{Vault}
+use Rattle.tx_script.specs.Run.{LogFull, Ran}
 use Rattle.worker_logs.specs.Logs.{LogState, reset_log}
-use Rattle.program_calls.specs.RoundCauses.{is_since}
+use Rattle.round_engine.specs.RanRound.{LeavesLinesOut}
+use Rattle.round_engine.specs.Standing.{RuntimeState, StandsOn}
+use Rattle.program_calls.specs.RoundCauses.{FullLeavesUnrun, is_since}
+use Rattle.program_calls.proofs.KeptFiles.{growing_file, item_at}
 use Rattle.program_calls.proofs.KeptLogged.{LoggedIn}
 
 -- no commit up to an epoch is since it
@@ -51,3 +56,13 @@ pub logs_before : (logs new : List LogState) (swapped : Bool) → new ≡ (cond 
     → length logs ≡ 8
 logs_before logs new true same eight = sym (length-map logs reset_log) ∙ sym (ap length same) ∙ eight
 logs_before logs new false same eight = sym (ap length same) ∙ eight
+
+-- Of a log file that was told full a line is told unrun.
+pub full_leaves : {D : Type 0} {tells : D → Option (List ℕ)} {clock : D → ℕ} {image_at : D → ℕ → List ℕ → Type 0}
+    {faults : D → ℕ} {ran : Ran} {logged : ℕ → List Commit} {old : RuntimeState} {before : Vault D}
+    → StandsOn tells clock image_at old before → LeavesLinesOut tells clock image_at faults ran logged old before
+    → FullLeavesUnrun ran
+full_leaves {old = old} {before = before} stands out worker size outcomes below told full =
+    let log = item_at old.logs worker (let many = stands.workers in omega (arith, many, below)) in
+    let file = growing_file old.side before worker stands.whole below in
+    (out.each worker outcomes (Some (LogFull size)) log.0 file.bank told full log.1 file.there).filled size refl

@@ -44,13 +44,13 @@ use Rattle.round_engine.specs.Ends.{comes_to_swap, swaps}
 use Rattle.round_engine.specs.Histories.{ComeFrom, comes_more, none_come}
 use Rattle.round_engine.specs.KnownAtFirst.{left_since}
 use Rattle.round_engine.specs.Logs.{AreClosedFiles, AreLogs}
-use Rattle.round_engine.specs.RanRound.{AreFailed, LeavesVault, RanRound}
+use Rattle.round_engine.specs.RanRound.{AreFailed, LeavesLinesOut, LeavesVault, RanRound}
 use Rattle.round_engine.specs.Standing.{IsReady, RuntimeState, StandsOn, files_of}
 use Rattle.round_engine.specs.Swaps.{since_swap}
 use Rattle.round_engine.specs.declared.report.Report.{Report}
 use Rattle.program_calls.specs.Beginning.{MayBegin, Opening, SameDecls}
 use Rattle.program_calls.specs.Ending.{RunGoesOn}
-use Rattle.program_calls.specs.RoundCauses.{AreRoundsCaused, AreFull, IsDurable}
+use Rattle.program_calls.specs.RoundCauses.{AreRoundsCaused, AreFull, FullLeavesUnrun, IsDurable}
 use Rattle.program_calls.specs.Main.{ComeFromWords}
 use Rattle.program_calls.specs.OnTheWay.{AsksForSnapshot, BeginsRun}
 use Rattle.program_calls.specs.RanOver.{BeginsOver, BeginsWith, FilesAt, IsUnbroken, KeepsPages, RunsOverFiles, files_after}
@@ -74,6 +74,7 @@ use Rattle.program_calls.proofs.RoundsJoined.{clock_from, printed_commits-push, 
 use Rattle.program_calls.proofs.SameRun.{met_same, same_run, same_state}
 use Rattle.program_calls.proofs.VaultsLater.{failed_back, quiet_failed, rose_back}
 use Rattle.program_calls.proofs.SavedPages.{least_pages, round_pages, settled_pages}
+use Rattle.program_calls.proofs.SinceSwap.{full_leaves}
 use Rattle.program_calls.proofs.OneRound.{clock_from-push, sequence_after, sequence_after-push, sequences-push, stored_length}
 use Rattle.program_calls.proofs.OneRound.{marked-push, marked, met-push, saved_many, down_none, answers_most, swaps_quiet}
 
@@ -330,8 +331,9 @@ module _ {D : Type 0} (tells : D → Option Bytes) (clock : D → ℕ) (image_at
       (so : RanSoFar r count before) → slice_get script.rounds count ≡ Some round → (one : RanRound tries round r s report)
       → (leaves : LeavesVault tells clock image_at faults one.ran one.logged r s before now)
       → CarriesCrashes tells clock image_at one.logged (leaves.stored ++ option_to_list leaves.failed) one.ran r s
-      before now → RanOneMore s now so.opening so.rans one.ran
-  one_more r s count before now round report so at one leaves carries =
+      before now → LeavesLinesOut tells clock image_at faults one.ran one.logged r before
+      → RanOneMore s now so.opening so.rans one.ran
+  one_more r s count before now round report so at one leaves carries out =
       let opening : Opening = so.opening in
       let ran : Ran = one.ran in
       let index : ℕ = length so.rans in
@@ -397,6 +399,7 @@ module _ {D : Type 0} (tells : D → Option Bytes) (clock : D → ℕ) (image_at
               (met_same script.decls r.stands.decls so.same one.ran round one.met);
           counted = all_push DrawsAreCounted so.rans one.ran so.caused.counted one.counted;
           slotted = slotted.1;
+          filled = all_push FullLeavesUnrun so.rans one.ran so.caused.filled (full_leaves so.stands out);
         };
         own = one.lines.caused;
         sequence = ap sequence_of stored.newest ∙ stored_length r.save.newest leaves.stored
@@ -498,7 +501,7 @@ module _ {D : Type 0} (tells : D → Option Bytes) (clock : D → ℕ) (image_at
           same = b.same;
           run = no_run opening;
           begins = begins;
-          caused = record { caused = tt; beside = tt; durable = tt; sequences = tt; marks = tt; tried = tt; counted = tt; met = tt; slotted = tt };
+          caused = record { caused = tt; beside = tt; durable = tt; sequences = tt; marks = tt; tried = tt; counted = tt; met = tt; slotted = tt; filled = tt };
           went_on = tt;
           clock_is = refl;
           sequence = refl;
@@ -562,10 +565,10 @@ module _ {D : Type 0} (tells : D → Option Bytes) (clock : D → ℕ) (image_at
       (so : RanSoFar r count before) → slice_get script.rounds count ≡ Some round → (one : RanRound tries round r s report)
       → (leaves : LeavesVault tells clock image_at faults one.ran one.logged r s before now)
       → CarriesCrashes tells clock image_at one.logged (leaves.stored ++ option_to_list leaves.failed) one.ran r s
-      before now
+      before now → LeavesLinesOut tells clock image_at faults one.ran one.logged r before
       → report.end ≡ None → (then : RanSoFar s (count + 1) now) × (then.rans ≡ so.rans ++ one.ran ∷ [])
-  goes_on r s count before now round report so at one leaves carries none =
-      let m = one_more r s count before now round report so at one leaves carries in
+  goes_on r s count before now round report so at one leaves carries out none =
+      let m = one_more r s count before now round report so at one leaves carries out in
       let goes : RunGoesOn one.ran = sym one.reports.end ∙ none in
       let joined_on = joined_where_none one.ran one.lines.caused goes in
       let clock_joined : s.stands.clock ≡ joined one.ran.printed.end =

@@ -59,7 +59,7 @@ module _ {D : Type 0} (tells : D → Option Bytes) (clock : D → ℕ) (image_at
   next_can_count brief kind tally old mid r count before round is at same few counted report s now ran =
       let so = is.so in
       let more = one_more tells clock image_at faults snap slots tries script was r s count before now round report so
-      at ran.0 ran.1 ran.2 in
+      at ran.0 ran.1 ran.2 ran.3 in
       fits_in brief kind tally old mid script.rounds so.rans ran.0.ran report same few more.run.lines is.told
       (of_round round r s report ran.0) counted
 
@@ -73,7 +73,7 @@ module _ {D : Type 0} (tells : D → Option Bytes) (clock : D → ℕ) (image_at
       let so = is.so in
       let x = one.ran in
       let then = goes_on tells clock image_at faults snap slots tries script was r s count before now round one.report
-      so at x.0 x.1 x.2 (sym one.end_is) in
+      so at x.0 x.1 x.2 x.3 (sym one.end_is) in
       record {
         so = then.0;
         told = subst (λ (l : List Ran). HasTold brief after old new l) (sym then.1)
@@ -95,10 +95,10 @@ module _ {D : Type 0} (tells : D → Option Bytes) (clock : D → ℕ) (image_at
         let so = is.so in
         let x = one.ran in
         let left = rests_after tells clock image_at faults snap slots tries script was reads r s count before now round
-        one.report e so at x.0 x.1 x.2 (sym one.end_is) in
+        one.report e so at x.0 x.1 x.2 x.3 (sym one.end_is) in
         record {
           runs = stopped tells clock image_at faults snap slots tries script was reads r s count before now round
-              one.report e so at x.0 x.1 x.2 (sym one.end_is) (
+              one.report e so at x.0 x.1 x.2 x.3 (sym one.end_is) (
                 refl,
                 told_more brief kind tally after old mid new one.report so.rans x.0.ran _ same
                     (told_text round r s one.report x.0) (of_round round r s one.report x.0) is.told one.told,
@@ -140,7 +140,7 @@ module _ {D : Type 0} (tells : D → Option Bytes) (clock : D → ℕ) (image_at
         let x = one.ran in
         record {
           runs = broke tells clock image_at faults snap slots tries script was reads r s count before now round
-              one.report so at x.0 x.1 x.2 (told_broken _ brief kind tally after old mid new one.report so.rans x.0.ran
+              one.report so at x.0 x.1 x.2 x.3 (told_broken _ brief kind tally after old mid new one.report so.rans x.0.ran
               failed _ same (told_text round r s one.report x.0) is.told one.told _);
           whole = x.1.stands.whole;
           reads = λ only. absurd (omega (arith, only.1));

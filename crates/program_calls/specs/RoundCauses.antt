@@ -2,7 +2,7 @@
 -- files.
 use Rattle.std.specs.Prelude.{◌≡◌, ◌+◌, ◌-◌, ◌<◌, ◌++◌, ℕ, List, [], ◌∷◌, length, option_to_list, slice_get, Bool}
 use Rattle.std.specs.Prelude.{filter, nat_lt, Option, Some, None, ⊤}
-use Rattle.std.specs.List.{AllByRecursion}
+use Rattle.std.specs.List.{AllByRecursion, Contains}
 use Rattle.serial_model.specs.History.{Entry}
 use Rattle.serial_model.specs.State.{State}
 use Rattle.serial_model.specs.declared.decl.Decl.{Decl}
@@ -13,6 +13,8 @@ use Rattle.tx_script.specs.Causes.{AllCaused}
 use Rattle.tx_script.specs.CausedBeside.{CausedBeside}
 use Rattle.tx_script.specs.Conflicts.{AreMet}
 use Rattle.tx_script.specs.Draws.{DrawsAreCounted}
+use Rattle.tx_script.specs.declared.outcome.Outcome.{Outcome}
+use Rattle.tx_script.specs.declared.outcome.Outcome.TheVariants.{Unrun}
 use Rattle.wire_form.specs.LogFile.{lines_bytes}
 use Rattle.round_engine.specs.Changes.{AreLogged}
 use Rattle.round_engine.specs.Ends.{durable_of, end_of}
@@ -76,6 +78,12 @@ AllMet decls [] rounds = ⊤
 AllMet decls (ran ∷ rans) (round ∷ rounds) = AreMet decls ran round × AllMet decls rans rounds
 AllMet decls (ran ∷ rans) [] = ⊥
 
+-- A log file that a round told full left a line of its worker out: one is told unrun.
+abbrev pub FullLeavesUnrun : Ran → Type 0
+FullLeavesUnrun ran = (worker size : ℕ) (outcomes : List Outcome) → worker < 8
+    → slice_get ran.printed.outcomes worker ≡ Some outcomes
+    → slice_get ran.beside.logs worker ≡ Some (Some (LogFull size)) → Contains outcomes Unrun
+
 -- Each outcome and each answer of the rounds has its cause, as has each epoch that was made durable; by the sequences
 -- of the savepoints, the marks of the workers, how often a line may be tried, and how many slots there are, which these
 -- causes speak of. Each number of a round was drawn for one of its commits, or for a try that was refused behind its
@@ -84,6 +92,7 @@ AllMet decls (ran ∷ rans) [] = ⊥
 -- pointer, a slot or a word of a tree nobody is told. A line that found no slot may change some key, and one that filled
 -- a set has an operation on a tree. Saves that may run beside the workers name the least of the clock's epoch less 1 and
 -- of the marks that they saw; drops of pages answer what the maintenance thread counted of them.
+-- A log file is told full only where a line of its worker is told unrun.
 pub record AreRoundsCaused (slots tries : ℕ) (decls : List Decl) (rounds : List Round) (opening : Opening)
     (rans : List Ran) : Type 0 where
   pub caused : AllByRecursion AllCaused rans
@@ -95,6 +104,7 @@ pub record AreRoundsCaused (slots tries : ℕ) (decls : List Decl) (rounds : Lis
   pub counted : AllByRecursion DrawsAreCounted rans
   pub met : AllMet decls rans rounds
   pub slotted : HaveSlots slots rans
+  pub filled : AllByRecursion FullLeavesUnrun rans
 
 -- the commit has an epoch above this one
 abbrev pub is_since : ℕ → Commit → Bool

@@ -163,12 +163,12 @@ flat_same f g [] same = refl
 flat_same f g (x ∷ xs) same = ap (λ l. l ++ flat_map f xs) (same x (in_head x xs))
     ∙ ap (λ l. g x ++ l) (flat_same f g xs (λ y has. same y (in_tail y x xs has)))
 
-below_length : {X : Type 0} (xs : List X) (i : ℕ) (x : X) → slice_get xs i ≡ Some x → i < length xs
+pub below_length : {X : Type 0} (xs : List X) (i : ℕ) (x : X) → slice_get xs i ≡ Some x → i < length xs
 below_length [] i x at = absurd cc
 below_length (y ∷ xs) zero x at = omega arith
 below_length (y ∷ xs) (suc i) x at = omega (arith, below_length xs i x at)
 
-all_behind : {X : Type 0} (P : X → Type 0) (xs ys : List X) → AllByRecursion P (xs ++ ys) → AllByRecursion P ys
+pub all_behind : {X : Type 0} (P : X → Type 0) (xs ys : List X) → AllByRecursion P (xs ++ ys) → AllByRecursion P ys
 all_behind P [] ys all = all
 all_behind P (x ∷ xs) ys all = all_behind P xs ys all.1
 
@@ -200,17 +200,25 @@ OverFrom room f [] g = g ≡ f
 OverFrom room f (ran ∷ rans) g = BeginsOver room f ran × (made : List (List ℕ)) × (counted : List ℕ)
     × AddsPages ran made × OverFrom room (files_after f ran made counted) rans g
 
--- what gleans of a round come to, and what a join of it closed, by what was logged
-pub record TellsOf (f : FilesAt) (ran : Ran) (made : List (List ℕ)) (counted : List ℕ) (logged : ℕ → List Commit)
-    : Type 0 where
-  pub gleans : GleansOf f ran made logged
-  pub closes : swaps ran ≡ true → AreLengthsOf logged f.files.closed_at ran.printed.end.epoch counted
+-- what is said of the files of a round, of what it made and of what its join closed
+abbrev pub OfFiles : Type 1
+OfFiles = FilesAt → Ran → List (List ℕ) → List ℕ → Type 0
 
-abbrev pub AllTell : (logged : ℕ → List Commit) (room : ℕ) (f : FilesAt) (rans : List Ran) (g : FilesAt)
-    → OverFrom room f rans g → Type 0
-AllTell logged room f [] g over = ⊤
-AllTell logged room f (ran ∷ rans) g over = TellsOf f ran over.1 over.2 logged
-    × AllTell logged room (files_after f ran over.1 over.2) rans g over.4
+-- by what was logged: what its gleans come to
+abbrev pub TellsOf : (ℕ → List Commit) → OfFiles
+TellsOf logged f ran made counted = GleansOf f ran made logged
+
+-- and how much counts of what its join closed
+abbrev pub ClosesOf : (ℕ → List Commit) → OfFiles
+ClosesOf logged f ran made counted =
+    swaps ran ≡ true → AreLengthsOf logged f.files.closed_at ran.printed.end.epoch counted
+
+-- so it is of each round
+abbrev pub AllOver : (P : OfFiles) (room : ℕ) (f : FilesAt) (rans : List Ran) (g : FilesAt) → OverFrom room f rans g
+    → Type 0
+AllOver P room f [] g over = ⊤
+AllOver P room f (ran ∷ rans) g over = P f ran over.1 over.2
+    × AllOver P room (files_after f ran over.1 over.2) rans g over.4
 
 -- one round more
 abbrev pub over_push : (room : ℕ) (f : FilesAt) (rans : List Ran) (g : FilesAt) (ran : Ran) (made : List (List ℕ))
@@ -221,15 +229,34 @@ over_push room f [] g ran made counted over begins adds =
 over_push room f (r ∷ rans) g ran made counted over begins adds =
     (over.0, over.1, over.2, over.3, over_push room (files_after f r over.1 over.2) rans g ran made counted over.4 begins adds)
 
-pub tell_push : (logged : ℕ → List Commit) (room : ℕ) (f : FilesAt) (rans : List Ran) (g : FilesAt) (ran : Ran)
+pub over_more : (P : OfFiles) (room : ℕ) (f : FilesAt) (rans : List Ran) (g : FilesAt) (ran : Ran)
     (made : List (List ℕ)) (counted : List ℕ) (over : OverFrom room f rans g) (begins : BeginsOver room g ran)
-    (adds : AddsPages ran made) → AllTell logged room f rans g over → TellsOf g ran made counted logged
-    → AllTell logged room f (rans ++ ran ∷ []) (files_after g ran made counted)
+    (adds : AddsPages ran made) → AllOver P room f rans g over → P g ran made counted
+    → AllOver P room f (rans ++ ran ∷ []) (files_after g ran made counted)
     (over_push room f rans g ran made counted over begins adds)
-tell_push logged room f [] g ran made counted over begins adds all own =
-    (subst (λ x. TellsOf x ran made counted logged) over own, tt)
-tell_push logged room f (r ∷ rans) g ran made counted over begins adds all own =
-    (all.0, tell_push logged room (files_after f r over.1 over.2) rans g ran made counted over.4 begins adds all.1 own)
+over_more P room f [] g ran made counted over begins adds all own =
+    (subst (λ x. P x ran made counted) over own, tt)
+over_more P room f (r ∷ rans) g ran made counted over begins adds all own =
+    (all.0, over_more P room (files_after f r over.1 over.2) rans g ran made counted over.4 begins adds all.1 own)
+
+-- What follows for each round up to an epoch follows for all of them.
+over_then : (P Q : OfFiles) (first : ℕ)
+    → ((f : FilesAt) (ran : Ran) (made : List (List ℕ)) (counted : List ℕ) → f.files.closed_at < first
+    → ran.printed.end.epoch < first → P f ran made counted → Q f ran made counted)
+    → (room : ℕ) (f : FilesAt) (rans : List Ran) (g : FilesAt) (over : OverFrom room f rans g)
+    → f.files.closed_at < first → AllByRecursion (λ ran. ran.printed.end.epoch < first) rans
+    → AllOver P room f rans g over → AllOver Q room f rans g over
+over_then P Q first one room f [] g over before ended all = tt
+over_then P Q first one room f (ran ∷ rans) g over before ended all = (
+  one f ran over.1 over.2 before ended.0 all.0,
+  over_then P Q first one room (files_after f ran over.1 over.2) rans g over.4 (later_closed (swaps ran)) ended.1 all.1,
+)
+  where
+    later_closed : (b : Bool)
+        → (let x : LogFiles = cond b (record { odd = not f.files.odd; counted = over.2; closed_at = ran.printed.end.epoch })
+        (record { odd = f.files.odd; counted = counted_behind ran; closed_at = f.files.closed_at }) in x.closed_at < first)
+    later_closed true = ended.0
+    later_closed false = before
 
 -- ---- more was logged, of later epochs
 
@@ -266,66 +293,74 @@ module _ (logged later : ℕ → List Commit) (first : ℕ)
   comes_then f before of None comes = comes
 
   tells_then : (f : FilesAt) (ran : Ran) (made : List (List ℕ)) (counted : List ℕ) → f.files.closed_at < first
-      → ran.printed.end.epoch < first → TellsOf f ran made counted logged → TellsOf f ran made counted then_logged
+      → ran.printed.end.epoch < first → TellsOf logged f ran made counted → TellsOf then_logged f ran made counted
   tells_then f ran made counted before ended tells = record {
-    gleans = record {
-      found = λ what has. let it = tells.gleans.found what has in
-          (may_glean f before it.0, comes_then f before it.0 what it.1);
-      added = λ new makes. let it = tells.gleans.added new makes in (may_glean f before it.0, it.1);
-    };
-    closes = λ is. let lengths = tells.closes is in record {
-      workers = lengths.workers;
-      each = λ w size at. lengths.each w size at ∙ ap (λ cs. length (lines_bytes cs))
-          (between_stays f.files.closed_at ran.printed.end.epoch w ended
-          (let many = lengths.workers in let within = below_length counted w size at in omega (arith, many, within)));
-    };
+    found = λ what has. let it = tells.found what has in
+        (may_glean f before it.0, comes_then f before it.0 what it.1);
+    added = λ new makes. let it = tells.added new makes in (may_glean f before it.0, it.1);
   }
+
+  closes_then : (f : FilesAt) (ran : Ran) (made : List (List ℕ)) (counted : List ℕ) → f.files.closed_at < first
+      → ran.printed.end.epoch < first → ClosesOf logged f ran made counted → ClosesOf then_logged f ran made counted
+  closes_then f ran made counted before ended closes is =
+      let lengths = closes is in
+      record {
+        workers = lengths.workers;
+        each = λ w size at. lengths.each w size at ∙ ap (λ cs. length (lines_bytes cs))
+            (between_stays f.files.closed_at ran.printed.end.epoch w ended
+            (let many = lengths.workers in let within = below_length counted w size at in omega (arith, many, within)));
+      }
 
   -- so what was told of rounds before them is told still
   pub tell_then : (room : ℕ) (f : FilesAt) (rans : List Ran) (g : FilesAt) (over : OverFrom room f rans g)
       → f.files.closed_at < first → AllByRecursion (λ ran. ran.printed.end.epoch < first) rans
-      → AllTell logged room f rans g over → AllTell then_logged room f rans g over
-  tell_then room f [] g over before ended all = tt
-  tell_then room f (ran ∷ rans) g over before ended all = (
-    tells_then f ran over.1 over.2 before ended.0 all.0,
-    tell_then room (files_after f ran over.1 over.2) rans g over.4 (later_closed (swaps ran)) ended.1 all.1,
-  )
-    where
-      later_closed : (b : Bool)
-          → (let x : LogFiles = cond b (record { odd = not f.files.odd; counted = over.2; closed_at = ran.printed.end.epoch })
-          (record { odd = f.files.odd; counted = counted_behind ran; closed_at = f.files.closed_at }) in x.closed_at < first)
-      later_closed true = ended.0
-      later_closed false = before
+      → AllOver (TellsOf logged) room f rans g over → AllOver (TellsOf then_logged) room f rans g over
+  tell_then = over_then (TellsOf logged) (TellsOf then_logged) first tells_then
+
+  pub close_then : (room : ℕ) (f : FilesAt) (rans : List Ran) (g : FilesAt) (over : OverFrom room f rans g)
+      → f.files.closed_at < first → AllByRecursion (λ ran. ran.printed.end.epoch < first) rans
+      → AllOver (ClosesOf logged) room f rans g over → AllOver (ClosesOf then_logged) room f rans g over
+  close_then = over_then (ClosesOf logged) (ClosesOf then_logged) first closes_then
 
 -- by another list that is the same one
 pub tell_same : (a b : ℕ → List Commit) (room : ℕ) (f : FilesAt) (rans : List Ran) (g : FilesAt)
-    (over : OverFrom room f rans g) → a ≡ b → AllTell a room f rans g over → AllTell b room f rans g over
-tell_same a b room f rans g over same = subst (λ l. AllTell l room f rans g over) same
+    (over : OverFrom room f rans g) → a ≡ b → AllOver (TellsOf a) room f rans g over
+    → AllOver (TellsOf b) room f rans g over
+tell_same a b room f rans g over same = subst (λ l. AllOver (TellsOf l) room f rans g over) same
+
+pub close_same : (a b : ℕ → List Commit) (room : ℕ) (f : FilesAt) (rans : List Ran) (g : FilesAt)
+    (over : OverFrom room f rans g) → a ≡ b → AllOver (ClosesOf a) room f rans g over
+    → AllOver (ClosesOf b) room f rans g over
+close_same a b room f rans g over same = subst (λ l. AllOver (ClosesOf l) room f rans g over) same
 
 -- What was told of each round, of the run's whole log.
 pub files_from : {D : Type 0} (v : Vaults D) (decls storages : List Decl) (s : State) (commits : List Entry) (room : ℕ)
-    (f : FilesAt) (rans : List Ran) (g : FilesAt) → SameDecls decls storages
-    → (logged : (found : Images) → AreTold v.tells (parts_of v.was) found → ℕ → List Commit)
+    (f : FilesAt) (rans : List Ran) (g : FilesAt) → SameDecls decls storages → (closed : ℕ → List Commit)
+    → ((w : ℕ) → w < 8 → AreLogged storages w s commits (closed w)) → (logged : (found : Images) → AreTold v.tells (parts_of v.was) found → ℕ → List Commit)
     → ((found : Images) (told : AreTold v.tells (parts_of v.was) found) (w : ℕ) → w < 8
     → AreLogged storages w s commits (logged found told w)) → (over : OverFrom room f rans g)
-    → ((found : Images) (told : AreTold v.tells (parts_of v.was) found) → AllTell (logged found told) room f rans g over)
-    → FilesFrom v decls s commits room f rans g
-files_from v decls storages s commits room f [] g same logged is over tells = over
-files_from v decls storages s commits room f (ran ∷ rans) g same logged is over tells = (
+    → AllOver (ClosesOf closed) room f rans g over → ((found : Images) (told : AreTold v.tells (parts_of v.was) found)
+    → AllOver (TellsOf (logged found told)) room f rans g over) → FilesFrom v decls s commits room f rans g
+files_from v decls storages s commits room f [] g same closed closed_is logged is over closes tells = over
+files_from v decls storages s commits room f (ran ∷ rans) g same closed closed_is logged is over closes tells = (
   over.0,
   over.1,
   over.2,
   record {
     pages = over.3;
+    closes = λ swapped. record {
+      logged = closed;
+      is_logged = record { storages = storages; same = same; each = closed_is };
+      lengths = closes.0 swapped;
+    };
     told = λ found told. record {
       logged = logged found told;
       is_logged = record { storages = storages; same = same; each = is found told };
-      gleans = (tells found told).0.gleans;
-      closes = (tells found told).0.closes;
+      gleans = (tells found told).0;
     };
   },
-  files_from v decls storages s commits room (files_after f ran over.1 over.2) rans g same logged is over.4
-      (λ found told. (tells found told).1),
+  files_from v decls storages s commits room (files_after f ran over.1 over.2) rans g same closed closed_is logged is
+      over.4 closes.1 (λ found told. (tells found told).1),
 )
 
 -- ---- a round's pages
@@ -428,22 +463,6 @@ module _ {D : Type 0} {tells : D → Option (List ℕ)} {clock : D → ℕ} {ima
       (λ c later. (let past = stands.closed.before in omega (arith, later, past))) (one.logged w) (logged_later w below))
       of_it.workers
 
-  -- all commits of the growing log files are up to the round's last epoch
-  here_by : (w : ℕ) → w < 8 → AllByRecursion (λ c. c.number.epoch ≤ one.ran.printed.end.epoch) (here_then w)
-  here_by w below =
-      let run = one.lines.run index in
-      let begins : one.ran.printed.begin.epoch ≡ old.stands.clock.epoch = ap (λ (n : Number). n.epoch) run.clocks.0 in
-      let up : old.stands.clock.epoch ≤ one.ran.printed.end.epoch =
-      (let later = advances_later one.ran.printed.begin.epoch one.ran.printed.answers one.ran.printed.end.epoch run.clocks.1.epoch in
-      omega (arith, begins, later)) in
-      all_behind (λ (c : Commit). c.number.epoch ≤ one.ran.printed.end.epoch) (kept.gone w) (here_then w)
-      (all_behind (λ (c : Commit). c.number.epoch ≤ one.ran.printed.end.epoch) (kept.older w) (kept.gone w ++ here_then w)
-      (commits_all (λ n. n.epoch ≤ one.ran.printed.end.epoch) decls w s (ordered ++ run.ordered)
-      (log_of_parts kept.older kept.gone here_then w) (logged_over.is_logged w below)
-      (all_append (λ (e : Entry). e.number.epoch ≤ one.ran.printed.end.epoch) ordered run.ordered
-      (all_weaker (λ (e : Entry). e.number.epoch ≤ old.stands.clock.epoch) (λ (e : Entry). e.number.epoch ≤ one.ran.printed.end.epoch)
-      (λ e by. omega (arith, by, up)) ordered kept.below) of_it.earlier)))
-
   -- A glean's run, by the commits that the closed log files have, where all of these count.
   module _ (f : FilesAt) (files : f.files ≡ files_of old) (words : f.words ≡ words_of old.store.pages)
       (since : f.since ≡ kept.since)
@@ -545,13 +564,12 @@ module _ {D : Type 0} {tells : D → Option (List ℕ)} {clock : D → ℕ} {ima
               same c.composed))),
         )
 
-  -- What the round tells of its files.
+  -- What the gleans of the round come to.
   pub tells_round : (f : FilesAt) → f.files ≡ files_of old → f.words ≡ words_of old.store.pages → f.since ≡ kept.since
       → (made : List (List ℕ))
       → ((count : ℕ) → MakesPages one.ran count → words_of new.store.pages ≡ words_of old.store.pages ++ made)
-      → TellsOf f one.ran made new.counted (log_of_parts kept.older kept.gone here_then)
+      → TellsOf (log_of_parts kept.older kept.gone here_then) f one.ran made new.counted
   tells_round f files words since made of_snap =
-      let at : f.files.closed_at ≡ old.closed_at = ap (λ (x : LogFiles). x.closed_at) files in
       let counts : some_counted old.counted ≡ true → ((w n : ℕ) → slice_get old.counted w ≡ Some n
       → n ≡ length (lines_bytes (kept.gone w))) × (newest_epoch kept.parts.store.at.catalogues ≤ kept.since) = λ is.
       elim kept.parts.counts [
@@ -559,29 +577,15 @@ module _ {D : Type 0} {tells : D → Option (List ℕ)} {clock : D → ℕ} {ima
         | inr none ↦ absurd (true≢false (sym is ∙ ap some_counted none.0))
       ] in
       record {
-        gleans = record {
-          found = λ what has.
-              let all = counts (leaves.needed what has) in finds f files words since all.0 all.1 what has;
-          added = λ count makes.
-              let needed : some_counted old.counted ≡ true =
-              sym (ap (λ (x : LogFiles). some_counted x.counted) one.begins.files)
-              ∙ made_counted one.ran (keeper_before one.ran) (beside_of old) one.ran.printed.asked one.ran.printed.answers makes.0 count
-              one.lines.caused.answers makes.1 in
-              let all = counts needed in
-              adds f files words since all.0 all.1 made count makes (of_snap count makes);
-        };
-        closes = λ is.
-            let lr = leaves.runs kept.commits kept.gone kept.durable kept.closed kept.logs (kept.open_files going) in
-            record {
-              workers = leaves.stands.closed.workers;
-              each = λ w size there.
-                  let below : w < 8 = (let many = leaves.stands.closed.workers in
-                  let within = below_length new.counted w size there in omega (arith, many, within)) in
-                  lr.closed_whole is w size there
-                  ∙ ap (λ cs. length (lines_bytes cs)) (sym (ap (λ n. filter (is_after n one.ran.printed.end.epoch)
-                  (log_of_parts kept.older kept.gone here_then w)) at
-                  ∙ here_between logged_over w below one.ran.printed.end.epoch (here_by w below)));
-            };
+        found = λ what has.
+            let all = counts (leaves.needed what has) in finds f files words since all.0 all.1 what has;
+        added = λ count makes.
+            let needed : some_counted old.counted ≡ true =
+            sym (ap (λ (x : LogFiles). some_counted x.counted) one.begins.files)
+            ∙ made_counted one.ran (keeper_before one.ran) (beside_of old) one.ran.printed.asked one.ran.printed.answers makes.0 count
+            one.lines.caused.answers makes.1 in
+            let all = counts needed in
+            adds f files words since all.0 all.1 made count makes (of_snap count makes);
       }
 
   -- Devices that tell their bytes aren't found damaged.

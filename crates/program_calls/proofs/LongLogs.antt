@@ -1,11 +1,13 @@
 -- How long the growing log files are with what waits, by what their workers logged since the swap: also where no device
 -- tells its bytes.
 use Rattle.std.proofs.Common.{◌≡◌, ◌∙◌, ◌≤◌, ◌<◌, ◌+◌, sym, ap, subst, refl, inl, inr, ℕ, cond, arith}
-use Rattle.std.proofs.Common.{List, [], ◌∷◌, ◌++◌, Option, Some, length, length-append, suc, zero}
+use Rattle.std.proofs.Common.{List, [], ◌∷◌, ◌++◌, Option, Some, append_assoc, length, length-append, suc, zero}
+use mathlib.Core.Path.{fun_ext}
 use Rattle.std.specs.Prelude.{filter, map, replicate, slice_get}
 use Rattle.std.specs.List.{AllByRecursion}
 use Rattle.std.proofs.lemmas.Bool.{cases_Bool}
 use Rattle.std.proofs.lemmas.Grind.{flat_map-append}
+use Rattle.std.proofs.lemmas.List.{append-nil}
 use Rattle.std.proofs.lemmas.Option.{same_Some}
 use Rattle.lists.specs.Each.{all_append, all_weaker}
 use Rattle.log_writer.specs.Journal.{end_of as file_end}
@@ -18,17 +20,23 @@ use Rattle.serial_model.specs.declared.number.Number.{Number}
 use Rattle.script_grammar.specs.Script.{Round}
 use Rattle.wire_form.specs.LogFile.{IsLineOf, lines_bytes}
 use Rattle.wire_form.specs.LogLine.{line_bytes}
+use Rattle.wire_form.specs.declared.clock.Mark.{Mark}
+use Rattle.log_mapper.specs.Mapped.{is_after}
 use Rattle.tx_script.specs.Run.{LogFiles, LogFull}
 use Rattle.worker_logs.specs.Logs.{LogState, fresh_log, reset_log}
+use Rattle.worker_logs.specs.Saves.{logs_marks}
 use Rattle.round_engine.specs.Changes.{AreLogged}
 use Rattle.round_engine.specs.Ends.{swaps}
 use Rattle.round_engine.specs.RanRound.{LeavesVault, RanRound}
-use Rattle.round_engine.specs.Standing.{RuntimeState, StandsOn}
+use Rattle.round_engine.specs.Saves.{beside_at_end}
+use Rattle.round_engine.specs.Standing.{RuntimeState, StandsOn, beside_of}
 use Rattle.round_engine.specs.declared.report.Report.{Report}
 use Rattle.program_calls.specs.Beginning.{SameDecls}
+use Rattle.program_calls.specs.RanOver.{FilesAt}
 use Rattle.program_calls.specs.RoundCauses.{AreFull, is_since}
 use Rattle.program_calls.proofs.KeptFiles.{item_at}
 use Rattle.program_calls.proofs.KeptLogged.{LoggedIn, logged_more, logged_turned}
+use Rattle.program_calls.proofs.KeptOver.{ClosesOf, below_length, here_between, log_of_parts}
 use Rattle.program_calls.proofs.KeptParts.{commits_all}
 use Rattle.program_calls.proofs.KeptRounds.{advances_later}
 use Rattle.program_calls.proofs.RoundCommits.{of_round}
@@ -49,6 +57,15 @@ pub record LongSoFar (decls : List Decl) (s : State) (ordered : List Entry) (r :
 -- the lines of two lists are those of both
 lines_both : (a b : List Commit) → length (lines_bytes (a ++ b)) ≡ length (lines_bytes a) + length (lines_bytes b)
 lines_both a b = ap length (flat_map-append line_bytes a b) ∙ length-append (lines_bytes a) (lines_bytes b)
+
+-- what counts by a log's mark
+mark_counts : (logs : List LogState) (w size : ℕ) (log : LogState)
+    → slice_get (map (λ (m : Mark). m.length) (logs_marks logs)) w ≡ Some size → slice_get logs w ≡ Some log
+    → size ≡ log.mark.length
+mark_counts [] w size log at there = absurd cc
+mark_counts (l ∷ logs) zero size log at there = sym (same_Some l.mark.length size at)
+    ∙ ap (λ (x : LogState). x.mark.length) (same_Some l log there)
+mark_counts (l ∷ logs) (suc w) size log at there = mark_counts logs w size log at there
 
 -- an empty log has no bytes
 pub fresh_end : (n w epoch : ℕ) (log : LogState) → slice_get (replicate n (fresh_log epoch)) w ≡ Some log
@@ -100,7 +117,7 @@ module _ {D : Type 0} {tells : D → Option (List ℕ)} {clock : D → ℕ} {ima
       (one.lines.logged_are index w under))
 
   -- the parts with those of the round
-  parts_then : LoggedIn decls s (ordered ++ run_ordered) long.since old.closed_at long.older long.gone here_then
+  pub parts_then : LoggedIn decls s (ordered ++ run_ordered) long.since old.closed_at long.older long.gone here_then
   parts_then =
       let of = of_round (one.lines.run index) in
       let later = all_weaker (λ (e : Entry). old.stands.clock.epoch ≤ e.number.epoch)
@@ -110,6 +127,11 @@ module _ {D : Type 0} {tells : D → Option (List ℕ)} {clock : D → ℕ} {ima
       (λ w under. subst (λ ds. AllByRecursion (IsLineOf ds) (one.logged w)) decls_are (one.lines.lines_are w under))
       (λ w under. commits_all (λ n. old.closed_at < n.epoch) decls w (state_after_all decls s ordered) run_ordered
       (one.logged w) (own w under) later) of.workers
+
+  -- what the round logged is of epochs from the clock's on
+  pub long_later : (w : ℕ) → w < 8 → AllByRecursion (λ c. old.stands.clock.epoch ≤ c.number.epoch) (one.logged w)
+  long_later w below = commits_all (λ n. old.stands.clock.epoch ≤ n.epoch) decls w (state_after_all decls s ordered)
+      run_ordered (one.logged w) (own w below) (of_round (one.lines.run index)).later
 
   -- before the swap each growing log file has the bytes of its lines
   long_before : (w : ℕ) (log : LogState) → w < 8 → slice_get leaves.logs w ≡ Some log
@@ -154,8 +176,31 @@ module _ {D : Type 0} {tells : D → Option (List ℕ)} {clock : D → ℕ} {ima
       (commits_all (λ n. n.epoch ≤ one.ran.printed.end.epoch) decls w (state_after_all decls s ordered) run_ordered
       (one.logged w) (own w below) (of_round run).earlier)
 
-  -- What is logged so far behind the round, where the clock doesn't stand before its last epoch.
-  pub long_more : one.ran.printed.end.epoch ≤ new.stands.clock.epoch → LongSoFar decls s (ordered ++ run_ordered) new
+  -- What a swap closes counts the lines of the log files that grew.
+  pub long_closes : (f : FilesAt) → f.files.closed_at ≡ old.closed_at → (made : List (List ℕ))
+      → ClosesOf (log_of_parts long.older long.gone here_then) f one.ran made new.counted
+  long_closes f at made is =
+      let many = leaves.stands.closed.workers in
+      let counted_is : new.counted ≡ map (λ (m : Mark). m.length) (logs_marks leaves.logs) =
+      leaves.files.counted ∙ ap (λ b. cond b (map (λ (m : Mark). m.length) (logs_marks leaves.logs))
+      (beside_at_end (beside_of old) one.ran.printed.answers).closed) is in
+      record {
+        workers = many;
+        each = λ w size there.
+            let below : w < 8 = (let within = below_length new.counted w size there in omega (arith, many, within)) in
+            let log = item_at leaves.logs w (omega (arith, eight, below)) in
+            mark_counts leaves.logs w size log.0 (ap (λ l. slice_get l w) (sym counted_is) ∙ there) log.1
+            ∙ leaves.marked is w log.0 log.1 ∙ long_before w log.0 below log.1
+            ∙ ap (λ cs. length (lines_bytes cs)) (sym (ap (λ n. filter (is_after n one.ran.printed.end.epoch)
+            (log_of_parts long.older long.gone here_then w)) at
+            ∙ here_between parts_then w below one.ran.printed.end.epoch (by_then w below)));
+      }
+
+  -- What is logged so far behind the round, where the clock doesn't stand before its last epoch: the same, in other
+  -- parts where the files were swapped.
+  pub long_more : one.ran.printed.end.epoch ≤ new.stands.clock.epoch
+      → (n : LongSoFar decls s (ordered ++ run_ordered) new)
+      × (log_of_parts long.older long.gone here_then ≡ log_of_parts n.older n.gone n.commits)
   long_more later = elim (cases_Bool (swaps one.ran)) [
     | inl is ↦
         let closed_at : new.closed_at ≡ one.ran.printed.end.epoch =
@@ -163,7 +208,7 @@ module _ {D : Type 0} {tells : D → Option (List ℕ)} {clock : D → ℕ} {ima
         let logs_are : new.logs ≡ map reset_log leaves.logs =
         leaves.files.logs_are ∙ ap (λ b. cond b (map reset_log leaves.logs) leaves.logs) is in
         let after : old.closed_at ≤ one.ran.printed.end.epoch =
-        (let past = stands.closed.before in let up = ends_later in omega (arith, past, up)) in
+        (let past = stands.closed.before in let up = ends_later in omega (arith, past, up)) in (
         record {
           since = old.closed_at;
           older = λ w. long.older w ++ long.gone w;
@@ -174,12 +219,15 @@ module _ {D : Type 0} {tells : D → Option (List ℕ)} {clock : D → ℕ} {ima
               (logged_turned parts_then one.ran.printed.end.epoch after by_then);
           by = λ w below. tt;
           here = λ w log below at. reset_end leaves.logs new.logs w log logs_are at;
-        }
+        },
+        fun_ext (λ w. ap (λ l. long.older w ++ (long.gone w ++ l)) (sym (append-nil (here_then w)))
+            ∙ sym (append_assoc (long.older w) (long.gone w) (here_then w ++ []))),
+      )
     | inr is ↦
         let closed_at : new.closed_at ≡ old.closed_at =
         leaves.files.closed_at ∙ ap (λ b. cond b one.ran.printed.end.epoch old.closed_at) is in
         let logs_are : new.logs ≡ leaves.logs =
-        leaves.files.logs_are ∙ ap (λ b. cond b (map reset_log leaves.logs) leaves.logs) is in
+        leaves.files.logs_are ∙ ap (λ b. cond b (map reset_log leaves.logs) leaves.logs) is in (
         record {
           since = long.since;
           older = long.older;
@@ -191,7 +239,9 @@ module _ {D : Type 0} {tells : D → Option (List ℕ)} {clock : D → ℕ} {ima
               (λ (c : Commit). c.number.epoch ≤ new.stands.clock.epoch) (λ c at. omega (arith, at, later))
               (here_then w) (by_then w below);
           here = λ w log below at. long_before w log below (ap (λ l. slice_get l w) (sym logs_are) ∙ at);
-        }
+        },
+        refl,
+      )
   ]
     where
       ends_later : old.stands.clock.epoch ≤ one.ran.printed.end.epoch

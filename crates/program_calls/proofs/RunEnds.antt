@@ -252,8 +252,9 @@ module _ {D : Type 0} (tells : D → Option Bytes) (clock : D → ℕ) (image_at
     last = so.over.last;
     rounds = files_from (at_now tells clock image_at faults snap slots tries script was now) script.decls r.stands.decls so.opening.state
         so.run.ordered snap (files_before so.opening.saved so.over.words) so.rans so.over.last so.same
+        (log_of_parts so.long.older so.long.gone so.long.commits) (λ w below. so.long.it.is_logged w below)
         (λ found told. let k = so.kept found told in log_of_parts k.older k.gone k.commits)
-        (λ found told w below. (so.kept found told).parts.it.is_logged w below) so.over.from so.over.says;
+        (λ found told w below. (so.kept found told).parts.it.is_logged w below) so.over.from so.over.shut so.over.says;
     pages = λ quiet some. subst (λ ws. KeepsPages (at_now tells clock image_at faults snap slots tries script was now) ws so.rans)
         (sym so.over.pages) pages;
   }

@@ -59,13 +59,15 @@ use Rattle.program_calls.specs.Vaults.{NoneFailed, Vaults, vaults_of}
 use Rattle.program_calls.proofs.RecordsKept.{begun_records}
 use Rattle.program_calls.proofs.Begins.{begins_with, may_begin, settled_stored}
 use Rattle.program_calls.specs.EndLaws.{goes_on_quiet}
-use Rattle.program_calls.proofs.KeptOver.{AllTell, OverFrom, behind_parts, files_from, files_then, log_of_parts, logged_later}
+use Rattle.program_calls.proofs.KeptOver.{AllOver, ClosesOf, OverFrom, TellsOf, all_behind, behind_parts, close_same}
+use Rattle.program_calls.proofs.KeptOver.{close_then, files_from, files_then, log_of_parts, logged_later}
 use Rattle.program_calls.proofs.KeptOver.{logged_over, own_logged}
-use Rattle.program_calls.proofs.KeptOver.{made_pages, never_damaged, over_push, swapped_parts, tell_push, tell_same, tell_then}
+use Rattle.program_calls.proofs.KeptOver.{made_pages, never_damaged, over_more, over_push, swapped_parts, tell_same, tell_then}
 use Rattle.program_calls.proofs.KeptOver.{tells_round}
 use Rattle.program_calls.proofs.KeptRounds.{KeptSoFar, advances_later, kept_begins, kept_more, save_up}
 use Rattle.program_calls.proofs.RoundCommits.{of_round}
-use Rattle.program_calls.proofs.LongLogs.{LongSoFar, fresh_end, long_begins, long_full, long_more}
+use Rattle.program_calls.proofs.LongLogs.{LongSoFar, fresh_end, long_begins, long_closes, long_full, long_later, long_more}
+use Rattle.program_calls.proofs.LongLogs.{parts_then}
 use Rattle.program_calls.proofs.CrashesBegun.{crashes_begin}
 use Rattle.program_calls.proofs.CrashesKept.{CrashesKept, KeptBefore}
 use Rattle.program_calls.proofs.CrashesMore.{crashes_more, ready_more}
@@ -119,7 +121,8 @@ module _ {D : Type 0} (tells : D → Option Bytes) (clock : D → ℕ) (image_at
 
   -- the rounds were over these log files and pages, up to those of the runtime
   pub record OverSoFar (decls : List Decl) (opening : Opening) (rans : List Ran) (ordered : List Entry) (r : RuntimeState)
-      (now : Vault D) (kept : KeepsIn decls opening rans ordered r now) : Type 0 where
+      (now : Vault D) (kept : KeepsIn decls opening rans ordered r now) (long : LongSoFar decls opening.state ordered r)
+      : Type 0 where
     pub words : List (List ℕ)
     pub begins : (found : Images) → AreTold tells (parts_of was) found → BeginsWith script.decls words found
     pub last : FilesAt
@@ -128,14 +131,17 @@ module _ {D : Type 0} (tells : D → Option Bytes) (clock : D → ℕ) (image_at
     pub pages : last.words ≡ words_of r.store.pages
     pub since : (found : Images) (told : AreTold tells (parts_of was) found) → last.since ≡ (kept found told).since
     pub says : (found : Images) (told : AreTold tells (parts_of was) found)
-        → (let k = kept found told in AllTell (log_of_parts k.older k.gone k.commits) snap
+        → (let k = kept found told in AllOver (TellsOf (log_of_parts k.older k.gone k.commits)) snap
         (files_before opening.saved words) rans last from)
+    pub shut : AllOver (ClosesOf (log_of_parts long.older long.gone long.commits)) snap
+        (files_before opening.saved words) rans last from
     pub first : opening.saved < r.stands.clock.epoch
     pub past : AllByRecursion (λ ran. ran.printed.end.epoch < r.stands.clock.epoch) rans
 
   -- the rounds were over these, up to one that may have ended the run
   pub record OverOneMore (opening : Opening) (rans : List Ran) (ran : Ran) (old new : RuntimeState) (before : Vault D)
-      (ordered : List Entry) (kept : KeepsAt opening rans ordered old before) (logged : ℕ → List Commit) : Type 0 where
+      (ordered : List Entry) (kept : KeepsAt opening rans ordered old before)
+      (long : LongSoFar old.stands.decls opening.state ordered old) (logged : ℕ → List Commit) : Type 0 where
     pub words : List (List ℕ)
     pub begins : (found : Images) → AreTold tells (parts_of was) found → BeginsWith script.decls words found
     pub last : FilesAt
@@ -146,13 +152,16 @@ module _ {D : Type 0} (tells : D → Option Bytes) (clock : D → ℕ) (image_at
     pub since : (found : Images) (told : AreTold tells (parts_of was) found) → last.since ≡ (kept found told).since
     pub closed : last.files.closed_at ≡ old.closed_at
     pub says : (found : Images) (told : AreTold tells (parts_of was) found)
-        → (let k = kept found told in AllTell (log_of_parts k.older k.gone (λ w. k.commits w ++ logged w)) snap
-        (files_before opening.saved words) (rans ++ ran ∷ []) (files_after last ran made new.counted) from)
+        → (let k = kept found told in AllOver (TellsOf (log_of_parts k.older k.gone (λ w. k.commits w ++ logged w)))
+        snap (files_before opening.saved words) (rans ++ ran ∷ []) (files_after last ran made new.counted) from)
+    pub shut : AllOver (ClosesOf (log_of_parts long.older long.gone (λ w. long.commits w ++ logged w))) snap
+        (files_before opening.saved words) (rans ++ ran ∷ []) (files_after last ran made new.counted) from
 
   -- all that is kept as the next round begins
   abbrev pub KeptNext : List Decl → Opening → List Ran → List Entry → RuntimeState → Vault D → Type 0
   KeptNext decls opening rans ordered r now = (k : KeepsIn decls opening rans ordered r now)
-      × OverSoFar decls opening rans ordered r now k × CrashesAt decls opening rans ordered r now k
+      × (long : LongSoFar decls opening.state ordered r) × OverSoFar decls opening rans ordered r now k long
+      × CrashesAt decls opening rans ordered r now k
 
   -- the runtime has the slots that were asked for, and so had the rounds
   abbrev IsSlotted : RuntimeState → List Ran → Type 0
@@ -178,8 +187,8 @@ module _ {D : Type 0} (tells : D → Option Bytes) (clock : D → ℕ) (image_at
     pub quiet : AreQuiet faults was now
     pub kept : KeepsAt opening rans run.ordered r now
     pub crashes : CrashesAt r.stands.decls opening rans run.ordered r now kept
-    pub over : OverSoFar r.stands.decls opening rans run.ordered r now kept
     pub long : LongSoFar r.stands.decls opening.state run.ordered r
+    pub over : OverSoFar r.stands.decls opening rans run.ordered r now kept long
     pub paged : (found : Images) → AreTold tells (parts_of was) found → count_of r.save.newest ≡ length r.store.pages
     pub history : ComeFrom r.stands.decls (printed_commits 0 rans script.rounds) r.stands.mine
     pub slotted : IsSlotted r rans
@@ -215,7 +224,6 @@ module _ {D : Type 0} (tells : D → Option Bytes) (clock : D → ℕ) (image_at
         → (ran.beside.pages ≤ count_of r.save.newest) × (ran.beside.pages ≤ length r.store.pages)
     pub untold : (damage : Device × ℕ) → ran.beside.damaged ≡ Some damage → (found : Images) → AreTold tells (parts_of was) found → ⊥
     pub full : AreFull script.decls opening.state run.ordered ran
-    pub long : ran.printed.end.epoch ≤ r.stands.clock.epoch → LongSoFar r.stands.decls opening.state run.ordered r
     pub history : ComeFromWords script.decls (printed_commits 0 (before ++ ran ∷ []) script.rounds)
     pub on_words : ComeFrom r.stands.decls (printed_commits 0 (before ++ ran ∷ []) script.rounds) r.stands.mine
     pub slotted : IsSlotted r (before ++ ran ∷ [])
@@ -227,7 +235,7 @@ module _ {D : Type 0} (tells : D → Option Bytes) (clock : D → ℕ) (image_at
       → r.stands.state ≡ state_after_all r.stands.decls so.opening.state so.run.ordered
       → Rises (so.run.ordered ++ (one.lines.run (length so.rans)).ordered)
       → EpochsNeverFall (so.run.ordered ++ (one.lines.run (length so.rans)).ordered)
-      → OverOneMore so.opening so.rans one.ran r s before so.run.ordered so.kept one.logged
+      → OverOneMore so.opening so.rans one.ran r s before so.run.ordered so.kept so.long one.logged
   over_one r s count before now round report so at one leaves state_is rises falls =
       let over = so.over in
       let m = made_pages leaves in
@@ -254,7 +262,7 @@ module _ {D : Type 0} (tells : D → Option Bytes) (clock : D → ℕ) (image_at
         closed = ap (λ (x : LogFiles). x.closed_at) over.files;
         says = λ found told.
             let k = so.kept found told in
-            tell_push (log_of_parts k.older k.gone (λ w. k.commits w ++ one.logged w)) snap first so.rans over.last one.ran m.made
+            over_more (TellsOf (log_of_parts k.older k.gone (λ w. k.commits w ++ one.logged w))) snap first so.rans over.last one.ran m.made
             s.counted over.from begins m.adds
             (tell_same (λ w. log_of_parts k.older k.gone k.commits w ++ one.logged w)
             (log_of_parts k.older k.gone (λ w. k.commits w ++ one.logged w)) snap first so.rans over.last over.from
@@ -264,6 +272,18 @@ module _ {D : Type 0} (tells : D → Option Bytes) (clock : D → ℕ) (image_at
             over.from over.first over.past (over.says found told)))
             (tells_round k so.stands refl state_is so.unended one leaves (length so.rans) rises falls over.last over.files over.pages
             (over.since found told) m.made m.of_snap);
+        shut =
+            let l = so.long in
+            over_more (ClosesOf (log_of_parts l.older l.gone (λ w. l.commits w ++ one.logged w))) snap first so.rans over.last
+            one.ran m.made s.counted over.from begins m.adds
+            (close_same (λ w. log_of_parts l.older l.gone l.commits w ++ one.logged w)
+            (log_of_parts l.older l.gone (λ w. l.commits w ++ one.logged w)) snap first so.rans over.last over.from
+            (behind_parts l.older l.gone l.commits one.logged)
+            (close_then (log_of_parts l.older l.gone l.commits) one.logged r.stands.clock.epoch
+            (long_later l so.stands refl state_is one leaves (length so.rans)) snap first so.rans over.last over.from
+            over.first over.past over.shut))
+            (long_closes l so.stands refl state_is one leaves (length so.rans) over.last
+            (ap (λ (x : LogFiles). x.closed_at) over.files) m.made);
       }
 
   -- and what is kept behind it, where the run goes on
@@ -283,8 +303,11 @@ module _ {D : Type 0} (tells : D → Option Bytes) (clock : D → ℕ) (image_at
       let more = over_one r s count before now round report so at one leaves state_is rises falls in
       let next = λ (found : Images) (told : AreTold tells (parts_of was) found).
       kept_more (so.kept found told) so.stands refl state_is so.unended one leaves sound (length so.rans) rises falls in
-      let ran : Ran = one.ran in (
+      let ran : Ran = one.ran in
+      let ended = (all_behind (λ (ran : Ran). ran.printed.end.epoch < s.stands.clock.epoch) so.rans (one.ran ∷ []) past).0 in
+      let long = long_more so.long so.stands refl state_is one leaves (length so.rans) (omega (arith, ended)) in (
         λ found told. (next found told).0,
+        long.0,
         record {
           words = more.words;
           begins = more.begins;
@@ -303,6 +326,9 @@ module _ {D : Type 0} (tells : D → Option Bytes) (clock : D → ℕ) (image_at
               (files_before so.opening.saved more.words) (so.rans ++ ran ∷ []) (files_after more.last ran more.made s.counted) more.from
               (swapped_parts (swaps ran) k.older k.gone (λ w. k.commits w ++ one.logged w) n.0.older n.0.gone n.0.commits n.3 n.2 n.1)
               (more.says found told);
+          shut = close_same (log_of_parts so.long.older so.long.gone (λ w. so.long.commits w ++ one.logged w))
+              (log_of_parts long.0.older long.0.gone long.0.commits) snap (files_before so.opening.saved more.words)
+              (so.rans ++ ran ∷ []) (files_after more.last ran more.made s.counted) more.from long.1 more.shut;
           first = first;
           past = past;
         },
@@ -429,11 +455,15 @@ module _ {D : Type 0} (tells : D → Option Bytes) (clock : D → ℕ) (image_at
           last = files_after more.last one.ran more.made s.counted;
           rounds = files_from (at_now now) script.decls r.stands.decls so.opening.state pushed.0.ordered snap
               (files_before so.opening.saved more.words) (so.rans ++ one.ran ∷ []) (files_after more.last one.ran more.made s.counted) so.same
+              (log_of_parts so.long.older so.long.gone (λ w. so.long.commits w ++ one.logged w))
+              (λ w below. subst (λ l. AreLogged r.stands.decls w so.opening.state l
+              (log_of_parts so.long.older so.long.gone (λ w. so.long.commits w ++ one.logged w) w)) (sym all)
+              ((parts_then so.long so.stands refl state_is one leaves (length so.rans)).is_logged w below))
               (λ found told. let k = so.kept found told in log_of_parts k.older k.gone (λ w. k.commits w ++ one.logged w))
               (λ found told w below. subst (λ l. AreLogged r.stands.decls w so.opening.state l
               (let k = so.kept found told in log_of_parts k.older k.gone (λ w. k.commits w ++ one.logged w) w)) (sym all)
               ((logged_over (so.kept found told) so.stands refl state_is so.unended one leaves (length so.rans) rises falls).is_logged w below))
-              more.from more.says;
+              more.from more.shut more.says;
           pages = pages;
         };
         paged = λ durable up sound found told.
@@ -448,9 +478,6 @@ module _ {D : Type 0} (tells : D → Option Bytes) (clock : D → ℕ) (image_at
         untold = λ damage is found told. never_damaged (so.kept found told) so.stands refl state_is so.unended one leaves (length so.rans) rises falls damage is;
         full = subst (λ l. AreFull script.decls so.opening.state l one.ran) (sym all)
             (long_full so.long so.stands refl state_is one leaves (length so.rans) script.decls so.same);
-        long = λ later. subst (λ l. LongSoFar s.stands.decls so.opening.state l s) (sym all)
-            (subst (λ ds. LongSoFar ds so.opening.state (so.run.ordered ++ own.ordered) s) (sym one.lines.decls)
-            (long_more so.long so.stands refl state_is one leaves (length so.rans) later));
         history = (s.stands.decls, same, (s.stands.mine, on_words));
         on_words = on_words;
         slotted = slotted;
@@ -528,6 +555,7 @@ module _ {D : Type 0} (tells : D → Option Bytes) (clock : D → ℕ) (image_at
             pages = refl;
             since = λ found told. sym (kept found told).1;
             says = λ found told. tt;
+            shut = tt;
             first = omega arith;
             past = tt;
           };
@@ -602,9 +630,9 @@ module _ {D : Type 0} (tells : D → Option Bytes) (clock : D → ℕ) (image_at
           whole = so.whole;
           quiet = quiet_failed one.ran.beside.devices (goes_on_quiet one.ran goes) m.failed;
           kept = next.0;
-          crashes = next.2;
-          over = next.1;
-          long = m.long (omega (arith, joined_to));
+          crashes = next.3;
+          long = next.1;
+          over = next.2;
           paged = m.paged (ap is_some (one.lasts none)) (m.up_quiet (goes_on_quiet one.ran goes)) sound;
           history = m.on_words;
           slotted = m.slotted;

@@ -131,18 +131,25 @@ pub record AddsPages (ran : Ran) (made : List (List ℕ)) : Type 0 where
 -- ---- round by round
 
 module _ {D : Type 0} (v : Vaults D) (decls : List Decl) (s : State) (commits : List Entry) where
-  -- By what the workers logged of the run: what gleans come to, and the log files that a join closed count what was
-  -- logged since the swap before.
-  pub record TellsFiles (f : FilesAt) (ran : Ran) (made : List (List ℕ)) (counted : List ℕ) : Type 0 where
+  -- By what the workers logged of the run: what gleans come to.
+  pub record TellsFiles (f : FilesAt) (ran : Ran) (made : List (List ℕ)) : Type 0 where
     pub logged : ℕ → List Commit
     pub is_logged : AllLogged decls s commits logged
     pub gleans : GleansOf f ran made logged
-    pub closes : swaps ran ≡ true → AreLengthsOf logged f.files.closed_at ran.printed.end.epoch counted
 
-  -- What a round leaves, where the devices tell their bytes by what was logged.
+  -- By what the workers logged of the run: the log files that a join closed count what was logged since the swap
+  -- before.
+  pub record ClosesFiles (f : FilesAt) (ran : Ran) (counted : List ℕ) : Type 0 where
+    pub logged : ℕ → List Commit
+    pub is_logged : AllLogged decls s commits logged
+    pub lengths : AreLengthsOf logged f.files.closed_at ran.printed.end.epoch counted
+
+  -- What a round leaves: how much counts of what its join closed, whatever the devices tell; and what its gleans come
+  -- to, where they tell their bytes. So a glean that finds nothing is told over files too only where nothing counts.
   pub record LeavesFiles (f : FilesAt) (ran : Ran) (made : List (List ℕ)) (counted : List ℕ) : Type 0 where
     pub pages : AddsPages ran made
-    pub told : HoldsOf v (λ found. TellsFiles f ran made counted)
+    pub closes : swaps ran ≡ true → ClosesFiles f ran counted
+    pub told : HoldsOf v (λ found. TellsFiles f ran made)
 
   -- each round begins where the one before it left the files and the pages, up to where the last one left them
   abbrev pub FilesFrom : ℕ → FilesAt → List Ran → FilesAt → Type 0

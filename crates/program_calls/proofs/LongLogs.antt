@@ -209,39 +209,39 @@ module _ {D : Type 0} {tells : D → Option (List ℕ)} {clock : D → ℕ} {ima
         leaves.files.logs_are ∙ ap (λ b. cond b (map reset_log leaves.logs) leaves.logs) is in
         let after : old.closed_at ≤ one.ran.printed.end.epoch =
         (let past = stands.closed.before in let up = ends_later in omega (arith, past, up)) in (
-        record {
-          since = old.closed_at;
-          older = λ w. long.older w ++ long.gone w;
-          gone = here_then;
-          commits = λ w. [];
-          it = subst (λ e. LoggedIn decls s (ordered ++ run_ordered) old.closed_at e
-              (λ w. long.older w ++ long.gone w) here_then (λ w. [])) (sym closed_at)
-              (logged_turned parts_then one.ran.printed.end.epoch after by_then);
-          by = λ w below. tt;
-          here = λ w log below at. reset_end leaves.logs new.logs w log logs_are at;
-        },
-        fun_ext (λ w. ap (λ l. long.older w ++ (long.gone w ++ l)) (sym (append-nil (here_then w)))
-            ∙ sym (append_assoc (long.older w) (long.gone w) (here_then w ++ []))),
-      )
+          record {
+            since = old.closed_at;
+            older = λ w. long.older w ++ long.gone w;
+            gone = here_then;
+            commits = λ w. [];
+            it = subst (λ e. LoggedIn decls s (ordered ++ run_ordered) old.closed_at e
+                (λ w. long.older w ++ long.gone w) here_then (λ w. [])) (sym closed_at)
+                (logged_turned parts_then one.ran.printed.end.epoch after by_then);
+            by = λ w below. tt;
+            here = λ w log below at. reset_end leaves.logs new.logs w log logs_are at;
+          },
+          fun_ext (λ w. ap (λ l. long.older w ++ (long.gone w ++ l)) (sym (append-nil (here_then w)))
+              ∙ sym (append_assoc (long.older w) (long.gone w) (here_then w ++ []))),
+        )
     | inr is ↦
         let closed_at : new.closed_at ≡ old.closed_at =
         leaves.files.closed_at ∙ ap (λ b. cond b one.ran.printed.end.epoch old.closed_at) is in
         let logs_are : new.logs ≡ leaves.logs =
         leaves.files.logs_are ∙ ap (λ b. cond b (map reset_log leaves.logs) leaves.logs) is in (
-        record {
-          since = long.since;
-          older = long.older;
-          gone = long.gone;
-          commits = here_then;
-          it = subst (λ e. LoggedIn decls s (ordered ++ run_ordered) long.since e long.older long.gone here_then)
-              (sym closed_at) parts_then;
-          by = λ w below. all_weaker (λ (c : Commit). c.number.epoch ≤ one.ran.printed.end.epoch)
-              (λ (c : Commit). c.number.epoch ≤ new.stands.clock.epoch) (λ c at. omega (arith, at, later))
-              (here_then w) (by_then w below);
-          here = λ w log below at. long_before w log below (ap (λ l. slice_get l w) (sym logs_are) ∙ at);
-        },
-        refl,
-      )
+          record {
+            since = long.since;
+            older = long.older;
+            gone = long.gone;
+            commits = here_then;
+            it = subst (λ e. LoggedIn decls s (ordered ++ run_ordered) long.since e long.older long.gone here_then)
+                (sym closed_at) parts_then;
+            by = λ w below. all_weaker (λ (c : Commit). c.number.epoch ≤ one.ran.printed.end.epoch)
+                (λ (c : Commit). c.number.epoch ≤ new.stands.clock.epoch) (λ c at. omega (arith, at, later))
+                (here_then w) (by_then w below);
+            here = λ w log below at. long_before w log below (ap (λ l. slice_get l w) (sym logs_are) ∙ at);
+          },
+          refl,
+        )
   ]
     where
       ends_later : old.stands.clock.epoch ≤ one.ran.printed.end.epoch

@@ -19,8 +19,9 @@ use Rattle.serial_model.specs.declared.number.Number.{Number}
 use Rattle.serial_model.specs.declared.op.Op.{Op}
 use Rattle.serial_model.specs.declared.op.Op.TheVariants.{Read, Write, Remove, Add, Take, Scan}
 use Rattle.script_grammar.specs.Script.{Keeper, Line, Round, Worker, worker_lines}
-use Rattle.tx_script.specs.Conflicts.{AreMet, IsMet, IsOnTree, LinesMet, WorkersMet}
-use Rattle.tx_script.specs.Run.{CanRun, CanRunLine, InConflict, IsRun, NoNumber, NoRoom, NoSlot, Ran, TryRefusal}
+use Rattle.tx_script.specs.Conflicts.{AreMet, FillsSet, IsMet, IsOnTree, LinesMet, WorkersMet}
+use Rattle.tx_script.specs.Run.{CanRun, CanRunLine, FullSet, InConflict, IsRun, NoNumber, NoRoom, NoSlot, OfHolds}
+use Rattle.tx_script.specs.Run.{OfPointers, OfReads, OfWrites, Ran, TryRefusal}
 use Rattle.program_calls.specs.Beginning.{SameDecls}
 
 -- in another order they are the same
@@ -126,11 +127,17 @@ module _ (ds es : List Decl) (same : SameDecls ds es) where
   same_on_tree (Take k v) is = same_test (is_tree_of k.storage) ∙ is
   same_on_tree (Scan storage low high) is = same_test (is_tree_of storage) ∙ is
 
+  same_fill : (ops : List Op) (set : FullSet) → FillsSet es ops set → FillsSet ds ops set
+  same_fill ops OfReads fills = (fills.0, fills.1, fills.2, fills.3, same_test (is_tree_of fills.0) ∙ fills.4)
+  same_fill ops OfWrites fills = fills
+  same_fill ops OfPointers fills = (fills.0, fills.1, fills.2, fills.3, same_test (is_tree_of fills.0) ∙ fills.4)
+  same_fill ops OfHolds fills = (fills.0, fills.1, same_on_tree fills.0 fills.2)
+
   same_try : (lines : List (List (List Op))) (dropped : Type 0) (worker : ℕ) (ops : List Op) (refusal : TryRefusal)
       → IsMet es lines dropped worker ops refusal → IsMet ds lines dropped worker ops refusal
   same_try lines dropped worker ops (InConflict met) m = m
   same_try lines dropped worker ops (NoSlot words) m = m
-  same_try lines dropped worker ops (NoRoom set) m = (m.0, m.1, same_on_tree m.0 m.2)
+  same_try lines dropped worker ops (NoRoom set) m = same_fill ops set m
   same_try lines dropped worker ops (NoNumber clock) m = tt
 
   same_tries : (lines : List (List (List Op))) (dropped : Type 0) (worker : ℕ) (mine : List (List Op))

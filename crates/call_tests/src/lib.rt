@@ -3,7 +3,7 @@
 //!
 //! `calls` has tables of them, with rows of `brief`, `kept_runs`, `gleans`, `listings`, `slots`, `drops` and `trees`, which
 //! have long runs too. Those of `brief` and `slots` run lines of eight workers at once, whose sums are known. What eight
-//! workers' lines come to otherwise, `bench/random_runs.py` and `bench/large_tree.py` replay by a serial model of their
+//! workers' lines come to otherwise, `tests/random_runs.py` and `tests/large_tree.py` replay by a serial model of their
 //! own, from the text of the real program.
 //!
 //! They stand in a crate above those that they test, because a crate with tests is proved a second time; `program_tests`

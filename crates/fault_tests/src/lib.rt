@@ -7,7 +7,7 @@
 //! with rows of `failing_gleans`, for snapshots, and `brief_runs`, in brief; `failing_calls` the same for each object
 //! in turn, streams too; `failing_workers` that others go on. `stops` stops a device at each of its calls, and runs on.
 //! `damage` has changed bytes. Stops of all devices at once, at any moment and beside lines that run, are tried on the
-//! real program by `bench/stop_images.py` and `bench/kill.py`.
+//! real program by `tests/stop_images.py` and `tests/kill.py`.
 //!
 //! They stand in a crate above those that they test, because a crate with tests is proved a second time. All of it is
 //! for tests alone: without them the crate is empty.
